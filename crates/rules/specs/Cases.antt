@@ -1,0 +1,3 @@
+-- Tables of cases, computed by the prover: a definition that is misread fails here.
+pub mod Files
+pub mod Document01

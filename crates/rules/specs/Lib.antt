@@ -1,0 +1,3 @@
+pub mod Rules
+pub mod Cases
+pub mod Theorems

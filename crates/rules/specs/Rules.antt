@@ -1,0 +1,14 @@
+-- Document 01 as definitions: what a reader has to believe. The order is that of the document.
+pub mod Operators
+pub mod Expressions
+pub mod Instructions
+pub mod Plain
+pub mod Mispredicting
+pub mod Loop
+pub mod Runs
+pub mod Answers
+pub mod JobFile
+pub mod Calls
+pub mod Pairs
+pub mod Strike
+pub mod Listing

@@ -1,0 +1,68 @@
+-- The numbers and words of document 01 for each case of an answer.
+-- Assumes nothing.
+use mathlib.Core.List.{List, [], _∷_}
+use Prim.Native.Nat.{ℕ}
+use Prim.Native.String.{String, [] as none, _∷_ as _then_}
+use Prim.Native.Char.{code}
+use Rattle.rules.specs.declared.Stop.{Stop}
+use Rattle.rules.specs.declared.Stop.the-variants.{Finished, Spent, TraceFull}
+use Rattle.rules.specs.declared.Verdict.{Verdict}
+use Rattle.rules.specs.declared.Verdict.the-variants as verdicts
+use Rattle.rules.specs.declared.PairWord.{PairWord}
+use Rattle.rules.specs.declared.PairWord.the-variants as pairs
+use Rattle.rules.specs.declared.Refusal.{Refusal}
+use Rattle.rules.specs.declared.Refusal.the-variants as refusals
+
+-- the bytes of a text
+unfoldable pub text : String → List ℕ
+text none = []
+text (c then s) = code c ∷ text s
+
+abbrev pub stopNumber : Stop → ℕ
+stopNumber Finished = 0
+stopNumber Spent = 1
+stopNumber TraceFull = 2
+
+abbrev pub stopWord : Stop → List ℕ
+stopWord Finished = text "finished"
+stopWord Spent = text "spent"
+stopWord TraceFull = text "trace full"
+
+abbrev pub verdictNumber : Verdict → ℕ
+verdictNumber verdicts.Undecided = 0
+verdictNumber verdicts.Clean = 1
+verdictNumber verdicts.Speculative = 2
+verdictNumber verdicts.Plain = 3
+
+abbrev pub verdictWord : Verdict → List ℕ
+verdictWord verdicts.Undecided = text "undecided"
+verdictWord verdicts.Clean = text "clean"
+verdictWord verdicts.Speculative = text "speculative"
+verdictWord verdicts.Plain = text "plain"
+
+abbrev pub pairNumber : PairWord → ℕ
+pairNumber pairs.NotComparable = 0
+pairNumber pairs.Undecided = 1
+pairNumber pairs.PlainDiffers = 2
+pairNumber pairs.LeakShown = 3
+pairNumber pairs.Equal = 4
+
+abbrev pub pairText : PairWord → List ℕ
+pairText pairs.NotComparable = text "not comparable"
+pairText pairs.Undecided = text "undecided"
+pairText pairs.PlainDiffers = text "plain differs"
+pairText pairs.LeakShown = text "leak shown"
+pairText pairs.Equal = text "equal"
+
+-- the table of refusals, in its order
+abbrev pub refusalNumber : Refusal → ℕ
+refusalNumber refusals.Length = 1
+refusalNumber refusals.Trailer = 2
+refusalNumber refusals.Offsets = 3
+refusalNumber refusals.Encoding = 4
+refusalNumber refusals.Postfix = 5
+refusalNumber refusals.BranchLabel = 6
+refusalNumber refusals.Surplus = 7
+refusalNumber refusals.PublicList = 8
+refusalNumber refusals.SecondState = 9
+refusalNumber refusals.Areas = 10

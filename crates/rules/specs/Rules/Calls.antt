@@ -1,0 +1,114 @@
+-- What a run and a plain run return, and what they leave in every word that they are lent.
+-- Assumes nothing.
+use mathlib.Core.Bool.{Bool, true, false, _&&_, cond}
+use mathlib.Core.List.{List, [], _∷_, _++_}
+use Prim.Native.Nat.{ℕ, _/_}
+use lib.Dec.{leb}
+use lib.ListN.{length, drop, replicate}
+use Rattle.location.specs.Sets.{empty}
+use Rattle.rules.specs.declared.Refusal.{Refusal}
+use Rattle.rules.specs.declared.Refusal.the-variants as refusals
+use Rattle.rules.specs.declared.Counts.{Counts}
+use Rattle.rules.specs.declared.RunOutcome.the-variants as runs
+use Rattle.rules.specs.declared.RunAnswer.{RunAnswer}
+use Rattle.rules.specs.declared.PlainOutcome.the-variants as plains
+use Rattle.rules.specs.declared.PlainAnswer.{PlainAnswer}
+use Rattle.rules.specs.Rules.Instructions.{Observation, start, rollback, pc, loaded, stored}
+use Rattle.rules.specs.Rules.Plain.{values}
+use Rattle.rules.specs.Rules.Runs.{Job, Result, mispredictingRun, plainRun, verdict}
+use Rattle.rules.specs.Rules.JobFile.{Parsed, accepted, rejected, parse}
+
+-- "two an observation (0 start, 1 rollback, 2 pc, 3 load, 4 store; then the value)"
+abbrev pub observationWords : Observation → List ℕ
+observationWords (start i) = 0 ∷ i ∷ []
+observationWords (rollback i) = 1 ∷ i ∷ []
+observationWords (pc p) = 2 ∷ p ∷ []
+observationWords (loaded a) = 3 ∷ a ∷ []
+observationWords (stored a) = 4 ∷ a ∷ []
+
+unfoldable pub traceWords : List Observation → List ℕ
+traceWords [] = []
+traceWords (o ∷ os) = observationWords o ++ traceWords os
+
+-- "A trace area of 64-bit words, two an observation, an odd last word untouched; an end area of 16 + m words; a working area of
+-- 4,096 words."
+pub record Areas : Type 0 where
+  pub trace : List ℕ
+  pub end : List ℕ
+  pub work : List ℕ
+
+-- how many observations an area has room for
+unfoldable pub room : List ℕ → ℕ
+room area = length area / 2
+
+abbrev pub workingWords : ℕ
+workingWords = 4096
+
+-- "working or end area too short"
+unfoldable pub longEnough : Job → Areas → Bool
+longEnough job a = leb workingWords (length (a .work)) && leb (length (job .init)) (length (a .end))
+
+-- an area with these words from the front: "All other words keep their contents."
+unfoldable pub written : List ℕ → List ℕ → List ℕ
+written ws area = ws ++ drop (length ws) area
+
+-- "After it, written observations stand from the front, the end area holds registers then cells as they are at that moment, and
+-- the 4,096 working words are 0."
+unfoldable pub areasAfter : Result → Areas → Areas
+areasAfter r a = record {
+  trace = written (traceWords (r .log .trace)) (a .trace);
+  end = written (values (r .last .state)) (a .end);
+  work = written (replicate workingWords 0) (a .work);
+}
+
+-- an answer with the areas after the call
+pub record Called (A : Type 0) : Type 0 where
+  pub answer : A
+  pub areas : Areas
+
+-- ---- a run
+unfoldable pub counts : Result → Counts
+counts r = record { stop = r .stop; observations = length (r .log .trace); steps = r .log .steps; rollbacks = r .log .rollbacks }
+
+-- "A run returns its stop, observation count, steps, rollbacks, D, plain set and verdict."
+unfoldable pub runReport : Job → Result → RunAnswer
+runReport job r = record { outcome = runs.Ran (counts r) (verdict job r); depends = r .log .full; plain = r .log .plain }
+
+-- "number only"
+unfoldable pub runRefused : Refusal → RunAnswer
+runRefused n = record { outcome = runs.Refused n; depends = empty; plain = empty }
+
+unfoldable pub runParsed : Parsed → Areas → Called RunAnswer
+runParsed (rejected n) a = record { answer = runRefused n; areas = a }
+runParsed (accepted job) a =
+    let r = mispredictingRun job (room (a .trace)) in
+    elim (longEnough job a) [
+      | false ↦ record { answer = runRefused refusals.Areas; areas = a }
+      | true ↦ record { answer = runReport job r; areas = areasAfter r a }
+    ]
+
+unfoldable pub runCall : List ℕ → Areas → Called RunAnswer
+runCall file a = runParsed (parse file) a
+
+-- ---- a plain run: "lent a run's areas, counts against b and stops in the same way, and returns its stop, observation count,
+-- steps and plain set"
+unfoldable pub plainReport : Result → PlainAnswer
+plainReport r = record {
+  outcome = plains.Ran (record { stop = r .stop; observations = length (r .log .trace); steps = r .log .steps });
+  plain = r .log .plain;
+}
+
+unfoldable pub plainRefused : Refusal → PlainAnswer
+plainRefused n = record { outcome = plains.Refused n; plain = empty }
+
+unfoldable pub plainParsed : Parsed → Areas → Called PlainAnswer
+plainParsed (rejected n) a = record { answer = plainRefused n; areas = a }
+plainParsed (accepted job) a =
+    let r = plainRun job (room (a .trace)) in
+    elim (longEnough job a) [
+      | false ↦ record { answer = plainRefused refusals.Areas; areas = a }
+      | true ↦ record { answer = plainReport r; areas = areasAfter r a }
+    ]
+
+unfoldable pub plainCall : List ℕ → Areas → Called PlainAnswer
+plainCall file a = plainParsed (parse file) a

@@ -1,0 +1,81 @@
+-- The printed run, as bytes.
+-- Assumes nothing.
+use mathlib.Core.Bool.{Bool, true, false, cond}
+use mathlib.Core.List.{List, [], _∷_, _++_}
+use Prim.Native.Nat.{ℕ, zero, suc, _+_, _-_, _/_, _%_}
+use lib.Dec.{eqb, ltb}
+use Rattle.location.specs.declared.LocationSet.{LocationSet}
+use Rattle.location.specs.Sets.{registers, limit, member}
+use Rattle.rules.specs.Rules.Instructions.{Observation, start, rollback, pc, loaded, stored}
+use Rattle.rules.specs.Rules.Plain.{end}
+use Rattle.rules.specs.Rules.Runs.{Job, Result, mispredictingRun, verdict}
+use Rattle.rules.specs.Rules.Answers.{text, stopWord, verdictWord, refusalNumber}
+use Rattle.rules.specs.Rules.JobFile.{Parsed, accepted, rejected, parse}
+
+-- the decimal digits of a number, before other bytes; a word of 64 bits has at most 20
+unfoldable pub digits : ℕ → ℕ → List ℕ → List ℕ
+digits zero n rest = rest
+digits (suc k) n rest = cond (ltb n 10) ((48 + n) ∷ rest) (digits k (n / 10) ((48 + n % 10) ∷ rest))
+
+unfoldable pub decimal : ℕ → List ℕ
+decimal n = digits 20 n []
+
+-- a line of a word and what follows it
+unfoldable pub line : List ℕ → List ℕ → List ℕ
+line word rest = word ++ rest ++ (10 ∷ [])
+
+unfoldable pub numberLine : List ℕ → ℕ → List ℕ
+numberLine word n = line word (32 ∷ decimal n)
+
+-- "END as "end"": only a place is END
+unfoldable pub placeText : ℕ → ℕ → List ℕ
+placeText n p = cond (eqb p n) (text "end") (decimal p)
+
+-- "Observations first, decimal": of a program with n instructions
+unfoldable pub observationLine : ℕ → Observation → List ℕ
+observationLine n (start i) = numberLine (text "start") i
+observationLine n (rollback i) = numberLine (text "rollback") i
+observationLine n (pc p) = line (text "pc") (32 ∷ placeText n p)
+observationLine n (loaded a) = numberLine (text "load") a
+observationLine n (stored a) = numberLine (text "store") a
+
+unfoldable pub traceLines : ℕ → List Observation → List ℕ
+traceLines n [] = []
+traceLines n (o ∷ os) = observationLine n o ++ traceLines n os
+
+-- "r register, m cell"
+unfoldable pub locationText : ℕ → List ℕ
+locationText l = cond (ltb l registers) (text " r" ++ decimal l) (text " m" ++ decimal (l - registers))
+
+-- "ascending": the members of a set among k locations from l on
+unfoldable pub members : LocationSet → ℕ → ℕ → List ℕ
+members s l zero = []
+members s l (suc k) = cond (member s l) (locationText l) [] ++ members s (l + 1) k
+
+-- "the word alone if empty"
+unfoldable pub setLine : List ℕ → LocationSet → List ℕ
+setLine word s = line word (members s 0 limit)
+
+-- "then the stop, counts, D, plain set, verdict"
+unfoldable pub summary : Job → Result → List ℕ
+summary job r =
+    line (text "stop ") (stopWord (r .stop))
+    ++ numberLine (text "steps") (r .log .steps)
+    ++ numberLine (text "rollbacks") (r .log .rollbacks)
+    ++ setLine (text "depends") (r .log .full)
+    ++ setLine (text "plain") (r .log .plain)
+    ++ line (text "verdict ") (verdictWord (verdict job r))
+
+-- "lends 512 observations"
+abbrev pub printedRoom : ℕ
+printedRoom = 512
+
+-- "A refusal prints "refused" and its number alone."
+unfoldable pub listingOf : Parsed → List ℕ
+listingOf (rejected r) = numberLine (text "refused") (refusalNumber r)
+listingOf (accepted job) =
+    let r = mispredictingRun job printedRoom in
+    traceLines (end (job .code)) (r .log .trace) ++ summary job r
+
+unfoldable pub listing : List ℕ → List ℕ
+listing file = listingOf (parse file)

@@ -1,0 +1,111 @@
+-- One step of the mispredicting run, after document 01's three rules, and one step of the plain run.
+-- Assumes nothing.
+use mathlib.Core.Bool.{Bool, true, false, _||_, cond}
+use mathlib.Core.List.{List, [], _∷_}
+use Prim.Native.Nat.{ℕ, zero, suc, _+_, _-_}
+use lib.Dec.{eqb, leb}
+use lib.ListN.{getD}
+use Rattle.location.specs.declared.LocationSet.{LocationSet}
+use Rattle.location.specs.Sets.{registerLocation, empty}
+use Rattle.rules.specs.Rules.Instructions.{Instr, skip, assign, load, store, jmp, beqz, cassign, spbarr, kind, Observation, start, rollback, pc}
+use Rattle.rules.specs.Rules.Plain.{State, at, Code, end, fetch, exec, branchTo}
+
+-- "a stack of open branches, each with its id, saved registers and memory, true target and remaining window"
+pub record Branch : Type 0 where
+  pub id : ℕ
+  pub saved : State
+  pub target : ℕ
+  pub window : ℕ
+
+-- `branches` are the open ones, the top first; `opened` counts all that were opened.
+pub record Machine : Type 0 where
+  pub state : State
+  pub place : ℕ
+  pub branches : List Branch
+  pub opened : ℕ
+
+-- the machine after a step, its observations, the set of what is observed, and 1 for a rollback
+pub record Step : Type 0 where
+  pub next : Machine
+  pub obs : List Observation
+  pub seen : LocationSet
+  pub back : ℕ
+
+-- "Lowering takes the kind's entry in a constant table of eight window costs, down to 0 at least"; "spbarr sets it to 0".
+-- This is the one place where a window is lowered.
+unfoldable pub remaining : Code → Instr → ℕ → ℕ
+remaining code i v = cond (eqb (kind i) 7) 0 (v - getD (code .costs) (kind i) 0)
+
+abbrev pub lowered : Code → Instr → Branch → Branch
+lowered code i b = record { id = b .id; saved = b .saved; target = b .target; window = remaining code i (b .window) }
+
+-- "Only the top changes."
+unfoldable pub lower : Code → Instr → List Branch → List Branch
+lower code i [] = []
+lower code i (b ∷ bs) = lowered code i b ∷ bs
+
+-- Rule 3: "Any other instruction: as in the plain run; the top's window is lowered". With nothing open it is the plain step.
+unfoldable pub ordinary : Code → Machine → Instr → Step
+ordinary code M i =
+    let x = exec code (M .state) (M .place) i in
+    record {
+      next = record { state = x .state; place = x .place; branches = lower code i (M .branches); opened = M .opened };
+      obs = x .obs;
+      seen = x .seen;
+      back = 0;
+    }
+
+-- "With nothing open its window is w. Otherwise the old top's window v is lowered first and the new window is what remains."
+unfoldable pub newWindow : Code → List Branch → ℕ
+newWindow code [] = code .window
+newWindow code (b ∷ bs) = b .window
+
+-- Rule 2: "open a branch whose id is the count of branches opened before. Go to the wrong place."
+unfoldable pub opening : Code → Machine → ℕ → ℕ → Step
+opening code M r l =
+    let t = at (M .state) (registerLocation r) in
+    let next = suc (M .place) in
+    let bs = lower code (beqz r l) (M .branches) in
+    let b : Branch = record { id = M .opened; saved = M .state; target = branchTo t l next; window = newWindow code bs } in
+    record {
+      next = record { state = M .state; place = branchTo t next l; branches = b ∷ bs; opened = suc (M .opened) };
+      obs = start (M .opened) ∷ pc (branchTo t next l) ∷ [];
+      seen = t .deps;
+      back = 0;
+    }
+
+-- rules 2 and 3
+unfoldable pub forward : Code → Machine → Instr → Step
+forward code M skip = ordinary code M skip
+forward code M (assign r e) = ordinary code M (assign r e)
+forward code M (load r e) = ordinary code M (load r e)
+forward code M (store r e) = ordinary code M (store r e)
+forward code M (jmp e) = ordinary code M (jmp e)
+forward code M (beqz r l) = opening code M r l
+forward code M (cassign r c e) = ordinary code M (cassign r c e)
+forward code M spbarr = ordinary code M spbarr
+
+-- Rule 1: "restore the top's registers and memory, go to its true target, drop it." "Rollback restores sets too."
+unfoldable pub rolling : Machine → Branch → List Branch → Step
+rolling M b bs = record {
+  next = record { state = b .saved; place = b .target; branches = bs; opened = M .opened };
+  obs = rollback (b .id) ∷ pc (b .target) ∷ [];
+  seen = empty;
+  back = 1;
+}
+
+-- "Top window 0, or END with a branch open"
+unfoldable pub expired : Code → ℕ → Branch → Bool
+expired code p b = eqb (b .window) 0 || leb (end code) p
+
+unfoldable pub stepOn : Code → Machine → List Branch → Step
+stepOn code M [] = forward code M (fetch code (M .place))
+stepOn code M (b ∷ bs) = cond (expired code (M .place) b) (rolling M b bs) (forward code M (fetch code (M .place)))
+
+-- "One step, in this order"
+unfoldable pub step : Code → Machine → Step
+step code M = stepOn code M (M .branches)
+
+-- "The plain run follows the table"
+unfoldable pub plainStep : Code → Machine → Step
+plainStep code M = ordinary code M (fetch code (M .place))

@@ -1,0 +1,113 @@
+-- The check of a pair of states.
+-- Assumes nothing.
+use mathlib.Core.Bool.{Bool, true, false, not, _&&_, _||_, cond}
+use mathlib.Core.List.{List, [], _∷_}
+use Prim.Native.Nat.{ℕ, suc, _*_}
+use lib.Dec.{eqb, leb}
+use lib.ListN.{length, replicate}
+use Rattle.location.specs.declared.LocationSet.{LocationSet}
+use Rattle.location.specs.Sets.{member}
+use Rattle.rules.specs.declared.Stop.{Stop}
+use Rattle.rules.specs.declared.Stop.the-variants.{Finished, Spent, TraceFull}
+use Rattle.rules.specs.declared.PairWord.{PairWord}
+use Rattle.rules.specs.declared.PairWord.the-variants as pairs
+use Rattle.rules.specs.declared.Refusal.{Refusal}
+use Rattle.rules.specs.declared.Refusal.the-variants as refusals
+use Rattle.rules.specs.declared.PairAnswer.{PairAnswer}
+use Rattle.rules.specs.declared.PairAnswer.the-variants as answers
+use Rattle.rules.specs.Rules.Instructions.{Observation}
+use Rattle.rules.specs.Rules.Runs.{Job, Result, mispredictingRun, plainRun}
+use Rattle.rules.specs.Rules.JobFile.{Parsed, accepted, rejected, parse, wordsAt}
+use Rattle.rules.specs.Rules.Calls.{traceWords, room, workingWords, written, counts}
+
+-- the job with another state
+unfoldable pub withState : Job → List ℕ → Job
+withState job vs = record { code = job .code; init = vs; public = job .public; budget = job .budget }
+
+-- the two states hold the same word at each public location, counted from l
+unfoldable pub alikeFrom : LocationSet → ℕ → List ℕ → List ℕ → Bool
+alikeFrom public l [] ys = true
+alikeFrom public l (x ∷ xs) [] = true
+alikeFrom public l (x ∷ xs) (y ∷ ys) = (not (member public l) || eqb x y) && alikeFrom public (suc l) xs ys
+
+abbrev pub isFinished : Stop → Bool
+isFinished Finished = true
+isFinished Spent = false
+isFinished TraceFull = false
+
+unfoldable pub sameWords : List ℕ → List ℕ → Bool
+sameWords [] [] = true
+sameWords [] (y ∷ ys) = false
+sameWords (x ∷ xs) [] = false
+sameWords (x ∷ xs) (y ∷ ys) = eqb x y && sameWords xs ys
+
+-- two traces are the same where their words are
+unfoldable pub sameTrace : List Observation → List Observation → Bool
+sameTrace a b = sameWords (traceWords a) (traceWords b)
+
+-- "First that fits: not comparable (they differ at a public location), undecided (either run not finished), plain differs (plain
+-- traces differ), leak shown (full traces differ), equal."
+unfoldable pub pairWord : Job → List ℕ → ℕ → PairWord
+pairWord job vs k =
+    let r = mispredictingRun job k in
+    let r′ = mispredictingRun (withState job vs) k in
+    elim (alikeFrom (job .public) 0 (job .init) vs) [
+      | false ↦ pairs.NotComparable
+      | true ↦ elim (isFinished (r .stop) && isFinished (r′ .stop)) [
+        | false ↦ pairs.Undecided
+        | true ↦ elim (sameTrace (plainRun job k .log .trace) (plainRun (withState job vs) k .log .trace)) [
+          | false ↦ pairs.PlainDiffers
+          | true ↦ elim (sameTrace (r .log .trace) (r′ .log .trace)) [ true ↦ pairs.Equal | false ↦ pairs.LeakShown ]
+        ]
+      ]
+    ]
+
+-- "A pair has two trace areas of equal length and no end area"
+pub record PairAreas : Type 0 where
+  pub first : List ℕ
+  pub second : List ℕ
+  pub work : List ℕ
+
+pub record PairCalled : Type 0 where
+  pub answer : PairAnswer
+  pub areas : PairAreas
+
+-- "Both runs are made and both traces written in every one of these cases"; "all else is left as by a run"
+unfoldable pub pairAfter : Result → Result → PairAreas → PairAreas
+pairAfter r r′ a = record {
+  first = written (traceWords (r .log .trace)) (a .first);
+  second = written (traceWords (r′ .log .trace)) (a .second);
+  work = written (replicate workingWords 0) (a .work);
+}
+
+unfoldable pub pairRefused : Refusal → PairAreas → PairCalled
+pairRefused n a = record { answer = answers.Refused n; areas = a }
+
+-- "second state not 128 + 8m bytes"
+unfoldable pub secondFits : Job → List ℕ → Bool
+secondFits job second = eqb (length second) (8 * length (job .init))
+
+-- "working area too short, or a pair's trace areas unequal"
+unfoldable pub pairFits : PairAreas → Bool
+pairFits a = leb workingWords (length (a .work)) && eqb (length (a .first)) (length (a .second))
+
+unfoldable pub pairAccepted : Job → List ℕ → PairAreas → PairCalled
+pairAccepted job vs a =
+    let k = room (a .first) in
+    let r = mispredictingRun job k in
+    let r′ = mispredictingRun (withState job vs) k in
+    record { answer = answers.Compared (pairWord job vs k) (counts r) (counts r′); areas = pairAfter r r′ a }
+
+unfoldable pub pairParsed : Parsed → List ℕ → PairAreas → PairCalled
+pairParsed (rejected n) second a = pairRefused n a
+pairParsed (accepted job) second a =
+    elim (secondFits job second) [
+      | false ↦ pairRefused refusals.SecondState a
+      | true ↦ elim (pairFits a) [
+        | false ↦ pairRefused refusals.Areas a
+        | true ↦ pairAccepted job (wordsAt (length (job .init)) second 0) a
+      ]
+    ]
+
+unfoldable pub pairCall : List ℕ → List ℕ → PairAreas → PairCalled
+pairCall file second a = pairParsed (parse file) second a

@@ -1,0 +1,96 @@
+-- The plain run and the mispredicting run of a job, and the verdict.
+-- Assumes nothing.
+use mathlib.Core.Bool.{Bool, true, false, cond}
+use mathlib.Core.List.{List, [], _∷_, _++_}
+use Prim.Native.Nat.{ℕ, suc, _+_}
+use lib.Dec.{leb}
+use lib.ListN.{length}
+use Rattle.location.specs.declared.LocationSet.{LocationSet}
+use Rattle.location.specs.Sets.{empty, union, subset}
+use Rattle.rules.specs.declared.Stop.{Stop}
+use Rattle.rules.specs.declared.Stop.the-variants.{Finished, Spent, TraceFull}
+use Rattle.rules.specs.declared.Verdict.{Verdict}
+use Rattle.rules.specs.declared.Verdict.the-variants as verdicts
+use Rattle.rules.specs.Rules.Instructions.{Observation}
+use Rattle.rules.specs.Rules.Plain.{Code, end, ownFrom}
+use Rattle.rules.specs.Rules.Mispredicting.{Branch, Machine, Step, step, plainStep}
+use Rattle.rules.specs.Rules.Loop.{Hold, ifRoom, Ended, loop}
+
+-- What a run gathers: "A run's trace is the list of all its observations in order"; the steps made, the rollbacks among them,
+-- the full set D and the plain set.
+pub record Log : Type 0 where
+  pub trace : List Observation
+  pub steps : ℕ
+  pub rollbacks : ℕ
+  pub full : LocationSet
+  pub plain : LocationSet
+
+abbrev pub Result : Type 0
+Result = Ended Machine Log
+
+-- "the plain set gathers those observed with nothing open, and a branch opened with nothing open belongs to it"
+unfoldable pub gather : List Branch → LocationSet → LocationSet → LocationSet
+gather [] plain s = union plain s
+gather (b ∷ bs) plain s = plain
+
+-- "Each instruction carried out and each rollback is one step". "The full set D gathers the set of every observed address,
+-- jump value and branch register".
+unfoldable pub note : Machine → Step → Log → Log
+note M s g = record {
+  trace = g .trace ++ s .obs;
+  steps = suc (g .steps);
+  rollbacks = g .rollbacks + s .back;
+  full = union (g .full) (s .seen);
+  plain = gather (M .branches) (g .plain) (s .seen);
+}
+
+-- "Finished: END with nothing open."
+unfoldable pub overOn : Code → ℕ → List Branch → Bool
+overOn code p [] = leb (end code) p
+overOn code p (b ∷ bs) = false
+
+unfoldable pub over : Code → Machine → Bool
+over code M = overOn code (M .place) (M .branches)
+
+-- "else as "trace full" when the next step's observations don't all fit; that step is not made"
+unfoldable pub fits : ℕ → Step → Log → Bool
+fits room s g = leb (length (g .trace) + length (s .obs)) room
+
+unfoldable pub hold : (Machine → Step) → ℕ → Machine → Log → Hold
+hold f room M g = ifRoom (fits room (f M) g)
+
+-- A run by the step function f, of at most k steps more, with room for so many observations in all. "Otherwise the run stops
+-- as "spent" when b steps are made": the loop tries finished, then spent, then trace full.
+unfoldable pub run : (Machine → Step) → Code → ℕ → ℕ → Machine → Log → Result
+run f code room k M g = loop (over code) (hold f room) (λ (N : Machine). f N .next) (λ (N : Machine) (h : Log). note N (f N) h) k M g
+
+-- A job: what its steps are given, the words of its state by location, the public list and the budget.
+pub record Job : Type 0 where
+  pub code : Code
+  pub init : List ℕ
+  pub public : LocationSet
+  pub budget : ℕ
+
+-- "Execution starts at label 0."
+unfoldable pub first : Job → Machine
+first job = record { state = ownFrom 0 (job .init); place = 0; branches = []; opened = 0 }
+
+unfoldable pub blank : Log
+blank = record { trace = []; steps = 0; rollbacks = 0; full = empty; plain = empty }
+
+unfoldable pub mispredictingRun : Job → ℕ → Result
+mispredictingRun job room = run (step (job .code)) (job .code) room (job .budget) (first job) blank
+
+unfoldable pub plainRun : Job → ℕ → Result
+plainRun job room = run (plainStep (job .code)) (job .code) room (job .budget) (first job) blank
+
+-- "undecided if not finished; else clean if D lies within the public list; speculative if some location is in D but neither
+-- public nor in the plain set; else plain"
+unfoldable pub judge : LocationSet → Stop → LocationSet → LocationSet → Verdict
+judge public Spent full plain = verdicts.Undecided
+judge public TraceFull full plain = verdicts.Undecided
+judge public Finished full plain =
+    cond (subset full public) verdicts.Clean (cond (subset full (union public plain)) verdicts.Plain verdicts.Speculative)
+
+unfoldable pub verdict : Job → Result → Verdict
+verdict job r = judge (job .public) (r .stop) (r .log .full) (r .log .plain)

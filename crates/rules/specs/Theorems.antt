@@ -1,0 +1,3 @@
+-- What is proved of the definitions. Nothing here has to be believed.
+pub mod LoopLaws
+pub mod RunLaws

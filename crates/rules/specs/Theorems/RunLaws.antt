@@ -1,0 +1,137 @@
+-- The four ways a run of the machine goes on, the induction over a run, and what every run keeps: at most b steps, at most
+-- the room's observations, and D only grows and holds the plain set.
+-- Assumes nothing.
+use mathlib.Core.Path.{_≡_, refl, sym, ap, _∙_}
+use mathlib.Core.Bool.{Bool, true, false}
+use mathlib.Core.List.{List, [], _∷_}
+use mathlib.Core.Logic.{_≢_}
+use Prim.Native.Nat.{ℕ, zero, suc, _+_, _≤_}
+use native.Mathlib.Omega.{arith}
+use lib.ListN.{length, length-append}
+use borrow.Author.Tests.{leb-true}
+use Rattle.location.specs.declared.LocationSet.{LocationSet}
+use Rattle.location.specs.Sets.{empty, union}
+use Rattle.location.specs.SetLaws.{Within, within-refl, within-left, within-trans, within-union-mono}
+use Rattle.rules.specs.declared.Stop.{Stop}
+use Rattle.rules.specs.declared.Stop.the-variants.{Finished, Spent, TraceFull}
+use Rattle.rules.specs.Rules.Mispredicting.{Branch, Machine, Step, step, plainStep}
+use Rattle.rules.specs.Rules.Plain.{Code}
+use Rattle.rules.specs.Rules.Loop.{Hold, clear, held, ifRoom, Ended, ended, loop}
+use Rattle.rules.specs.Rules.Runs.{Log, Result, gather, note, over, fits, hold, run, Job, first, blank, mispredictingRun, plainRun}
+use Rattle.rules.specs.Theorems.LoopLaws.{loop-over, loop-spent, loop-held, loop-step, loop-ind}
+
+-- ---- what holds up a step
+pub hold-fits : (f : Machine → Step) (room : ℕ) (M : Machine) (g : Log) → fits room (f M) g ≡ true → hold f room M g ≡ clear
+unfolding hold
+hold-fits f room M g e = rw e
+
+pub hold-full : (f : Machine → Step) (room : ℕ) (M : Machine) (g : Log) → fits room (f M) g ≡ false → hold f room M g ≡ held TraceFull
+unfolding hold
+hold-full f room M g e = rw e
+
+clear≢held : (x : Stop) → clear ≢ held x
+clear≢held x e = let z : _≡_ {A = ℕ} 0 1 = cc in omega arith
+
+clear-fits : (b : Bool) → ifRoom b ≡ clear → b ≡ true
+clear-fits true e = refl
+clear-fits false e = absurd (clear≢held TraceFull (sym e))
+
+held-full : (b : Bool) (x : Stop) → ifRoom b ≡ held x → (b ≡ false) × (x ≡ TraceFull)
+held-full true x e = absurd (clear≢held x e)
+held-full false x e = (refl, cc)
+
+module _ (f : Machine → Step) (code : Code) (room : ℕ) where
+  pub run-over : (k : ℕ) (M : Machine) (g : Log) → over code M ≡ true → run f code room k M g ≡ ended Finished M g
+  unfolding run
+  run-over k M g e = loop-over (over code) (hold f room) (λ (N : Machine). f N .next) (λ (N : Machine) (h : Log). note N (f N) h) k M g e
+
+  pub run-spent : (M : Machine) (g : Log) → over code M ≡ false → run f code room zero M g ≡ ended Spent M g
+  unfolding run
+  run-spent M g e = loop-spent (over code) (hold f room) (λ (N : Machine). f N .next) (λ (N : Machine) (h : Log). note N (f N) h) M g e
+
+  pub run-full : (k : ℕ) (M : Machine) (g : Log) → over code M ≡ false → fits room (f M) g ≡ false
+      → run f code room (suc k) M g ≡ ended TraceFull M g
+  unfolding run
+  run-full k M g e h =
+      loop-held (over code) (hold f room) (λ (N : Machine). f N .next) (λ (N : Machine) (h : Log). note N (f N) h) k M g TraceFull e
+      (hold-full f room M g h)
+
+  pub run-step : (k : ℕ) (M : Machine) (g : Log) → over code M ≡ false → fits room (f M) g ≡ true
+      → run f code room (suc k) M g ≡ run f code room k (f M .next) (note M (f M) g)
+  unfolding run
+  run-step k M g e h =
+      loop-step (over code) (hold f room) (λ (N : Machine). f N .next) (λ (N : Machine) (h : Log). note N (f N) h) k M g e
+      (hold-fits f room M g h)
+
+  -- What holds at each way out, and is carried back over each step made, holds of a run.
+  module _
+      (P : ℕ → Machine → Log → Result → Type 0)
+      (at-over : (k : ℕ) (M : Machine) (g : Log) → over code M ≡ true → P k M g (ended Finished M g))
+      (at-spent : (M : Machine) (g : Log) → over code M ≡ false → P zero M g (ended Spent M g))
+      (at-full : (k : ℕ) (M : Machine) (g : Log) → over code M ≡ false → fits room (f M) g ≡ false → P (suc k) M g (ended TraceFull M g))
+      (at-step : (k : ℕ) (M : Machine) (g : Log) → over code M ≡ false → fits room (f M) g ≡ true
+      → P k (f M .next) (note M (f M) g) (run f code room k (f M .next) (note M (f M) g))
+      → P (suc k) M g (run f code room k (f M .next) (note M (f M) g))) where
+    pub run-ind : (k : ℕ) (M : Machine) (g : Log) → P k M g (run f code room k M g)
+    unfolding run hold
+    run-ind =
+        loop-ind (over code) (hold f room) (λ (N : Machine). f N .next) (λ (N : Machine) (h : Log). note N (f N) h) P at-over at-spent
+        (λ k M g x e q. let d = held-full (fits room (f M) g) x q in rw (d .1) (at-full k M g e (d .0)))
+        (λ k M g e q r. at-step k M g e (clear-fits (fits room (f M) g) q) r)
+
+  -- D only grows
+  pub full-grows : (k : ℕ) (M : Machine) (g : Log) → Within (g .full) (run f code room k M g .log .full)
+  unfolding ended note
+  full-grows =
+      run-ind (λ k M g r. Within (g .full) (r .log .full)) (λ k M g e. within-refl (g .full)) (λ M g e. within-refl (g .full))
+      (λ k M g e h. within-refl (g .full)) (λ k M g e h p. within-trans (within-left (g .full) (f M .seen)) p)
+
+  -- at most k steps are made
+  pub steps-bound : (k : ℕ) (M : Machine) (g : Log) → run f code room k M g .log .steps ≤ g .steps + k
+  unfolding ended note
+  steps-bound =
+      run-ind (λ k M g r. r .log .steps ≤ g .steps + k) (λ k M g e. omega arith) (λ M g e. omega arith)
+      (λ k M g e h. omega arith) (λ k M g e h p. omega arith)
+
+  -- the trace never outgrows its room
+  pub trace-bound : (k : ℕ) (M : Machine) (g : Log) → length (g .trace) ≤ room → length (run f code room k M g .log .trace) ≤ room
+  unfolding ended note fits
+  trace-bound =
+      run-ind (λ k M g r. length (g .trace) ≤ room → length (r .log .trace) ≤ room) (λ k M g e h. h) (λ M g e h. h)
+      (λ k M g e h p. p)
+      (λ k M g e h p q. p (rw (length-append (g .trace) (f M .obs)) (leb-true (length (g .trace) + length (f M .obs)) room h)))
+
+  plain-gathered : (bs : List Branch) (P F s : LocationSet) → Within P F → Within (gather bs P s) (union F s)
+  unfolding gather
+  plain-gathered [] P F s w = within-union-mono s w
+  plain-gathered (b ∷ bs) P F s w = within-trans w (within-left F s)
+
+  -- the plain set lies within D
+  pub plain-within : (k : ℕ) (M : Machine) (g : Log) → Within (g .plain) (g .full)
+      → Within (run f code room k M g .log .plain) (run f code room k M g .log .full)
+  unfolding ended note
+  plain-within =
+      run-ind (λ k M g r. Within (g .plain) (g .full) → Within (r .log .plain) (r .log .full)) (λ k M g e w. w) (λ M g e w. w)
+      (λ k M g e h w. w) (λ k M g e h p w. p (plain-gathered (M .branches) (g .plain) (g .full) (f M .seen) w))
+
+-- ---- of a job's mispredicting run
+module _ (job : Job) (room : ℕ) where
+  pub mispredicting-steps : mispredictingRun job room .log .steps ≤ job .budget
+  unfolding mispredictingRun blank
+  mispredicting-steps = let h = steps-bound (step (job .code)) (job .code) room (job .budget) (first job) blank in omega arith
+
+  pub mispredicting-trace : length (mispredictingRun job room .log .trace) ≤ room
+  unfolding mispredictingRun blank
+  mispredicting-trace = trace-bound (step (job .code)) (job .code) room (job .budget) (first job) blank (omega arith)
+
+  pub mispredicting-plain : Within (mispredictingRun job room .log .plain) (mispredictingRun job room .log .full)
+  unfolding mispredictingRun blank
+  mispredicting-plain = plain-within (step (job .code)) (job .code) room (job .budget) (first job) blank (within-refl empty)
+
+  pub plain-steps : plainRun job room .log .steps ≤ job .budget
+  unfolding plainRun blank
+  plain-steps = let h = steps-bound (plainStep (job .code)) (job .code) room (job .budget) (first job) blank in omega arith
+
+  pub plain-trace : length (plainRun job room .log .trace) ≤ room
+  unfolding plainRun blank
+  plain-trace = trace-bound (plainStep (job .code)) (job .code) room (job .budget) (first job) blank (omega arith)

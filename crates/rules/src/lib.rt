@@ -1,0 +1,101 @@
+// The types that the contracts of the checker show. What they mean is said in specs/Rules.
+use location::LocationSet;
+
+// A word with the set of locations that it rests on.
+pub struct Tagged {
+    pub value: u64,
+    pub deps: LocationSet,
+}
+
+// Why a run ended.
+pub enum Stop {
+    Finished,
+    Spent,
+    TraceFull,
+}
+
+pub enum Verdict {
+    Undecided,
+    Clean,
+    Speculative,
+    Plain,
+}
+
+// The word on a pair of states.
+pub enum PairWord {
+    NotComparable,
+    Undecided,
+    PlainDiffers,
+    LeakShown,
+    Equal,
+}
+
+// The causes of refusal, in the order in which they are tested.
+pub enum Refusal {
+    Length,
+    Trailer,
+    Offsets,
+    Encoding,
+    Postfix,
+    BranchLabel,
+    Surplus,
+    PublicList,
+    SecondState,
+    Areas,
+}
+
+// The numbers of a job file's trailer: the offsets of the state and of the public list, the counts of instructions and
+// cells, the window, the zero and the budget.
+pub struct Trailer {
+    pub state: usize,
+    pub list: usize,
+    pub count: usize,
+    pub cells: usize,
+    pub window: usize,
+    pub zero: usize,
+    pub budget: usize,
+}
+
+// What a mispredicting run counts.
+pub struct Counts {
+    pub stop: Stop,
+    pub observations: usize,
+    pub steps: usize,
+    pub rollbacks: usize,
+}
+
+// What a plain run counts.
+pub struct PlainCounts {
+    pub stop: Stop,
+    pub observations: usize,
+    pub steps: usize,
+}
+
+pub enum RunOutcome {
+    Refused(Refusal),
+    Ran(Counts, Verdict),
+}
+
+// The answer of a run: the two sets stand beside the outcome, and are empty where the job is refused.
+pub struct RunAnswer {
+    pub outcome: RunOutcome,
+    pub depends: LocationSet,
+    pub plain: LocationSet,
+}
+
+pub enum PlainOutcome {
+    Refused(Refusal),
+    Ran(PlainCounts),
+}
+
+// The answer of a plain run: the plain set is empty where the job is refused.
+pub struct PlainAnswer {
+    pub outcome: PlainOutcome,
+    pub plain: LocationSet,
+}
+
+// The answer on a pair: its word and what each of the two runs counts.
+pub enum PairAnswer {
+    Refused(Refusal),
+    Compared(PairWord, Counts, Counts),
+}
