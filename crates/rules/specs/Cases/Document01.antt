@@ -6,8 +6,7 @@ use Rattle.rules.specs.declared.Stop.the-variants.{Finished, Spent, Trac
 use Rattle.rules.specs.declared.Verdict.the-variants.{Undecided, Clean, Speculative, Plain}
 use Rattle.rules.specs.declared.PairWord.the-variants as pairs
 use Rattle.rules.specs.declared.PairAnswer.the-variants as answers
-use Rattle.rules.specs.Rules.Answers.{text}
-use Rattle.rules.specs.Cases.Files.{wordBytes, zeros, file, counted, ran, Row, run, pair, prints}
+use Rattle.rules.specs.Cases.Files.{wordBytes, zeros, file, lines, counted, ran, Row, run, pair, prints}
 
 -- 0 assign r2, r0 ult r1; 1 beqz r2, 4; 2 load r3, r0; 3 load r4, r3 add 2
 unfoldable pub printedProgram : List ℕ
@@ -58,18 +57,10 @@ r01m1 = 0 ∷ 1 ∷ 17 ∷ []
 -- the printed run, line by line
 unfoldable pub listing01 : List ℕ
 listing01 =
-    text "start 0" ++ (10 ∷ [])
-    ++ text "pc 2" ++ (10 ∷ [])
-    ++ text "load 1" ++ (10 ∷ [])
-    ++ text "load 3" ++ (10 ∷ [])
-    ++ text "rollback 0" ++ (10 ∷ [])
-    ++ text "pc end" ++ (10 ∷ [])
-    ++ text "stop finished" ++ (10 ∷ [])
-    ++ text "steps 5" ++ (10 ∷ [])
-    ++ text "rollbacks 1" ++ (10 ∷ [])
-    ++ text "depends r0 r1 m1" ++ (10 ∷ [])
-    ++ text "plain r0 r1" ++ (10 ∷ [])
-    ++ text "verdict speculative" ++ (10 ∷ [])
+    lines (
+    "start 0" ∷ "pc 2" ∷ "load 1" ∷ "load 3" ∷ "rollback 0" ∷ "pc end"
+    ∷ "stop finished" ∷ "steps 5" ∷ "rollbacks 1" ∷ "depends r0 r1 m1" ∷ "plain r0 r1" ∷ "verdict speculative" ∷ []
+    )
 
 unfoldable pub document01 : List Row
 document01 =
@@ -96,8 +87,8 @@ document01 =
     ∷ run (file barrierProgram 5 (state 1 1 1) public 10 100) 1024 (0 ∷ 0 ∷ 2 ∷ 2 ∷ 1 ∷ 0 ∷ 2 ∷ 5 ∷ []) (ran Finished 4 4 1 r01 r01 Clean)
     -- second state with cell 1 = 0: leak shown
     ∷ pair (job 1 10 100) (wordBytes (state 1 1 0)) 1024 whole (0 ∷ 0 ∷ 2 ∷ 2 ∷ 3 ∷ 1 ∷ 3 ∷ 2 ∷ 1 ∷ 0 ∷ 2 ∷ 4 ∷ [])
-      (answers.Compared pairs.LeakShown (counted Finished 6 5 1) (counted Finished 6 5 1))
+    (answers.Compared pairs.LeakShown (counted Finished 6 5 1) (counted Finished 6 5 1))
     -- nested, w 2: start 0, pc 1, start 1, pc 2, rollback 1, pc end, rollback 0, pc end; 5 steps
     ∷ run (file nestedProgram 3 (zeros 20) public 2 100) 1024
-      (0 ∷ 0 ∷ 2 ∷ 1 ∷ 0 ∷ 1 ∷ 2 ∷ 2 ∷ 1 ∷ 1 ∷ 2 ∷ 3 ∷ 1 ∷ 0 ∷ 2 ∷ 3 ∷ []) (ran Finished 8 5 2 r01 (0 ∷ []) Clean)
+    (0 ∷ 0 ∷ 2 ∷ 1 ∷ 0 ∷ 1 ∷ 2 ∷ 2 ∷ 1 ∷ 1 ∷ 2 ∷ 3 ∷ 1 ∷ 0 ∷ 2 ∷ 3 ∷ []) (ran Finished 8 5 2 r01 (0 ∷ []) Clean)
     ∷ []

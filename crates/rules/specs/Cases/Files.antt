@@ -14,6 +14,8 @@ use Rattle.rules.specs.declared.PairAnswer.{PairAnswer}
 use Rattle.rules.specs.declared.PlainOutcome.the-variants as plains
 use Rattle.rules.specs.declared.PlainAnswer.{PlainAnswer}
 use Rattle.rules.specs.declared.Tagged.{Tagged}
+use Prim.Native.String.{String}
+use Rattle.rules.specs.Rules.Answers.{text}
 use Rattle.rules.specs.Rules.Expressions.{tagged}
 use Rattle.rules.specs.Rules.Plain.{at}
 use Rattle.rules.specs.Rules.Runs.{mispredictingRun}
@@ -45,6 +47,11 @@ file prog n state public w b =
     let s = length prog in
     let m = length state - 16 in
     prog ++ wordBytes state ++ wordBytes public ++ trailerBytes s (s + 128 + 8 * m) n m w 0 b
+
+-- the bytes of some lines
+unfoldable pub lines : List String → List ℕ
+lines [] = []
+lines (l ∷ ls) = text l ++ (10 ∷ lines ls)
 
 -- ---- answers
 -- the set of some locations
