@@ -3,3 +3,5 @@ pub mod LoopLaws
 pub mod RunLaws
 pub mod StepLaws
 pub mod PlainRun
+pub mod Undo
+pub mod Bounds

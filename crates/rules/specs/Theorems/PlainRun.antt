@@ -47,7 +47,8 @@ record OpenLogs (i p : ℕ) (g q : Log) : Type 0 where
 -- The plain machine beside the mispredicting one: at the same state and place with nothing open; else at the state and place that
 -- the bottom branch goes back to, its last observation being the one that this rollback will make.
 data Simulates : Machine → Log → Machine → Log → Type 0 where
-  nothing-open : {σ : State} {p n n′ : ℕ} {g q : Log} → ClosedLogs g q → Simulates (machineWith σ p [] n) g (machineWith σ p [] n′) q
+  nothing-open : {σ : State} {p n n′ : ℕ} {g q : Log} → ClosedLogs g q
+      → Simulates (machineWith σ p [] n) g (machineWith σ p [] n′) q
   branch-open : {σ τ : State} {i p t n n′ : ℕ} {bs : List Branch} {g q : Log} → BottomIs i σ p bs → i < n → OpenLogs i p g q
       → Simulates (machineWith τ t bs n) g (machineWith σ p [] n′) q
 
@@ -94,7 +95,8 @@ module _ (code : Code) where
 
   -- ---- while a branch is open the plain machine waits
   -- the logs after a step whose observations are all struck out
-  open-logs : {i p : ℕ} {g q : Log} (M : Machine) (s : Step) → OpenLogs i p g q → gather (M .branches) (g .plain) (s .seen) ≡ g .plain
+  open-logs : {i p : ℕ} {g q : Log} (M : Machine) (s : Step) → OpenLogs i p g q
+      → gather (M .branches) (g .plain) (s .seen) ≡ g .plain
       → ((rest : List Observation) → strikeTo (s .obs ++ rest) i ≡ strikeTo rest i) → OpenLogs i p (note M s g) q
   unfolding note
   open-logs M s a e h = record {
@@ -133,7 +135,7 @@ module _ (code : Code) where
         → (let M = machineWith τ t bs n in Waits M g (machineWith σ p [] n′) q (forward code M x))
     open-forward =
         let M = machineWith τ t bs n in
-        forward-cases code M (λ x s. Waits M g (machineWith σ p [] n′) q s) open-ordinary open-opening
+        forward-cases code M (λ x s. Waits M g (machineWith σ p [] n′) q s) (λ x e. open-ordinary x) open-opening
 
   strikeTo-rollback : (i p : ℕ) (rest : List Observation) → strikeTo (rollback i ∷ pc p ∷ rest) i ≡ pc p ∷ strike rest
   unfolding strikeTo
@@ -154,13 +156,12 @@ module _ (code : Code) where
     }
 
     rolling-bottom : (v : ℕ)
-        → (let M = machineWith τ t (branchWith i σ p v ∷ []) n in Waits M g (machineWith σ p [] n′) q (rolling M (branchWith i σ p v) []))
+        → (let b = branchWith i σ p v in let M = machineWith τ t (b ∷ []) n in Waits M g (machineWith σ p [] n′) q (rolling M b []))
     unfolding rolling
     rolling-bottom v = nothing-open (rolled-logs v)
 
     rolling-above : (j v t′ : ℕ) (ρ : State) {bs : List Branch} → j ≢ i → BottomIs i σ p bs
-        → (let M = machineWith τ t (branchWith j ρ t′ v ∷ bs) n in
-        Waits M g (machineWith σ p [] n′) q (rolling M (branchWith j ρ t′ v) bs))
+        → (let b = branchWith j ρ t′ v in let M = machineWith τ t (b ∷ bs) n in Waits M g (machineWith σ p [] n′) q (rolling M b bs))
     unfolding rolling gather strikeTo
     rolling-above j v t′ ρ {bs} ne o =
         let M = machineWith τ t (branchWith j ρ t′ v ∷ bs) n in
@@ -186,7 +187,8 @@ module _ (code : Code) where
 
     opened-logs : (r l : ℕ)
         → (let M = machineWith σ p [] n in let N = machineWith σ p [] n′ in
-        OpenLogs n (branchTo (at σ (registerLocation r)) l (suc p)) (note M (opening code M r l) g) (note N (ordinary code N (beqz r l)) q))
+        OpenLogs n (branchTo (at σ (registerLocation r)) l (suc p)) (note M (opening code M r l) g)
+        (note N (ordinary code N (beqz r l)) q))
     unfolding note ordinary opening gather exec strike
     opened-logs r l = record {
       plain = ap (λ (s : LocationSet). union s (at σ (registerLocation r) .deps)) (a .plain);
@@ -203,7 +205,8 @@ module _ (code : Code) where
     closed-ordinary x = nothing-open (closed-logs x)
 
     closed-opening : (r l : ℕ)
-        → (let M = machineWith σ p [] n in let N = machineWith σ p [] n′ in let s = opening code M r l in let u = ordinary code N (beqz r l) in
+        → (let M = machineWith σ p [] n in let N = machineWith σ p [] n′ in
+        let s = opening code M r l in let u = ordinary code N (beqz r l) in
         Simulates (s .next) (note M s g) (u .next) (note N u q))
     unfolding ordinary opening lower exec
     closed-opening r l = let lt : n < suc n = omega arith in branch-open bottom lt (opened-logs r l)
@@ -214,7 +217,8 @@ module _ (code : Code) where
       simulates : (let N = machineWith σ p [] n′ in let u = ordinary code N x in
           Simulates (s .next) (note (machineWith σ p [] n) s g) (u .next) (note N u q))
 
-    fits-less : (room k k′ : ℕ) → k′ ≤ k → leb (length (g .trace) + k) room ≡ true → leb (length (q .trace) + k′) room ≡ true
+    fits-less : (room k k′ : ℕ) → k′ ≤ k → leb (length (g .trace) + k) room ≡ true
+        → leb (length (q .trace) + k′) room ≡ true
     fits-less room k k′ h e = le-leb (length (q .trace) + k′) room (omega (arith, leb-true (length (g .trace) + k) room e, a .shorter))
 
     beside-ordinary : (room : ℕ) (x : Instr) → fits room (ordinary code (machineWith σ p [] n) x) g ≡ true
@@ -230,7 +234,8 @@ module _ (code : Code) where
     closed-forward : (room : ℕ) (x : Instr) → fits room (forward code (machineWith σ p [] n) x) g ≡ true
         → Beside room x (forward code (machineWith σ p [] n) x)
     closed-forward room =
-        forward-cases code (machineWith σ p [] n) (λ x s. fits room s g ≡ true → Beside room x s) (beside-ordinary room) (beside-opening room)
+        forward-cases code (machineWith σ p [] n) (λ x s. fits room s g ≡ true → Beside room x s)
+        (λ x e. beside-ordinary room x) (beside-opening room)
 
   -- ---- one step: the plain machine waits, or makes a step of its own
   data Simulated (room : ℕ) (M : Machine) (g : Log) (N : Machine) (q : Log) : Type 0 where
@@ -239,8 +244,8 @@ module _ (code : Code) where
         → Simulates (step code M .next) (note M (step code M) g) (plainStep code N .next) (note N (plainStep code N) q)
         → Simulated room M g N q
 
-  simulated : (room : ℕ) {M N : Machine} {g q : Log} → over code M ≡ false → fits room (step code M) g ≡ true → Simulates M g N q
-      → Simulated room M g N q
+  simulated : (room : ℕ) {M N : Machine} {g q : Log} → over code M ≡ false → fits room (step code M) g ≡ true
+      → Simulates M g N q → Simulated room M g N q
   unfolding plainStep over overOn
   simulated room {g = g} e f (nothing-open {σ = σ} {p = p} {n = n} {n′ = n′} a) =
       let b = closed-forward σ p n n′ a room (fetch code p) (rw (step-empty code σ p n) at f) in

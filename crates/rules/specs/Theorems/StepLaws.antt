@@ -1,11 +1,14 @@
 -- The ways a step goes, as laws by cases: rollback, opening or ordinary. Proofs about steps cite these and do not open the step.
 -- Assumes nothing.
 use mathlib.Core.Path.{_≡_, refl}
-use mathlib.Core.Bool.{Bool, true, false, cond}
+use mathlib.Core.Bool.{Bool, true, false, cond, _||_, true≢false}
 use mathlib.Core.List.{List, [], _∷_}
-use Prim.Native.Nat.{ℕ}
-use Rattle.rules.specs.Rules.Instructions.{Instr, skip, assign, load, store, jmp, beqz, cassign, spbarr}
-use Rattle.rules.specs.Rules.Plain.{State, Code, fetch}
+use mathlib.Core.Logic.{_≢_}
+use Prim.Native.Nat.{ℕ, _<_}
+use lib.Dec.{eqb, leb}
+use borrow.Author.Tests.{eqb-false, leb-false}
+use Rattle.rules.specs.Rules.Instructions.{Instr, skip, assign, load, store, jmp, beqz, cassign, spbarr, kind}
+use Rattle.rules.specs.Rules.Plain.{State, Code, end, fetch}
 use Rattle.rules.specs.Rules.Mispredicting.{Branch, Machine, Step, ordinary, opening, forward, rolling, expired, stepOn, step}
 
 -- a machine and a branch by their fields
@@ -16,17 +19,33 @@ abbrev pub branchWith : ℕ → State → ℕ → ℕ → Branch
 branchWith i σ p v = record { id = i; saved = σ; target = p; window = v }
 
 -- an instruction carried out is rule 2 for beqz, else rule 3
-pub forward-cases : (code : Code) (M : Machine) (P : Instr → Step → Type 0) → ((i : Instr) → P i (ordinary code M i))
+pub forward-cases : (code : Code) (M : Machine) (P : Instr → Step → Type 0)
+    → ((i : Instr) → eqb (kind i) 5 ≡ false → P i (ordinary code M i))
     → ((r l : ℕ) → P (beqz r l) (opening code M r l)) → (i : Instr) → P i (forward code M i)
 unfolding forward
-forward-cases code M P o b skip = o skip
-forward-cases code M P o b (assign r e) = o (assign r e)
-forward-cases code M P o b (load r e) = o (load r e)
-forward-cases code M P o b (store r e) = o (store r e)
-forward-cases code M P o b (jmp e) = o (jmp e)
+forward-cases code M P o b skip = o skip refl
+forward-cases code M P o b (assign r e) = o (assign r e) refl
+forward-cases code M P o b (load r e) = o (load r e) refl
+forward-cases code M P o b (store r e) = o (store r e) refl
+forward-cases code M P o b (jmp e) = o (jmp e) refl
 forward-cases code M P o b (beqz r l) = b r l
-forward-cases code M P o b (cassign r c e) = o (cassign r c e)
-forward-cases code M P o b spbarr = o spbarr
+forward-cases code M P o b (cassign r c e) = o (cassign r c e) refl
+forward-cases code M P o b spbarr = o spbarr refl
+
+-- and is no rollback
+pub forward-back : (code : Code) (M : Machine) (i : Instr) → forward code M i .back ≡ 0
+unfolding ordinary opening
+forward-back code M = forward-cases code M (λ i s. s .back ≡ 0) (λ i e. refl) (λ r l. refl)
+
+-- a branch that has not expired has some window left, and the place is not END
+pub expired-false : (code : Code) (p : ℕ) (b : Branch) → expired code p b ≡ false → (b .window ≢ 0) × (p < end code)
+unfolding expired
+expired-false code p b = go (eqb (b .window) 0) (leb (end code) p) refl refl
+  where
+    go : (x y : Bool) → eqb (b .window) 0 ≡ x → leb (end code) p ≡ y → (x || y) ≡ false → (b .window ≢ 0) × (p < end code)
+    go true y e f h = absurd (true≢false h)
+    go false true e f h = absurd (true≢false h)
+    go false false e f h = (eqb-false (b .window) 0 e, leb-false (end code) p f)
 
 -- with nothing open a step carries the instruction out
 pub step-empty : (code : Code) (σ : State) (p n : ℕ)
