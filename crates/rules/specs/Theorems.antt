@@ -1,3 +1,7 @@
 -- What is proved of the definitions. Nothing here has to be believed.
 pub mod LoopLaws
 pub mod RunLaws
+pub mod StepLaws
+pub mod PlainRun
+pub mod Undo
+pub mod Bounds
