@@ -1,3 +1,5 @@
 -- What is proved of the definitions. Nothing here has to be believed.
 pub mod LoopLaws
 pub mod RunLaws
+pub mod Alike
+pub mod Secrecy
