@@ -3,3 +3,4 @@ pub mod LoopLaws
 pub mod RunLaws
 pub mod Alike
 pub mod Secrecy
+pub mod JobLaws
