@@ -2,5 +2,7 @@
 pub mod LoopLaws
 pub mod RunLaws
 pub mod Alike
+pub mod AlikeSteps
 pub mod Secrecy
 pub mod JobLaws
+pub mod FileSecrecy

@@ -47,7 +47,8 @@ module _ {D : LocationSet} where
     left = λ w.
         ap₂ (result2 o) (h .left (union-within-left (a .deps) (b .deps) w)) (k .left (union-within-right (a .deps) (b .deps) w));
     right = λ w.
-        ap₂ (result2 o) (h .right (union-within-left (a′ .deps) (b′ .deps) w)) (k .right (union-within-right (a′ .deps) (b′ .deps) w));
+        ap₂ (result2 o) (h .right (union-within-left (a′ .deps) (b′ .deps) w))
+        (k .right (union-within-right (a′ .deps) (b′ .deps) w));
   }
 
   module _ (f g : ℕ → Tagged) (same : (r : ℕ) → Agree D (f r) (g r)) where

@@ -2,7 +2,7 @@
 -- bytes": it is the same job with another state, or is refused for the same cause.
 -- Assumes nothing.
 use mathlib.Core.Path.{_≡_, refl, sym, ap, ap₂, _∙_}
-use mathlib.Core.Bool.{Bool, true, false, _&&_, cond}
+use mathlib.Core.Bool.{Bool, true, false, cond}
 use mathlib.Core.List.{List, [], _∷_}
 use Prim.Native.Nat.{ℕ, zero, suc, _+_, _-_, _*_, _≤_}
 use native.Mathlib.Nat.{le-refl}
@@ -11,15 +11,13 @@ use lib.Dec.{leb, eqb}
 use lib.ListN.{length, getD, take, drop}
 use lib.Seq.{getD-drop}
 use borrow.Author.Tests.{leb-true, eqb-true}
-use Rattle.location.specs.declared.LocationSet.{LocationSet}
-use Rattle.location.specs.Sets.{registers, limit}
 use Rattle.location.specs.SetLaws.{and-left, and-right}
 use Rattle.rules.specs.declared.Trailer.{Trailer}
 use Rattle.rules.specs.declared.Refusal.{Refusal}
 use Rattle.rules.specs.declared.Refusal.the-variants as refusals
 use Rattle.rules.specs.Rules.Instructions.{Instr, windowCosts}
 use Rattle.rules.specs.Rules.Runs.{Job}
-use Rattle.rules.specs.Rules.JobFile.{little, Read, got, refused, andThen, instruction, nothingLeft, program, trailerAt, trailer, sized, limits, offsets, wordsAt, stateOf, publicOf, noneFrom, listed, Parsed, accepted, rejected, jobOf, programOf, finish, parse}
+use Rattle.rules.specs.Rules.JobFile.{little, Read, got, refused, andThen, instruction, nothingLeft, program, trailerAt, trailer, sized, limits, offsets, wordsAt, stateOf, publicOf, listed, Parsed, accepted, rejected, jobOf, programOf, finish, parse}
 use Rattle.rules.specs.Rules.Pairs.{withState}
 
 rejected-accepted : {P : Type 0} {r : Refusal} {job : Job} → rejected r ≡ accepted job → P
@@ -66,7 +64,10 @@ module _ (bs : List ℕ) (job : Job) where
   passed e = go (sized (length bs)) (limits (trailer bs)) (offsets (trailer bs) (length bs)) refl refl refl e
     where
       go : (z w o : Bool) → sized (length bs) ≡ z → limits (trailer bs) ≡ w → offsets (trailer bs) (length bs) ≡ o
-          → cond z (cond w (cond o (finish bs (trailer bs) (programOf bs (trailer bs))) (rejected refusals.Offsets)) (rejected refusals.Trailer)) (rejected refusals.Length) ≡ accepted job
+          → cond z
+          (cond w (cond o (finish bs (trailer bs) (programOf bs (trailer bs))) (rejected refusals.Offsets)) (rejected refusals.Trailer))
+          (rejected refusals.Length)
+          ≡ accepted job
           → Passed bs job
       go true true true z w o e = finished z w o (programOf bs (trailer bs)) refl e
       go true true false z w o e = rejected-accepted e
@@ -84,8 +85,8 @@ unfolding stateOf
 length-stateOf t bs = length-wordsAt (16 + t .cells) bs (t .state)
 
 -- one more instruction in front of k
-length-cons : (x : Instr) (R : Read (List Instr)) {k q : ℕ} {xs : List Instr} → ((ys : List Instr) (r : ℕ) → R ≡ got ys r → length ys ≡ k)
-    → andThen R (λ ys r. got (x ∷ ys) r) ≡ got xs q → length xs ≡ suc k
+length-cons : (x : Instr) (R : Read (List Instr)) {k q : ℕ} {xs : List Instr}
+    → ((ys : List Instr) (r : ℕ) → R ≡ got ys r → length ys ≡ k) → andThen R (λ ys r. got (x ∷ ys) r) ≡ got xs q → length xs ≡ suc k
 length-cons x (refused r) h e = refused-got e
 length-cons x (got ys r) {k} {q} {xs} h e = let f : x ∷ ys ≡ xs = cc in ap length (sym f) ∙ ap suc (h ys r refl)
 
@@ -189,6 +190,11 @@ module _ {bs : List ℕ} {job : Job} (p : Passed bs job) where
   pub budget-most : job .budget ≤ 1000000
   budget-most = rw job-budget (limits-hold (trailer bs) (p .limits) .budget)
 
+  -- "At most 16,384 bytes"
+  pub bytes-most : length bs ≤ 16384
+  unfolding sized
+  bytes-most = leb-true (length bs) 16384 (and-right (leb 16 (length bs)) _ (p .size))
+
   -- "16 registers and m cells"
   pub init-length : length (job .init) ≡ 16 + job .code .cells
   init-length = ap length job-init ∙ length-stateOf (trailer bs) bs ∙ ap (λ (m : ℕ). 16 + m) (sym job-cells)
@@ -225,7 +231,8 @@ module _ (f g : List ℕ) (q : ℕ) (same : drop q f ≡ drop q g) where
   wordsAt-same : (k at : ℕ) → q ≤ at → wordsAt k g at ≡ wordsAt k f at
   unfolding wordsAt
   wordsAt-same zero at h = refl
-  wordsAt-same (suc k) at h = ap₂ {C = List ℕ} (λ (a : ℕ) (b : List ℕ). a ∷ b) (little-same 8 at h) (wordsAt-same k (at + 8) (omega arith))
+  wordsAt-same (suc k) at h =
+      ap₂ {C = List ℕ} (λ (a : ℕ) (b : List ℕ). a ∷ b) (little-same 8 at h) (wordsAt-same k (at + 8) (omega arith))
 
   trailerAt-same : (at : ℕ) → q ≤ at → trailerAt g at ≡ trailerAt f at
   unfolding trailerAt
@@ -245,7 +252,8 @@ pub trailer-same : {f g : List ℕ} → offsets (trailer f) (length f) ≡ true 
 unfolding trailer
 trailer-same {f} {g} o s =
     let e = offsets-list (trailer f) (length f) o in
-    ap (λ (n : ℕ). trailerAt g (n - 16)) (sym (s .size)) ∙ trailerAt-same f g (trailer f .list) (s .after) (length f - 16) (omega arith)
+    ap (λ (n : ℕ). trailerAt g (n - 16)) (sym (s .size))
+    ∙ trailerAt-same f g (trailer f .list) (s .after) (length f - 16) (omega arith)
 
 -- a file with other words of the state
 abbrev pub parsedWith : List ℕ → Parsed → Parsed
@@ -280,9 +288,12 @@ module _ {f g : List ℕ} (s : SameButState f g) (e : trailer g ≡ trailer f) w
       rw (e, ← s .size, programOf-same, finish-same (programOf f (trailer f)))
       (go (sized (length f)) (limits (trailer f)) (offsets (trailer f) (length f)) (finish f (trailer f) (programOf f (trailer f))))
     where
+      tests : Bool → Bool → Bool → Parsed → Parsed
+      tests z w o P =
+          cond z (cond w (cond o P (rejected refusals.Offsets)) (rejected refusals.Trailer)) (rejected refusals.Length)
+
       go : (z w o : Bool) (P : Parsed)
-          → cond z (cond w (cond o (parsedWith (stateOf (trailer f) g) P) (rejected refusals.Offsets)) (rejected refusals.Trailer)) (rejected refusals.Length)
-          ≡ parsedWith (stateOf (trailer f) g) (cond z (cond w (cond o P (rejected refusals.Offsets)) (rejected refusals.Trailer)) (rejected refusals.Length))
+          → tests z w o (parsedWith (stateOf (trailer f) g) P) ≡ parsedWith (stateOf (trailer f) g) (tests z w o P)
       go true true true P = refl
       go true true false P = refl
       go true false o P = refl
