@@ -28,12 +28,12 @@ refused-got {P} {A} {r} {x} {q} e = absurd (let z : _≡_ {A = ℕ} 0 1 = cc in 
 
 -- ---- what an accepted file has passed, in the order of the refusals: 1, 2, 3, then 4 to 7, then 8
 pub record Passed (bs : List ℕ) (job : Job) : Type 0 where
-  pub size : sized (length bs) ≡ true
+  pub sized : sized (length bs) ≡ true
   pub limits : limits (trailer bs) ≡ true
   pub offsets : offsets (trailer bs) (length bs) ≡ true
   pub next : ℕ
   pub read : programOf bs (trailer bs) ≡ got (job .code .prog) next
-  pub list : listed (trailer bs) bs ≡ true
+  pub listed : listed (trailer bs) bs ≡ true
   pub made : job ≡ jobOf bs (trailer bs) (job .code .prog)
 
 module _ (bs : List ℕ) (job : Job) where
@@ -50,12 +50,12 @@ module _ (bs : List ℕ) (job : Job) where
           let f : jobOf bs (trailer bs) xs ≡ job = cc in
           let g : xs ≡ job .code .prog = ap (λ (j : Job). j .code .prog) f in
           record {
-            size = z;
+            sized = z;
             limits = w;
             offsets = o;
             next = q;
             read = s ∙ ap (λ (ys : List Instr). got ys q) g;
-            list = l;
+            listed = l;
             made = sym f ∙ ap (jobOf bs (trailer bs)) g;
           }
 
@@ -193,7 +193,7 @@ module _ {bs : List ℕ} {job : Job} (p : Passed bs job) where
   -- "At most 16,384 bytes"
   pub bytes-most : length bs ≤ 16384
   unfolding sized
-  bytes-most = leb-true (length bs) 16384 (and-right (leb 16 (length bs)) _ (p .size))
+  bytes-most = leb-true (length bs) 16384 (and-right (leb 16 (length bs)) _ (p .sized))
 
   -- "16 registers and m cells"
   pub init-length : length (job .init) ≡ 16 + job .code .cells

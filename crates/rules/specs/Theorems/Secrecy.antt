@@ -160,7 +160,7 @@ module _ (job : Job) (room : ℕ) (vs : List ℕ) (bound : length (job .init) �
       same-run (step (job .code)) (job .code) room D (λ M N s. same-step (job .code) s) (λ M N s. count-step (job .code) s)
       (job .budget) (first job) blank (first (withState job vs)) (same-first D h) w
 
-  -- the same of the plain run
+  -- the same of the plain run, with the set that it gathers
   pub same-plain-runs : (D : LocationSet) → Within (plainRun job room .log .full) D → AlikeOn D (job .init) vs
       → SameResult D (plainRun job room) (plainRun (withState job vs) room)
   unfolding plainRun withState
@@ -184,7 +184,7 @@ module _ (job : Job) (room : ℕ) (vs : List ℕ) (bound : length (job .init) �
         word = ap₂ (λ (s : Stop) (g : Log). judge (job .public) s (g .full) (g .plain)) (x .stop) (x .log);
       }
 
-  -- under a clean verdict, with states alike in the public list
+  -- under a clean verdict ("clean if D lies within the public list"), with states alike in the public list
   pub demand3-clean : verdict job (mispredictingRun job room) ≡ verdicts.Clean → AlikeOn (job .public) (job .init) vs
       → SameReport job (withState job vs) (mispredictingRun job room) (mispredictingRun (withState job vs) room)
   unfolding verdict
