@@ -196,6 +196,7 @@ pub record Demand3 (f : List ℕ) (a : Areas) : Type 0 where
       → AlikeOn (publicOf (trailer f) f) (stateOf (trailer f) f) (stateOf (trailer f) g)
       → SameCall f a g a′
 
+-- every call on a job file meets demand 3
 pub demand3-call : (f : List ℕ) (a : Areas) → Demand3 f a
 demand3-call f a = record {
   reported = λ e g a′ s h k. same-reported (runs-of e (view f a)) s h k;

@@ -105,7 +105,7 @@ length-program n (suc k) i p at xs q e = go (instruction n i p at) (λ ys r. len
     go (refused r) h e = refused-got e
     go (got x r) h e = length-cons x (program n k (i + 1) p r) (λ ys s. h ys r s) e
 
--- ---- "S > Q, Q − S not 128 + 8m, or Q + 48 not the length"
+-- ---- the offsets, where "S > Q, Q − S not 128 + 8m, or Q + 48 not the length" was not found
 module _ (t : Trailer) (len : ℕ) (h : offsets t len ≡ true) where
   pub offsets-state : t .state + 128 + 8 * t .cells ≡ t .list
   unfolding offsets
@@ -299,6 +299,7 @@ module _ {f g : List ℕ} (s : SameButState f g) (e : trailer g ≡ trailer f) w
       go true false o P = refl
       go false w o P = refl
 
+-- "a job that is the same but for the state's bytes": the same program, public list and limits, with the words of the second state
 pub parse-other : {f g : List ℕ} {job : Job} → parse f ≡ accepted job → SameButState f g
     → parse g ≡ accepted (withState job (stateOf (trailer f) g))
 parse-other {f} {g} {job} e s =
