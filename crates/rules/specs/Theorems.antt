@@ -5,3 +5,8 @@ pub mod StepLaws
 pub mod PlainRun
 pub mod Undo
 pub mod Bounds
+pub mod Alike
+pub mod AlikeSteps
+pub mod Secrecy
+pub mod JobLaws
+pub mod FileSecrecy
