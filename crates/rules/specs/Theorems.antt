@@ -5,8 +5,11 @@ pub mod StepLaws
 pub mod PlainRun
 pub mod Undo
 pub mod Bounds
+pub mod Sizes
 pub mod Alike
 pub mod AlikeSteps
 pub mod Secrecy
 pub mod JobLaws
+pub mod CallLaws
+pub mod FilePlain
 pub mod FileSecrecy

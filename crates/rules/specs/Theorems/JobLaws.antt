@@ -19,6 +19,7 @@ use Rattle.rules.specs.Rules.Instructions.{Instr, windowCosts}
 use Rattle.rules.specs.Rules.Runs.{Job}
 use Rattle.rules.specs.Rules.JobFile.{little, Read, got, refused, andThen, instruction, nothingLeft, program, trailerAt, trailer, sized, limits, offsets, wordsAt, stateOf, publicOf, listed, Parsed, accepted, rejected, jobOf, programOf, finish, parse}
 use Rattle.rules.specs.Rules.Pairs.{withState}
+use Rattle.rules.specs.Rules.Demands.{SameButState}
 
 rejected-accepted : {P : Type 0} {r : Refusal} {job : Job} → rejected r ≡ accepted job → P
 rejected-accepted {P} {r} {job} e = absurd (let z : _≡_ {A = ℕ} 0 1 = cc in omega arith)
@@ -210,12 +211,6 @@ module _ {bs : List ℕ} {job : Job} (p : Passed bs job) where
   list-length = offsets-list (trailer bs) (length bs) (p .offsets)
 
 -- ---- another state in the same file: "The second state stands in a job that is the same but for the state's bytes"
--- The bytes before the state and those after it are the same.
-pub record SameButState (f g : List ℕ) : Type 0 where
-  pub size : length f ≡ length g
-  pub before : take (trailer f .state) f ≡ take (trailer f .state) g
-  pub after : drop (trailer f .list) f ≡ drop (trailer f .list) g
-
 -- what is read at an offset from q on
 module _ (f g : List ℕ) (q : ℕ) (same : drop q f ≡ drop q g) where
   byte-same : (j : ℕ) → q ≤ j → getD g j 0 ≡ getD f j 0

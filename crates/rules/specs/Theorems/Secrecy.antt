@@ -23,7 +23,9 @@ use Rattle.rules.specs.Rules.Mispredicting.{Machine, Step, step, plainSt
 use Rattle.rules.specs.Rules.Loop.{ended}
 use Rattle.rules.specs.Rules.Runs.{Log, Result, note, fits, run, Job, first, blank, mispredictingRun, plainRun, judge, verdict}
 use Rattle.rules.specs.Rules.Pairs.{withState}
+use Rattle.rules.specs.Rules.Demands.{AlikeOn}
 use Rattle.rules.specs.Theorems.RunLaws.{run-over, run-spent, run-full, run-step, run-ind, full-grows}
+use Rattle.rules.specs.Theorems.Sizes.{own-length}
 use Rattle.rules.specs.Theorems.Alike.{Agree, Alike, agree-refl}
 use Rattle.rules.specs.Theorems.AlikeSteps.{none, Same, SameStep, same-over, same-gather, same-step, count-step, same-plainStep, count-plainStep}
 
@@ -78,11 +80,6 @@ module _ (f : Machine → Step) (code : Code) (room : ℕ) (D : LocationSet)
       rw (run-step f code room k N g (sym (same-over code h) ∙ e) (sym (same-fits g h) ∙ x)) (follows-step k M g ih N h w))
 
 -- ---- the start: "Each register and cell carries a set of locations, at first itself alone."
-own-length : (i : ℕ) (vs : List ℕ) → length (ownFrom i vs) ≡ length vs
-unfolding ownFrom
-own-length i [] = refl
-own-length i (v ∷ vs) = ap suc (own-length (suc i) vs)
-
 own-at : (i : ℕ) (vs : List ℕ) (l : ℕ) → l < length vs → at (ownFrom i vs) l ≡ tagged (getD vs l 0) (single (i + l))
 unfolding ownFrom at
 own-at i [] l h = absurd (omega arith)
@@ -92,11 +89,6 @@ own-at i (v ∷ vs) (suc l) h = own-at (suc i) vs l (omega arith) ∙ ap (λ (n 
 own-out : (vs : List ℕ) (l : ℕ) → length vs ≤ l → at (ownFrom 0 vs) l ≡ tagged 0 empty
 unfolding at
 own-out vs l h = List·getD-eq-default (ownFrom 0 vs) (tagged 0 empty) (rw (own-length 0 vs) h)
-
--- "Two states are alike in a set of locations when the register or cell at each of them holds the same word in both; in the
--- empty set any two are."
-pub record AlikeOn (s : LocationSet) (xs ys : List ℕ) : Type 0 where
-  pub same : (l : ℕ) → member s l ≡ true → getD xs l 0 ≡ getD ys l 0
 
 module _ (D : LocationSet) (xs ys : List ℕ) (bound : length xs ≤ 256) (size : length xs ≡ length ys) (h : AlikeOn D xs ys) where
   own-agree : (l : ℕ) → Dec (l < length xs) → Agree D (at (ownFrom 0 xs) l) (at (ownFrom 0 ys) l)
