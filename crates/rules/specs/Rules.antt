@@ -11,4 +11,5 @@ pub mod JobFile
 pub mod Calls
 pub mod Pairs
 pub mod Strike
+pub mod Demands
 pub mod Listing

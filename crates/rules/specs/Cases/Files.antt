@@ -7,10 +7,24 @@ use Rattle.location.specs.declared.LocationSet.{LocationSet}
 use Rattle.location.specs.Sets.{empty, single, union}
 use Rattle.rules.specs.declared.Stop.{Stop}
 use Rattle.rules.specs.declared.Verdict.{Verdict}
+use Rattle.rules.specs.declared.Counts.{Counts}
 use Rattle.rules.specs.declared.RunOutcome.the-variants as runs
 use Rattle.rules.specs.declared.RunAnswer.{RunAnswer}
-use Rattle.rules.specs.Rules.Calls.{Areas, runCall}
+use Rattle.rules.specs.declared.PairAnswer.{PairAnswer}
+use Rattle.rules.specs.declared.PlainOutcome.the-variants as plains
+use Rattle.rules.specs.declared.PlainAnswer.{PlainAnswer}
+use Rattle.rules.specs.declared.Tagged.{Tagged}
+use Prim.Native.String.{String}
+use Rattle.rules.specs.Rules.Answers.{text}
+use Rattle.rules.specs.Rules.Expressions.{tagged}
+use Rattle.rules.specs.Rules.Plain.{at}
+use Rattle.rules.specs.Rules.Runs.{mispredictingRun}
+use Rattle.rules.specs.Rules.JobFile.{Parsed, accepted, rejected, parse}
+use Rattle.rules.specs.Rules.Calls.{Areas, runCall, plainCall}
+use Rattle.rules.specs.Rules.Pairs.{PairAreas, pairCall}
+use Rattle.rules.specs.Rules.Listing.{listing}
 
+-- ---- files
 -- a number in k bytes, lowest first
 unfoldable pub bytesOf : ℕ → ℕ → List ℕ
 bytesOf zero v = []
@@ -20,47 +34,108 @@ unfoldable pub wordBytes : List ℕ → List ℕ
 wordBytes [] = []
 wordBytes (v ∷ vs) = bytesOf 8 v ++ wordBytes vs
 
-unfoldable pub zeros : ℕ → List ℕ
+abbrev pub zeros : ℕ → List ℕ
 zeros n = replicate n 0
+
+-- the trailer with its seven numbers
+unfoldable pub trailerBytes : ℕ → ℕ → ℕ → ℕ → ℕ → ℕ → ℕ → List ℕ
+trailerBytes s q n m w z b = bytesOf 2 s ++ bytesOf 2 q ++ bytesOf 2 n ++ bytesOf 2 m ++ bytesOf 2 w ++ bytesOf 2 z ++ bytesOf 4 b
 
 -- a program of n instructions, a state of 16 + m words, a public list of four words, a window and a budget
 unfoldable pub file : List ℕ → ℕ → List ℕ → List ℕ → ℕ → ℕ → List ℕ
 file prog n state public w b =
     let s = length prog in
     let m = length state - 16 in
-    prog ++ wordBytes state ++ wordBytes public
-    ++ bytesOf 2 s ++ bytesOf 2 (s + 128 + 8 * m) ++ bytesOf 2 n ++ bytesOf 2 m ++ bytesOf 2 w ++ bytesOf 2 0 ++ bytesOf 4 b
+    prog ++ wordBytes state ++ wordBytes public ++ trailerBytes s (s + 128 + 8 * m) n m w 0 b
 
+-- the bytes of some lines
+unfoldable pub lines : List String → List ℕ
+lines [] = []
+lines (l ∷ ls) = text l ++ (10 ∷ lines ls)
+
+-- ---- answers
 -- the set of some locations
 unfoldable pub setOf : List ℕ → LocationSet
 setOf [] = empty
 setOf (l ∷ ls) = union (single l) (setOf ls)
 
+abbrev pub counted : Stop → ℕ → ℕ → ℕ → Counts
+counted stop observations steps rollbacks = record { stop = stop; observations = observations; steps = steps; rollbacks = rollbacks }
+
+-- an answer by its stop, counts of observations, steps and rollbacks, the locations of D and of the plain set, and verdict
 unfoldable pub ran : Stop → ℕ → ℕ → ℕ → List ℕ → List ℕ → Verdict → RunAnswer
 ran stop observations steps rollbacks depends plain word = record {
-  outcome = runs.Ran (record { stop = stop; observations = observations; steps = steps; rollbacks = rollbacks }) word;
+  outcome = runs.Ran (counted stop observations steps rollbacks) word;
   depends = setOf depends;
   plain = setOf plain;
 }
 
--- a job file, the words of the trace area, the answer, and the words written from its front
-pub record Row : Type 0 where
-  pub job : List ℕ
-  pub lent : ℕ
-  pub answer : RunAnswer
-  pub trace : List ℕ
+-- a plain run's answer by its stop, counts of observations and steps, and the locations of its plain set
+unfoldable pub plainRan : Stop → ℕ → ℕ → List ℕ → PlainAnswer
+plainRan stop observations steps rests = record {
+  outcome = plains.Ran (record { stop = stop; observations = observations; steps = steps });
+  plain = setOf rests;
+}
 
-unfoldable pub row : List ℕ → ℕ → List ℕ → RunAnswer → Row
-row job lent trace answer = record { job = job; lent = lent; answer = answer; trace = trace }
+-- ---- rows
+-- A run: the job, the words of the trace area, the words written to its front, the answer. A pair: the job, the second state,
+-- the words of each trace area, the words written to each, the answer. A listing: the job and the printed bytes. A plain run:
+-- as a run. All areas before a run, its answer, and all areas after it. The word with its set at a location after a run.
+pub data Row : Type 0 where
+  run : List ℕ → ℕ → List ℕ → RunAnswer → Row
+  pair : List ℕ → List ℕ → ℕ → List ℕ → List ℕ → PairAnswer → Row
+  prints : List ℕ → List ℕ → Row
+  plain : List ℕ → ℕ → List ℕ → PlainAnswer → Row
+  leaves : List ℕ → Areas → RunAnswer → Areas → Row
+  holds : List ℕ → ℕ → Tagged → Row
+
+-- what is compared: an answer with the whole trace areas after the call, or bytes
+pub data Seen : Type 0 where
+  ranTo : RunAnswer → List ℕ → Seen
+  pairedTo : PairAnswer → List ℕ → List ℕ → Seen
+  printed : List ℕ → Seen
+  plainTo : PlainAnswer → List ℕ → Seen
+  left : RunAnswer → Areas → Seen
+  word : Tagged → Seen
 
 -- the lent areas hold 7 before the call
 unfoldable pub areas : ℕ → Areas
 areas n = record { trace = replicate n 7; end = replicate 256 7; work = replicate 4096 7 }
 
-unfoldable pub given : List Row → List (RunAnswer × List ℕ)
-given [] = []
-given (r ∷ rs) = (runCall (r .job) (areas (r .lent)) .answer, runCall (r .job) (areas (r .lent)) .areas .trace) ∷ given rs
+unfoldable pub pairAreas : ℕ → PairAreas
+pairAreas n = record { first = replicate n 7; second = replicate n 7; work = replicate 4096 7 }
 
-unfoldable pub wanted : List Row → List (RunAnswer × List ℕ)
-wanted [] = []
-wanted (r ∷ rs) = (r .answer, r .trace ++ replicate (r .lent - length (r .trace)) 7) ∷ wanted rs
+-- so many words, written from the front
+unfoldable pub front : ℕ → List ℕ → List ℕ
+front n ws = ws ++ replicate (n - length ws) 7
+
+-- the word with its set at a location, as the run of an accepted job leaves it
+unfoldable pub lastAt : Parsed → ℕ → Tagged
+lastAt (accepted job) l = at (mispredictingRun job 512 .last .state) l
+lastAt (rejected r) l = tagged 0 empty
+
+unfoldable pub given : Row → Seen
+given (run job n trace answer) = ranTo (runCall job (areas n) .answer) (runCall job (areas n) .areas .trace)
+given (pair job second n trace trace′ answer) =
+    pairedTo (pairCall job second (pairAreas n) .answer) (pairCall job second (pairAreas n) .areas .first)
+    (pairCall job second (pairAreas n) .areas .second)
+given (prints job bytes) = printed (listing job)
+given (plain job n trace answer) = plainTo (plainCall job (areas n) .answer) (plainCall job (areas n) .areas .trace)
+given (leaves job before answer after) = left (runCall job before .answer) (runCall job before .areas)
+given (holds job l t) = word (lastAt (parse job) l)
+
+unfoldable pub wanted : Row → Seen
+wanted (run job n trace answer) = ranTo answer (front n trace)
+wanted (pair job second n trace trace′ answer) = pairedTo answer (front n trace) (front n trace′)
+wanted (prints job bytes) = printed bytes
+wanted (plain job n trace answer) = plainTo answer (front n trace)
+wanted (leaves job before answer after) = left answer after
+wanted (holds job l t) = word t
+
+unfoldable pub allGiven : List Row → List Seen
+allGiven [] = []
+allGiven (r ∷ rs) = given r ∷ allGiven rs
+
+unfoldable pub allWanted : List Row → List Seen
+allWanted [] = []
+allWanted (r ∷ rs) = wanted r ∷ allWanted rs

@@ -6,11 +6,17 @@ use Prim.Native.Nat.{ℕ, zero, suc, _+_, _-_, _/_, _%_}
 use lib.Dec.{eqb, ltb}
 use Rattle.location.specs.declared.LocationSet.{LocationSet}
 use Rattle.location.specs.Sets.{registers, limit, member}
+use Rattle.rules.specs.declared.Verdict.{Verdict}
+use Rattle.rules.specs.declared.Counts.{Counts}
+use Rattle.rules.specs.declared.RunOutcome.{RunOutcome}
+use Rattle.rules.specs.declared.RunOutcome.the-variants as runs
+use Rattle.rules.specs.declared.RunAnswer.{RunAnswer}
 use Rattle.rules.specs.Rules.Instructions.{Observation, start, rollback, pc, loaded, stored}
 use Rattle.rules.specs.Rules.Plain.{end}
-use Rattle.rules.specs.Rules.Runs.{Job, Result, mispredictingRun, verdict}
+use Rattle.rules.specs.Rules.Runs.{mispredictingRun}
 use Rattle.rules.specs.Rules.Answers.{text, stopWord, verdictWord, refusalNumber}
 use Rattle.rules.specs.Rules.JobFile.{Parsed, accepted, rejected, parse}
+use Rattle.rules.specs.Rules.Calls.{runReport, runRefused}
 
 -- the decimal digits of a number, before other bytes; a word of 64 bits has at most 20
 unfoldable pub digits : ℕ → ℕ → List ℕ → List ℕ
@@ -57,25 +63,33 @@ unfoldable pub setLine : List ℕ → LocationSet → List ℕ
 setLine word s = line word (members s 0 limit)
 
 -- "then the stop, counts, D, plain set, verdict"
-unfoldable pub summary : Job → Result → List ℕ
-summary job r =
-    line (text "stop ") (stopWord (r .stop))
-    ++ numberLine (text "steps") (r .log .steps)
-    ++ numberLine (text "rollbacks") (r .log .rollbacks)
-    ++ setLine (text "depends") (r .log .full)
-    ++ setLine (text "plain") (r .log .plain)
-    ++ line (text "verdict ") (verdictWord (verdict job r))
+unfoldable pub summary : Counts → LocationSet → LocationSet → Verdict → List ℕ
+summary c full plain v =
+    line (text "stop ") (stopWord (c .stop))
+    ++ numberLine (text "steps") (c .steps)
+    ++ numberLine (text "rollbacks") (c .rollbacks)
+    ++ setLine (text "depends") full
+    ++ setLine (text "plain") plain
+    ++ line (text "verdict ") (verdictWord v)
+
+-- "A refusal prints "refused" and its number alone."
+abbrev pub outcomeLines : ℕ → List Observation → LocationSet → LocationSet → RunOutcome → List ℕ
+outcomeLines n os full plain (runs.Refused r) = numberLine (text "refused") (refusalNumber r)
+outcomeLines n os full plain (runs.Ran c v) = traceLines n os ++ summary c full plain v
+
+-- an answer with its trace, of a program with n instructions
+unfoldable pub answerLines : ℕ → List Observation → RunAnswer → List ℕ
+answerLines n os a = outcomeLines n os (a .depends) (a .plain) (a .outcome)
 
 -- "lends 512 observations"
 abbrev pub printedRoom : ℕ
 printedRoom = 512
 
--- "A refusal prints "refused" and its number alone."
 unfoldable pub listingOf : Parsed → List ℕ
-listingOf (rejected r) = numberLine (text "refused") (refusalNumber r)
+listingOf (rejected r) = answerLines 0 [] (runRefused r)
 listingOf (accepted job) =
     let r = mispredictingRun job printedRoom in
-    traceLines (end (job .code)) (r .log .trace) ++ summary job r
+    answerLines (end (job .code)) (r .log .trace) (runReport job r)
 
 unfoldable pub listing : List ℕ → List ℕ
 listing file = listingOf (parse file)

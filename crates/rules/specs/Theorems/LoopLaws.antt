@@ -4,7 +4,7 @@ use mathlib.Core.Path.{_≡_, refl}
 use mathlib.Core.Bool.{Bool, true, false}
 use Prim.Native.Nat.{ℕ, zero, suc}
 use Rattle.rules.specs.declared.Stop.{Stop}
-use Rattle.rules.specs.declared.Stop.the-variants.{Finished, Spent, TraceFull}
+use Rattle.rules.specs.declared.Stop.the-variants.{Finished, Spent}
 use Rattle.rules.specs.Rules.Loop.{Hold, clear, held, Ended, ended, loop}
 
 module _ {M G : Type 0} (over : M → Bool) (hold : M → G → Hold) (next : M → M) (note : M → G → G) where

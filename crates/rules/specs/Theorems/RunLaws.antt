@@ -1,7 +1,7 @@
 -- The four ways a run of the machine goes on, the induction over a run, and what every run keeps: at most b steps, at most
 -- the room's observations, and D only grows and holds the plain set.
 -- Assumes nothing.
-use mathlib.Core.Path.{_≡_, refl, sym, ap, _∙_}
+use mathlib.Core.Path.{_≡_, refl, sym}
 use mathlib.Core.Bool.{Bool, true, false}
 use mathlib.Core.List.{List, [], _∷_}
 use mathlib.Core.Logic.{_≢_}
@@ -16,7 +16,7 @@ use Rattle.rules.specs.declared.Stop.{Stop}
 use Rattle.rules.specs.declared.Stop.the-variants.{Finished, Spent, TraceFull}
 use Rattle.rules.specs.Rules.Mispredicting.{Branch, Machine, Step, step, plainStep}
 use Rattle.rules.specs.Rules.Plain.{Code}
-use Rattle.rules.specs.Rules.Loop.{Hold, clear, held, ifRoom, Ended, ended, loop}
+use Rattle.rules.specs.Rules.Loop.{clear, held, ifRoom, ended}
 use Rattle.rules.specs.Rules.Runs.{Log, Result, gather, note, over, fits, hold, run, Job, first, blank, mispredictingRun, plainRun}
 use Rattle.rules.specs.Theorems.LoopLaws.{loop-over, loop-spent, loop-held, loop-step, loop-ind}
 

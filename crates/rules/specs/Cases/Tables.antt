@@ -1,0 +1,43 @@
+-- The tables are proved of the rules: each side computes, from the bytes of the job files on.
+-- Assumes nothing.
+use mathlib.Core.Path.{_≡_, refl}
+use lib.ListN.{length}
+use Prim.Native.Nat.{ℕ}
+use Rattle.location.specs.Sets.{bit, has, none, only, either, inside, empty, single, union, subset, member}
+use Rattle.rules.specs.Rules.Expressions.{after, held, sound, pushed, evalOn, top, eval}
+use Rattle.rules.specs.Rules.Instructions.{windowCosts}
+use Rattle.rules.specs.Rules.Plain.{at, put, ownFrom, values, end, fetch, loadedFrom, storedTo, chosen, branchTo, exec}
+use Rattle.rules.specs.Rules.Mispredicting.{remaining, lower, ordinary, newWindow, opening, forward, rolling, expired, stepOn, step, plainStep}
+use Rattle.rules.specs.Rules.Loop.{ended, loop}
+use Rattle.rules.specs.Rules.Runs.{gather, note, overOn, over, fits, hold, run, first, blank, mispredictingRun, plainRun, judge, verdict}
+use Rattle.rules.specs.Rules.Answers.{text}
+use Rattle.rules.specs.Rules.JobFile.{little, wordOf, byte, register, unary, binary, constant, tokenOf, token, tokens, expr, withRegister, jump, branch, conditional, fields, instr, instruction, nothingLeft, program, trailerAt, trailer, sized, limits, offsets, wordsAt, stateOf, publicOf, noneFrom, listed, jobOf, programOf, finish, parse}
+use Rattle.rules.specs.Rules.Calls.{traceWords, room, longEnough, written, areasAfter, counts, runReport, runRefused, runParsed, runCall, plainReport, plainRefused, plainParsed, plainCall}
+use Rattle.rules.specs.Rules.Pairs.{withState, alikeFrom, sameWords, sameTrace, pairWord, pairAfter, pairRefused, secondFits, pairFits, pairAccepted, pairParsed, pairCall}
+use Rattle.rules.specs.Rules.Listing.{digits, decimal, line, numberLine, placeText, observationLine, traceLines, locationText, members, setLine, summary, answerLines, listingOf, listing}
+use Rattle.rules.specs.Cases.Files.{bytesOf, wordBytes, trailerBytes, file, lines, setOf, ran, plainRan, areas, pairAreas, front, lastAt, given, wanted, allGiven, allWanted}
+use Rattle.rules.specs.Cases.Document01.{printedProgram, barrierProgram, nestedProgram, state, public, job, whole, r01, r01m1, listing01, document01}
+use Rattle.rules.specs.Cases.Readings.{secretJob, zero17, deep, inner, restoring, conditionally, twice, mixed, ending, filled, readings}
+use Rattle.rules.specs.Cases.Refusals as refusal
+use Rattle.rules.specs.Cases.Refusals.{reads, numberOf, readNumbers, wantedNumbers, skips, offsetsAt, listBit, refusals}
+use Rattle.rules.specs.Cases.Operators.{computed, expected, high, all, boundaries}
+
+-- "S is 28, Q 188, the file 236 bytes."
+pub printed-length : length (job 1 10 100) ≡ 236
+unfolding bytesOf wordBytes trailerBytes file printedProgram state public job
+printed-length = refl
+
+-- The operators at their boundaries.
+pub operators-hold : computed boundaries ≡ expected boundaries
+unfolding computed expected high all boundaries
+operators-hold = refl
+
+-- The cases that document 01 marks (P), as one table; our own rows; and the refusals.
+pub record Hold : Type 0 where
+  pub cases-of-document01 : allGiven document01 ≡ allWanted document01
+  pub cases-of-readings : allGiven readings ≡ allWanted readings
+  pub cases-of-refusals : readNumbers refusals ≡ wantedNumbers refusals
+
+pub tables-hold : Hold
+unfolding bit has none only either inside empty single union subset member after held sound pushed evalOn top eval windowCosts at put ownFrom values end fetch loadedFrom storedTo chosen branchTo exec remaining lower ordinary newWindow opening forward rolling expired stepOn step plainStep ended loop gather note overOn over fits hold run first blank mispredictingRun plainRun judge verdict text little wordOf byte register unary binary constant tokenOf token tokens expr withRegister jump branch conditional fields instr instruction nothingLeft program trailerAt trailer sized limits offsets wordsAt stateOf publicOf noneFrom listed jobOf programOf finish parse traceWords room longEnough written areasAfter counts runReport runRefused runParsed runCall plainReport plainRefused plainParsed plainCall withState alikeFrom sameWords sameTrace pairWord pairAfter pairRefused secondFits pairFits pairAccepted pairParsed pairCall digits decimal line numberLine placeText observationLine traceLines locationText members setLine summary answerLines listingOf listing bytesOf wordBytes trailerBytes file lines setOf ran plainRan areas pairAreas front lastAt given wanted allGiven allWanted printedProgram barrierProgram nestedProgram state public job whole r01 r01m1 listing01 document01 secretJob zero17 deep inner restoring conditionally twice mixed ending filled readings reads numberOf readNumbers wantedNumbers skips offsetsAt listBit refusals refusal.program
+tables-hold = record { cases-of-document01 = refl; cases-of-readings = refl; cases-of-refusals = refl }

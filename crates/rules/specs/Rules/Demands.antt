@@ -1,0 +1,110 @@
+-- The three demands, as statements about calls. Theorems/ proves the second and third of every job file and all areas; the
+-- contracts of the calls state all three.
+-- Assumes nothing.
+use mathlib.Core.Path.{_≡_}
+use mathlib.Core.Bool.{true}
+use mathlib.Core.List.{List}
+use Prim.Native.Nat.{ℕ, _+_, _*_}
+use lib.ListN.{length, getD, take, drop}
+use Rattle.location.specs.declared.LocationSet.{LocationSet}
+use Rattle.location.specs.Sets.{registers, member}
+use Rattle.rules.specs.declared.Stop.the-variants.{Finished}
+use Rattle.rules.specs.declared.Verdict.{Verdict}
+use Rattle.rules.specs.declared.Verdict.the-variants.{Clean}
+use Rattle.rules.specs.declared.Refusal.{Refusal}
+use Rattle.rules.specs.declared.Counts.{Counts}
+use Rattle.rules.specs.declared.PlainCounts.{PlainCounts}
+use Rattle.rules.specs.declared.RunOutcome.{RunOutcome}
+use Rattle.rules.specs.declared.RunOutcome.the-variants as runs
+use Rattle.rules.specs.declared.RunAnswer.{RunAnswer}
+use Rattle.rules.specs.declared.PlainOutcome.{PlainOutcome}
+use Rattle.rules.specs.declared.PlainOutcome.the-variants as plains
+use Rattle.rules.specs.declared.PlainAnswer.{PlainAnswer}
+use Rattle.rules.specs.Rules.Instructions.{Observation}
+use Rattle.rules.specs.Rules.JobFile.{trailer, stateOf, publicOf}
+use Rattle.rules.specs.Rules.Calls.{Areas, Called, traceWords, runCall, plainCall}
+use Rattle.rules.specs.Rules.Strike.{strike}
+
+-- ---- demand 1: "a run's answer, or the refusal number that document 01 fixes"
+-- The answer and every lent word are the definition's, for every list of bytes and all areas: `called` is the definition's call.
+pub record Exact {A : Type 0} (called : Called A) (r : A) (after : Areas) : Type 0 where
+  pub answer : r ≡ called .answer
+  pub areas : after ≡ called .areas
+
+-- "A refusal leaves every area unaltered."
+pub record RunUnaltered (answer : RunAnswer) (before after : Areas) : Type 0 where
+  pub refused : {n : Refusal} → answer .outcome ≡ runs.Refused n → after ≡ before
+
+pub record PlainUnaltered (answer : PlainAnswer) (before after : Areas) : Type 0 where
+  pub refused : {n : Refusal} → answer .outcome ≡ plains.Refused n → after ≡ before
+
+-- ---- what is compared
+-- "what the lent areas held before is free for both runs": only their lengths are the same
+pub record SameLengths (a a′ : Areas) : Type 0 where
+  pub trace : length (a .trace) ≡ length (a′ .trace)
+  pub end : length (a .end) ≡ length (a′ .end)
+  pub work : length (a .work) ≡ length (a′ .work)
+
+-- "the observation count"; a refused job observes nothing
+abbrev pub observed : RunOutcome → ℕ
+observed (runs.Refused r) = 0
+observed (runs.Ran n v) = n .observations
+
+abbrev pub plainObserved : PlainOutcome → ℕ
+plainObserved (plains.Refused r) = 0
+plainObserved (plains.Ran n) = n .observations
+
+-- the words that a call writes to its trace area: "two an observation", "from the front"
+unfoldable pub traceOf : List ℕ → Areas → List ℕ
+traceOf f a = take (2 * observed (runCall f a .answer .outcome)) (runCall f a .areas .trace)
+
+unfoldable pub plainTraceOf : List ℕ → Areas → List ℕ
+plainTraceOf f a = take (2 * plainObserved (plainCall f a .answer .outcome)) (plainCall f a .areas .trace)
+
+-- the words of an end area that a call writes: "registers then cells"
+unfoldable pub endOf : List ℕ → List ℕ → List ℕ
+endOf f area = take (registers + trailer f .cells) area
+
+-- ---- demand 2: "When a run finishes, striking out all from each outermost start to its rollback gives the plain run's trace, and
+-- the end states are equal." The plain run is "of the same job, in areas of the same lengths".
+pub record PlainMatch (f : List ℕ) (a a′ : Areas) : Type 0 where
+  pub counts : PlainCounts
+  pub finishes : plainCall f a′ .answer .outcome ≡ plains.Ran counts
+  pub stop : counts .stop ≡ Finished
+  pub trace : (os : List Observation) → traceOf f a ≡ traceWords os → plainTraceOf f a′ ≡ traceWords (strike os)
+  pub states : endOf f (plainCall f a′ .areas .end) ≡ endOf f (runCall f a .areas .end)
+  pub plain : plainCall f a′ .answer .plain ≡ runCall f a .answer .plain
+
+pub record Demand2 (f : List ℕ) (a : Areas) : Type 0 where
+  pub finished : {n : Counts} {v : Verdict} → runCall f a .answer .outcome ≡ runs.Ran n v → n .stop ≡ Finished
+      → (a′ : Areas) → SameLengths a a′ → PlainMatch f a a′
+
+-- ---- demand 3
+-- "The second state stands in a job that is the same but for the state's bytes": those before it and those after it are the same.
+pub record SameButState (f g : List ℕ) : Type 0 where
+  pub size : length f ≡ length g
+  pub before : take (trailer f .state) f ≡ take (trailer f .state) g
+  pub after : drop (trailer f .list) f ≡ drop (trailer f .list) g
+
+-- "Two states are alike in a set of locations when the register or cell at each of them holds the same word in both; in the
+-- empty set any two are."
+pub record AlikeOn (s : LocationSet) (xs ys : List ℕ) : Type 0 where
+  pub same : (l : ℕ) → member s l ≡ true → getD xs l 0 ≡ getD ys l 0
+
+-- the same answer (stop, observation count, steps, rollbacks, both sets and verdict), and the same trace
+pub record SameCall (f : List ℕ) (a : Areas) (g : List ℕ) (a′ : Areas) : Type 0 where
+  pub answer : runCall f a .answer ≡ runCall g a′ .answer
+  pub trace : traceOf f a ≡ traceOf g a′
+
+-- "Wherever the run ends, finished or stopped, every second state alike to the first on the reported set (same routine, memory
+-- size, public list, window, budget, area lengths) gives the same whole trace, counts, stop, both sets and verdict. If the verdict
+-- is clean, so does every state alike on the public locations."
+pub record Demand3 (f : List ℕ) (a : Areas) : Type 0 where
+  pub reported : {n : Counts} {v : Verdict} → runCall f a .answer .outcome ≡ runs.Ran n v
+      → (g : List ℕ) (a′ : Areas) → SameButState f g → SameLengths a a′
+      → AlikeOn (runCall f a .answer .depends) (stateOf (trailer f) f) (stateOf (trailer f) g)
+      → SameCall f a g a′
+  pub clean : {n : Counts} → runCall f a .answer .outcome ≡ runs.Ran n Clean
+      → (g : List ℕ) (a′ : Areas) → SameButState f g → SameLengths a a′
+      → AlikeOn (publicOf (trailer f) f) (stateOf (trailer f) f) (stateOf (trailer f) g)
+      → SameCall f a g a′

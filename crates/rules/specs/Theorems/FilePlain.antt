@@ -1,0 +1,100 @@
+-- Demand 2 of the calls on job files: where a run finishes, the plain run of the same file in areas of the same lengths finishes,
+-- has the struck-out trace, leaves the same registers and cells, and reports the same plain set.
+-- Assumes nothing.
+use mathlib.Core.Path.{_≡_, refl, sym, ap, ap₂, _∙_}
+use mathlib.Core.List.{List, [], _∷_, _++_}
+use Prim.Native.Nat.{ℕ, zero, suc, _+_, _≤_}
+use native.Mathlib.Omega.{arith}
+use lib.ListN.{length, take}
+use lib.Seq.{take-at}
+use Rattle.location.specs.Sets.{registers}
+use Rattle.rules.specs.declared.Stop.the-variants.{Finished}
+use Rattle.rules.specs.declared.Verdict.{Verdict}
+use Rattle.rules.specs.declared.Counts.{Counts}
+use Rattle.rules.specs.declared.RunOutcome.the-variants as runs
+use Rattle.rules.specs.Rules.Instructions.{Observation, start, rollback, pc, loaded, stored}
+use Rattle.rules.specs.Rules.Plain.{State, values}
+use Rattle.rules.specs.Rules.Runs.{Result, mispredictingRun, plainRun, verdict}
+use Rattle.rules.specs.Rules.JobFile.{trailer}
+use Rattle.rules.specs.Rules.Calls.{traceWords, Areas, room, written, areasAfter, counts, runReport, runCall, plainReport, plainCall}
+use Rattle.rules.specs.Rules.Strike.{strike}
+use Rattle.rules.specs.Rules.Demands.{SameLengths, traceOf, plainTraceOf, endOf, PlainMatch, Demand2}
+use Rattle.rules.specs.Theorems.PlainRun.{PlainMatches, demand2}
+use Rattle.rules.specs.Theorems.Sizes.{values-length, plain-length}
+use Rattle.rules.specs.Theorems.JobLaws.{passed, job-init, length-stateOf}
+use Rattle.rules.specs.Theorems.CallLaws.{Runs, result, call-runs, trace-runs, plainResult, plain-call-runs, plain-trace-runs, view, runs-of, same-room, enough-same}
+
+-- ---- the words of a trace fix it
+-- the observation of a kind with a value, read back from its two words
+readKind : ℕ → ℕ → Observation
+readKind zero v = start v
+readKind (suc zero) v = rollback v
+readKind (suc (suc zero)) v = pc v
+readKind (suc (suc (suc zero))) v = loaded v
+readKind (suc (suc (suc (suc k)))) v = stored v
+
+readTrace : List ℕ → List Observation
+readTrace [] = []
+readTrace (k ∷ []) = []
+readTrace (k ∷ v ∷ ws) = readKind k v ∷ readTrace ws
+
+read-back : (os : List Observation) → readTrace (traceWords os) ≡ os
+unfolding traceWords readTrace readKind
+read-back [] = refl
+read-back (start i ∷ os) = ap (λ (qs : List Observation). start i ∷ qs) (read-back os)
+read-back (rollback i ∷ os) = ap (λ (qs : List Observation). rollback i ∷ qs) (read-back os)
+read-back (pc p ∷ os) = ap (λ (qs : List Observation). pc p ∷ qs) (read-back os)
+read-back (loaded l ∷ os) = ap (λ (qs : List Observation). loaded l ∷ qs) (read-back os)
+read-back (stored l ∷ os) = ap (λ (qs : List Observation). stored l ∷ qs) (read-back os)
+
+pub traceWords-same : {os qs : List Observation} → traceWords os ≡ traceWords qs → os ≡ qs
+traceWords-same {os} {qs} e = sym (read-back os) ∙ ap readTrace e ∙ read-back qs
+
+-- ---- two calls
+module _ {f : List ℕ} {a a′ : Areas} (r : Runs f a) (h : SameLengths a a′) where
+  -- the same job, in the other areas
+  other : Runs f a′
+  other = record { job = r .job; parsed = r .parsed; enough = enough-same (r .job) h ∙ r .enough }
+
+  abbrev plain : Result
+  plain = plainResult other
+
+  -- what the definitions say of the two runs
+  run-matches : result r .stop ≡ Finished → PlainMatches (result r) plain
+  unfolding other
+  run-matches e = rw (same-room h) (demand2 (r .job) (room (a .trace)) e)
+
+  -- both end areas begin with the values of one state
+  front : (σ : State) (area : List ℕ) → length σ ≡ length (r .job .init) → endOf f (written (values σ) area) ≡ values σ
+  unfolding endOf written
+  front σ area e =
+      take-at (values σ) _ (registers + trailer f .cells)
+      (values-length σ ∙ e ∙ ap length (job-init (passed f (r .job) (r .parsed))) ∙ length-stateOf (trailer f) f)
+
+  matches : PlainMatches (result r) plain → PlainMatch f a a′
+  unfolding plainReport areasAfter runReport other
+  matches m =
+      let size : length (plain .last .state) ≡ length (r .job .init) = plain-length (r .job) (room (a′ .trace)) in
+      record {
+        counts = record { stop = plain .stop; observations = length (plain .log .trace); steps = plain .log .steps };
+        finishes = rw (plain-call-runs other);
+        stop = m .stop;
+        trace = λ os e. plain-trace-runs other ∙ ap traceWords (m .trace ∙ ap strike (traceWords-same (sym (trace-runs r) ∙ e)));
+        states = rw (plain-call-runs other, call-runs r, ← m .state)
+            (front (plain .last .state) (a′ .end) size ∙ sym (front (plain .last .state) (a .end) size));
+        plain = rw (plain-call-runs other, call-runs r) (m .plain);
+      }
+
+-- a run's stop is the one that its counts give
+finished-stop : {f : List ℕ} {a : Areas} {n : Counts} {v : Verdict} (r : Runs f a)
+    → runCall f a .answer .outcome ≡ runs.Ran n v → n .stop ≡ Finished → result r .stop ≡ Finished
+unfolding runReport counts
+finished-stop {n = n} {v = v} r e s =
+    let q : runs.Ran (counts (result r)) (verdict (r .job) (result r)) ≡ runs.Ran n v = rw (call-runs r) at e in
+    let c : counts (result r) ≡ n = cc in
+    ap (λ (x : Counts). x .stop) c ∙ s
+
+pub demand2-call : (f : List ℕ) (a : Areas) → Demand2 f a
+demand2-call f a = record {
+  finished = λ e s a′ h. let r = runs-of e (view f a) in matches r h (run-matches r h (finished-stop r e s));
+}

@@ -1,0 +1,81 @@
+-- The ways a step goes, as laws by cases: rollback, opening or ordinary. Proofs about steps cite these and do not open the step.
+-- Assumes nothing.
+use mathlib.Core.Path.{_≡_, refl}
+use mathlib.Core.Bool.{Bool, true, false, cond, _||_, true≢false}
+use mathlib.Core.List.{List, [], _∷_}
+use mathlib.Core.Logic.{_≢_}
+use Prim.Native.Nat.{ℕ, _<_}
+use lib.Dec.{eqb, leb}
+use borrow.Author.Tests.{eqb-false, leb-false}
+use Rattle.rules.specs.Rules.Instructions.{Instr, skip, assign, load, store, jmp, beqz, cassign, spbarr, kind}
+use Rattle.rules.specs.Rules.Plain.{State, Code, end, fetch}
+use Rattle.rules.specs.Rules.Mispredicting.{Branch, Machine, Step, ordinary, opening, forward, rolling, expired, stepOn, step}
+
+-- a machine and a branch by their fields
+abbrev pub machineWith : State → ℕ → List Branch → ℕ → Machine
+machineWith σ p bs n = record { state = σ; place = p; branches = bs; opened = n }
+
+abbrev pub branchWith : ℕ → State → ℕ → ℕ → Branch
+branchWith i σ p v = record { id = i; saved = σ; target = p; window = v }
+
+-- an instruction carried out is rule 2 for beqz, else rule 3
+pub forward-cases : (code : Code) (M : Machine) (P : Instr → Step → Type 0)
+    → ((i : Instr) → eqb (kind i) 5 ≡ false → P i (ordinary code M i))
+    → ((r l : ℕ) → P (beqz r l) (opening code M r l)) → (i : Instr) → P i (forward code M i)
+unfolding forward
+forward-cases code M P o b skip = o skip refl
+forward-cases code M P o b (assign r e) = o (assign r e) refl
+forward-cases code M P o b (load r e) = o (load r e) refl
+forward-cases code M P o b (store r e) = o (store r e) refl
+forward-cases code M P o b (jmp e) = o (jmp e) refl
+forward-cases code M P o b (beqz r l) = b r l
+forward-cases code M P o b (cassign r c e) = o (cassign r c e) refl
+forward-cases code M P o b spbarr = o spbarr refl
+
+-- and is no rollback
+pub forward-back : (code : Code) (M : Machine) (i : Instr) → forward code M i .back ≡ 0
+unfolding ordinary opening
+forward-back code M = forward-cases code M (λ i s. s .back ≡ 0) (λ i e. refl) (λ r l. refl)
+
+-- a branch that has not expired has some window left, and the place is not END
+pub expired-false : (code : Code) (p : ℕ) (b : Branch) → expired code p b ≡ false → (b .window ≢ 0) × (p < end code)
+unfolding expired
+expired-false code p b = go (eqb (b .window) 0) (leb (end code) p) refl refl
+  where
+    go : (x y : Bool) → eqb (b .window) 0 ≡ x → leb (end code) p ≡ y → (x || y) ≡ false → (b .window ≢ 0) × (p < end code)
+    go true y e f h = absurd (true≢false h)
+    go false true e f h = absurd (true≢false h)
+    go false false e f h = (eqb-false (b .window) 0 e, leb-false (end code) p f)
+
+-- with nothing open a step carries the instruction out
+pub step-empty : (code : Code) (σ : State) (p n : ℕ)
+    → step code (machineWith σ p [] n) ≡ forward code (machineWith σ p [] n) (fetch code p)
+unfolding step stepOn
+step-empty code σ p n = refl
+
+-- with a branch open it rolls back where that has expired, else it carries the instruction out
+pub step-open : (code : Code) (σ : State) (p n : ℕ) (b : Branch) (bs : List Branch) (P : Step → Type 0)
+    → (let M = machineWith σ p (b ∷ bs) n in
+    P (rolling M b bs) → (expired code p b ≡ false → P (forward code M (fetch code p))) → P (step code M))
+unfolding step stepOn
+step-open code σ p n b bs P roll on = go (expired code p b) refl
+  where
+    go : (x : Bool) → expired code p b ≡ x
+        → (let M = machineWith σ p (b ∷ bs) n in P (cond x (rolling M b bs) (forward code M (fetch code p))))
+    go true e = roll
+    go false e = on e
+
+-- both together, for any machine
+pub step-cases : (code : Code) (P : Machine → Step → Type 0)
+    → ((σ : State) (p n : ℕ) → (let M = machineWith σ p [] n in P M (forward code M (fetch code p))))
+    → ((σ : State) (p n : ℕ) (b : Branch) (bs : List Branch) → (let M = machineWith σ p (b ∷ bs) n in P M (rolling M b bs)))
+    → ((σ : State) (p n : ℕ) (b : Branch) (bs : List Branch) → expired code p b ≡ false
+    → (let M = machineWith σ p (b ∷ bs) n in P M (forward code M (fetch code p))))
+    → (M : Machine) → P M (step code M)
+step-cases code P none roll on M = go (M .branches)
+  where
+    go : (bs : List Branch) → (let N = machineWith (M .state) (M .place) bs (M .opened) in P N (step code N))
+    go [] = rw step-empty (none (M .state) (M .place) (M .opened))
+    go (b ∷ bs) =
+        step-open code (M .state) (M .place) (M .opened) b bs (λ s. P (machineWith (M .state) (M .place) (b ∷ bs) (M .opened)) s)
+        (roll (M .state) (M .place) (M .opened) b bs) (on (M .state) (M .place) (M .opened) b bs)

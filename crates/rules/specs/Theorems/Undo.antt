@@ -1,0 +1,297 @@
+-- The bounds of a wrong path: "At most w + 1 branches are open, and a live wrong path holds at most w changes of a place." The changes
+-- that are live are an undo log, which takes the state back to each open branch's saved one in turn.
+-- Assumes nothing.
+use mathlib.Core.Path.{_≡_, refl}
+use mathlib.Core.Bool.{Bool, true, false, cond}
+use mathlib.Core.List.{List, [], _∷_, _++_}
+use mathlib.Core.Logic.{_≢_}
+use Prim.Native.Nat.{ℕ, zero, suc, _+_, _-_, _≤_}
+use native.Mathlib.Omega.{arith}
+use lib.Dec.{eqb, ltb}
+use lib.ListN.{length, getD, length-append}
+use lib.Seq.{set-set, set-getD}
+use Rattle.location.specs.Sets.{registerLocation, cellLocation}
+use Rattle.rules.specs.declared.Tagged.{Tagged}
+use Rattle.rules.specs.Rules.Expressions.{eval}
+use Rattle.rules.specs.Rules.Instructions.{Instr, skip, assign, load, store, jmp, beqz, cassign, spbarr, kind, windowCosts}
+use Rattle.rules.specs.Rules.Plain.{State, at, put, Code, fetch, joined, storedTo, branchTo, exec}
+use Rattle.rules.specs.Rules.Mispredicting.{Branch, Machine, Step, remaining, lowered, lower, ordinary, newWindow, opening, forward, rolling, step, plainStep}
+use Rattle.rules.specs.Rules.Loop.{ended}
+use Rattle.rules.specs.Rules.Runs.{over, run, Job, first, blank, mispredictingRun, plainRun}
+use Rattle.rules.specs.Theorems.RunLaws.{run-ind}
+use Rattle.rules.specs.Theorems.StepLaws.{machineWith, branchWith, forward-cases, forward-back, expired-false, step-cases}
+
+-- ---- the machines that a run comes to
+-- by the step function f: the first, and the next of one that is not over
+pub data ReachedBy (f : Machine → Step) (job : Job) : Machine → Type 0 where
+  at-first : ReachedBy f job (first job)
+  at-next : {M : Machine} → over (job .code) M ≡ false → ReachedBy f job M → ReachedBy f job (f M .next)
+
+abbrev pub Reached : Job → Machine → Type 0
+Reached job = ReachedBy (step (job .code)) job
+
+abbrev pub PlainReached : Job → Machine → Type 0
+PlainReached job = ReachedBy (plainStep (job .code)) job
+
+-- "Execution starts at label 0", and each step goes to the next: a run ends at one of them.
+run-reached : (f : Machine → Step) (job : Job) (room : ℕ)
+    → ReachedBy f job (run f (job .code) room (job .budget) (first job) blank .last)
+unfolding ended
+run-reached f job room =
+    run-ind f (job .code) room (λ k M g r. ReachedBy f job M → ReachedBy f job (r .last)) (λ k M g e x. x) (λ M g e x. x)
+    (λ k M g e h x. x) (λ k M g e h p x. p (at-next e x)) (job .budget) (first job) blank at-first
+
+pub last-reached : (job : Job) (room : ℕ) → Reached job (mispredictingRun job room .last)
+unfolding mispredictingRun
+last-reached job room = run-reached (step (job .code)) job room
+
+pub plain-last-reached : (job : Job) (room : ℕ) → PlainReached job (plainRun job room .last)
+unfolding plainRun
+plain-last-reached job room = run-reached (plainStep (job .code)) job room
+
+-- ---- changes of a place, and undoing them
+-- a location with what it held before
+pub record Change : Type 0 where
+  pub location : ℕ
+  pub before : Tagged
+
+abbrev changeAt : State → ℕ → Change
+changeAt σ l = record { location = l; before = at σ l }
+
+-- The change of a place that an instruction makes, if it makes one: "a store there changes nothing"; a conditional assignment not
+-- taken changes the register's set.
+unfoldable pub changes : Code → State → Instr → List Change
+changes code σ skip = []
+changes code σ (assign r e) = changeAt σ (registerLocation r) ∷ []
+changes code σ (load r e) = changeAt σ (registerLocation r) ∷ []
+changes code σ (store r e) =
+    let a = eval (at σ) e in
+    cond (ltb (a .value) (code .cells)) (changeAt σ (cellLocation (a .value)) ∷ []) []
+changes code σ (jmp e) = []
+changes code σ (beqz r l) = []
+changes code σ (cassign r c e) = changeAt σ (registerLocation r) ∷ []
+changes code σ spbarr = []
+
+-- the state before some changes, the newest first
+unfoldable pub restore : List Change → State → State
+restore [] σ = σ
+restore (u ∷ us) σ = restore us (put σ (u .location) (u .before))
+
+pub put-back : (σ : State) (l : ℕ) (t : Tagged) → put (put σ l t) l (at σ l) ≡ σ
+unfolding put at
+put-back σ l t = simp (set-set, set-getD)
+
+-- an instruction that is undone leaves the state as it was
+pub restore-exec : (code : Code) (σ : State) (p : ℕ) (i : Instr) (us : List Change)
+    → restore (changes code σ i ++ us) (exec code σ p i .state) ≡ restore us σ
+unfolding exec changes restore storedTo
+restore-exec code σ p skip us = refl
+restore-exec code σ p (assign r e) us = rw put-back
+restore-exec code σ p (load r e) us = rw put-back
+restore-exec code σ p (store r e) us = go (ltb (eval (at σ) e .value) (code .cells))
+  where
+    go : (x : Bool) → (let a = eval (at σ) e in let l = cellLocation (a .value) in let t = joined (at σ (registerLocation r)) (a .deps) in
+        restore (cond x (changeAt σ l ∷ []) [] ++ us) (cond x (put σ l t) σ) ≡ restore us σ)
+    go true = rw put-back
+    go false = refl
+restore-exec code σ p (jmp e) us = refl
+restore-exec code σ p (beqz r l) us = refl
+restore-exec code σ p (cassign r c e) us = rw put-back
+restore-exec code σ p spbarr us = refl
+
+-- and makes one change at most
+pub changes-one : (code : Code) (σ : State) (i : Instr) → length (changes code σ i) ≤ 1
+unfolding changes
+changes-one code σ skip = omega arith
+changes-one code σ (assign r e) = omega arith
+changes-one code σ (load r e) = omega arith
+changes-one code σ (store r e) = go (ltb (eval (at σ) e .value) (code .cells))
+  where
+    go : (x : Bool) → length (cond x (changeAt σ (cellLocation (eval (at σ) e .value)) ∷ []) []) ≤ 1
+    go true = omega arith
+    go false = omega arith
+changes-one code σ (jmp e) = omega arith
+changes-one code σ (beqz r l) = omega arith
+changes-one code σ (cassign r c e) = omega arith
+changes-one code σ spbarr = omega arith
+
+-- ---- the changes that are live
+-- The undo log, in parts: for each open branch, the top first, the changes made while it was the top, the newest first.
+abbrev pub UndoLog : Type 0
+UndoLog = List (List Change)
+
+unfoldable pub size : UndoLog → ℕ
+size [] = 0
+size (u ∷ us) = length u + size us
+
+unfoldable pub added : List Change → UndoLog → UndoLog
+added c [] = []
+added c (u ∷ us) = (c ++ u) ∷ us
+
+unfoldable pub dropped : UndoLog → UndoLog
+dropped [] = []
+dropped (u ∷ us) = us
+
+-- a branch opens a part; any other instruction adds its change to the newest
+unfoldable pub logForward : Code → State → Instr → UndoLog → UndoLog
+logForward code σ i us = cond (eqb (kind i) 5) ([] ∷ us) (added (changes code σ i) us)
+
+-- The log after a step that makes so many rollbacks, 0 or 1: "Rollback restores sets too", and drops the newest part.
+unfoldable pub logBy : ℕ → Code → Machine → UndoLog → UndoLog
+logBy zero code M us = logForward code (M .state) (fetch code (M .place)) us
+logBy (suc k) code M us = dropped us
+
+unfoldable pub logAfter : Code → Machine → UndoLog → UndoLog
+logAfter code M us = logBy (step code M .back) code M us
+
+-- the machines that a mispredicting run comes to, with the changes that are live there
+pub data Live (job : Job) : Machine → UndoLog → Type 0 where
+  live-first : Live job (first job) []
+  live-next : {M : Machine} {us : UndoLog} → over (job .code) M ≡ false → Live job M us
+      → Live job (step (job .code) M .next) (logAfter (job .code) M us)
+
+-- ---- windows
+-- "a constant table of eight window costs, all 1 here": every instruction costs at least 1
+pub record PositiveCosts (costs : List ℕ) : Type 0 where
+  pub each : (i : Instr) → 1 ≤ getD costs (kind i) 0
+
+pub windowCosts-positive : PositiveCosts windowCosts
+windowCosts-positive = record { each = one }
+  where
+    one : (i : Instr) → 1 ≤ getD windowCosts (kind i) 0
+    one skip = unfold windowCosts in omega arith
+    one (assign r e) = unfold windowCosts in omega arith
+    one (load r e) = unfold windowCosts in omega arith
+    one (store r e) = unfold windowCosts in omega arith
+    one (jmp e) = unfold windowCosts in omega arith
+    one (beqz r l) = unfold windowCosts in omega arith
+    one (cassign r c e) = unfold windowCosts in omega arith
+    one spbarr = unfold windowCosts in omega arith
+
+-- so a window that is lowered falls
+pub remaining-less : (code : Code) → PositiveCosts (code .costs) → (i : Instr) (v : ℕ) → v ≢ 0 → remaining code i v + 1 ≤ v
+unfolding remaining
+remaining-less code h i v ne = go (eqb (kind i) 7)
+  where
+    go : (x : Bool) → cond x 0 (v - getD (code .costs) (kind i) 0) + 1 ≤ v
+    go true = omega (arith, ne)
+    go false = omega (arith, ne, h .each i)
+
+-- ---- the invariant
+-- The log takes the state back to each open branch's saved one, in turn. The window that is left, the changes and the branches below
+-- are at most w together.
+pub data Restores (w : ℕ) : State → UndoLog → List Branch → Type 0 where
+  none : {σ : State} → Restores w σ [] []
+  more : {σ : State} {b : Branch} {bs : List Branch} (u : List Change) (us : UndoLog) → restore u σ ≡ b .saved
+      → b .window + (size (u ∷ us) + length bs) ≤ w → Restores w (b .saved) us bs → Restores w σ (u ∷ us) (b ∷ bs)
+
+pub restores-bound : {w : ℕ} {σ : State} {us : UndoLog} {bs : List Branch} → Restores w σ us bs → size us + length bs ≤ w + 1
+unfolding size
+restores-bound none = omega arith
+restores-bound (more u us e h r) = omega arith
+
+pub restores-changes : {w : ℕ} {σ : State} {us : UndoLog} {bs : List Branch} → Restores w σ us bs → size us ≤ w
+unfolding size
+restores-changes none = omega arith
+restores-changes (more u us e h r) = omega arith
+
+-- a branch opened at the state itself
+restores-open : {w : ℕ} {σ : State} {us : UndoLog} {bs : List Branch} (i t v : ℕ) → v + (size us + length bs) ≤ w
+    → Restores w σ us bs → Restores w σ ([] ∷ us) (branchWith i σ t v ∷ bs)
+unfolding restore size
+restores-open {w} {σ} {us} {bs} i t v h r = more {σ = σ} {b = branchWith i σ t v} {bs = bs} [] us refl (omega arith) r
+
+-- what a step s of M keeps, and the same of an instruction i that is carried out
+abbrev pub Keeps : Code → Machine → Step → Type 0
+Keeps code M s =
+    (us : UndoLog) → Restores (code .window) (M .state) us (M .branches)
+    → Restores (code .window) (s .next .state) (logBy (s .back) code M us) (s .next .branches)
+
+abbrev KeepsOn : Code → Machine → Instr → Step → Type 0
+KeepsOn code M i s =
+    (us : UndoLog) → Restores (code .window) (M .state) us (M .branches)
+    → Restores (code .window) (s .next .state) (logForward code (M .state) i us) (s .next .branches)
+
+module _ (code : Code) (positive : PositiveCosts (code .costs)) (σ : State) (p n : ℕ) where
+  -- ---- with nothing open
+  empty-ordinary : (i : Instr) → eqb (kind i) 5 ≡ false → (let M = machineWith σ p [] n in KeepsOn code M i (ordinary code M i))
+  unfolding ordinary lower logForward added
+  empty-ordinary i e us none = rw e none
+
+  empty-opening : (r l : ℕ) → (let M = machineWith σ p [] n in KeepsOn code M (beqz r l) (opening code M r l))
+  unfolding opening lower newWindow logForward size
+  empty-opening r l us none = restores-open n (branchTo (at σ (registerLocation r)) l (suc p)) (code .window) (omega arith) none
+
+  -- ---- with branch b on top, whose window is left
+  module _ (b : Branch) (bs : List Branch) (ne : b .window ≢ 0) where
+    open-ordinary : (i : Instr) → eqb (kind i) 5 ≡ false
+        → (let M = machineWith σ p (b ∷ bs) n in KeepsOn code M i (ordinary code M i))
+    unfolding ordinary lower logForward added size
+    open-ordinary i e us (more u vs s h r) =
+        let one = changes-one code σ i in
+        let less = remaining-less code positive i (b .window) ne in
+        rw e (more {σ = exec code σ p i .state} {b = lowered code i b} {bs = bs} (changes code σ i ++ u) vs
+        (rw (restore-exec code σ p i u) s) (simp length-append (omega arith)) r)
+
+    open-opening : (r l : ℕ) → (let M = machineWith σ p (b ∷ bs) n in KeepsOn code M (beqz r l) (opening code M r l))
+    unfolding opening lower newWindow logForward size
+    open-opening r l us (more u vs s h q) =
+        let less = remaining-less code positive (beqz r l) (b .window) ne in
+        restores-open n (branchTo (at σ (registerLocation r)) l (suc p)) (remaining code (beqz r l) (b .window)) (omega arith)
+        (more {σ = σ} {b = lowered code (beqz r l) b} {bs = bs} u vs s (omega arith) q)
+
+  keeps-empty : (i : Instr) → (let M = machineWith σ p [] n in KeepsOn code M i (forward code M i))
+  keeps-empty = let M = machineWith σ p [] n in forward-cases code M (KeepsOn code M) empty-ordinary empty-opening
+
+  keeps-open : (b : Branch) (bs : List Branch) → b .window ≢ 0 → (i : Instr)
+      → (let M = machineWith σ p (b ∷ bs) n in KeepsOn code M i (forward code M i))
+  keeps-open b bs ne =
+      let M = machineWith σ p (b ∷ bs) n in forward-cases code M (KeepsOn code M) (open-ordinary b bs ne) (open-opening b bs ne)
+
+  keeps-rolling : (b : Branch) (bs : List Branch) → (let M = machineWith σ p (b ∷ bs) n in Keeps code M (rolling M b bs))
+  unfolding rolling logBy dropped
+  keeps-rolling b bs us (more u vs s h r) = r
+
+-- every step keeps the log right and bounded
+pub keeps-step : (code : Code) → PositiveCosts (code .costs) → (M : Machine) → Keeps code M (step code M)
+unfolding logBy
+keeps-step code positive =
+    step-cases code (Keeps code)
+    (λ σ p n. rw forward-back (keeps-empty code positive σ p n (fetch code p)))
+    (λ σ p n b bs. keeps-rolling code positive σ p n b bs)
+    (λ σ p n b bs e. rw forward-back (keeps-open code positive σ p n b bs (expired-false code p b e .0) (fetch code p)))
+
+-- ---- the theorem
+-- "At most w + 1 branches are open, and a live wrong path holds at most w changes of a place.": of a machine and its undo log. One
+-- added to the other they are at most w + 1, so that both fit one area.
+pub record Bounded (w : ℕ) (M : Machine) (us : UndoLog) : Type 0 where
+  pub restores : Restores w (M .state) us (M .branches)
+  pub few-branches : length (M .branches) ≤ w + 1
+  pub few-changes : size us ≤ w
+  pub together : size us + length (M .branches) ≤ w + 1
+
+bounded : {w : ℕ} {M : Machine} {us : UndoLog} → Restores w (M .state) us (M .branches) → Bounded w M us
+bounded r =
+    let t = restores-bound r in
+    record { restores = r; few-branches = omega arith; few-changes = restores-changes r; together = t }
+
+module _ (job : Job) (positive : PositiveCosts (job .code .costs)) where
+  live-restores : {M : Machine} {us : UndoLog} → Live job M us → Restores (job .code .window) (M .state) us (M .branches)
+  unfolding first logAfter
+  live-restores live-first = none
+  live-restores (live-next {M = M} {us = us} e l) = keeps-step (job .code) positive M us (live-restores l)
+
+  -- "a live wrong path holds at most w changes of a place": of the changes that are live
+  pub live-bounded : {M : Machine} {us : UndoLog} → Live job M us → Bounded (job .code .window) M us
+  live-bounded l = bounded (live-restores l)
+
+-- every machine that a mispredicting run comes to has its live changes
+pub reached-live : {job : Job} {M : Machine} → Reached job M → (us : UndoLog) × Live job M us
+reached-live at-first = ([], live-first)
+reached-live {job} (at-next {M = M} e r) = let l = reached-live r in (logAfter (job .code) M (l .0), live-next e (l .1))
+
+-- "At most w + 1 branches are open", and an undo log of at most w changes serves them all: at every machine that a mispredicting run
+-- of a job comes to, with document 01's window costs.
+pub reached-bounded : (job : Job) → job .code .costs ≡ windowCosts → {M : Machine} → Reached job M
+    → (us : UndoLog) × Bounded (job .code .window) M us
+reached-bounded job same r = let l = reached-live r in (l .0, live-bounded job (rw same windowCosts-positive) (l .1))

@@ -1,0 +1,126 @@
+//! The answers of the three checks, with the numbers and words of the document.
+
+/// Why a run ended.
+#[derive(Debug, Clone, Copy, PartialEq, Eq)]
+pub enum Stop {
+    Finished,
+    Spent,
+    TraceFull,
+}
+
+impl Stop {
+    pub fn number(self) -> u64 {
+        match self {
+            Stop::Finished => 0,
+            Stop::Spent => 1,
+            Stop::TraceFull => 2,
+        }
+    }
+
+    pub fn word(self) -> &'static str {
+        match self {
+            Stop::Finished => "finished",
+            Stop::Spent => "spent",
+            Stop::TraceFull => "trace full",
+        }
+    }
+}
+
+/// What a mispredicting run shows about the locations outside the public list.
+#[derive(Debug, Clone, Copy, PartialEq, Eq)]
+pub enum Verdict {
+    Undecided,
+    Clean,
+    Speculative,
+    Plain,
+}
+
+impl Verdict {
+    pub fn number(self) -> u64 {
+        match self {
+            Verdict::Undecided => 0,
+            Verdict::Clean => 1,
+            Verdict::Speculative => 2,
+            Verdict::Plain => 3,
+        }
+    }
+
+    pub fn word(self) -> &'static str {
+        match self {
+            Verdict::Undecided => "undecided",
+            Verdict::Clean => "clean",
+            Verdict::Speculative => "speculative",
+            Verdict::Plain => "plain",
+        }
+    }
+}
+
+/// The result of comparing two states under one program.
+#[derive(Debug, Clone, Copy, PartialEq, Eq)]
+pub enum PairWord {
+    NotComparable,
+    Undecided,
+    PlainDiffers,
+    LeakShown,
+    Equal,
+}
+
+impl PairWord {
+    pub fn number(self) -> u64 {
+        match self {
+            PairWord::NotComparable => 0,
+            PairWord::Undecided => 1,
+            PairWord::PlainDiffers => 2,
+            PairWord::LeakShown => 3,
+            PairWord::Equal => 4,
+        }
+    }
+
+    pub fn word(self) -> &'static str {
+        match self {
+            PairWord::NotComparable => "not comparable",
+            PairWord::Undecided => "undecided",
+            PairWord::PlainDiffers => "plain differs",
+            PairWord::LeakShown => "leak shown",
+            PairWord::Equal => "equal",
+        }
+    }
+}
+
+/// The answer of a mispredicting run; location k is bit k % 64 of word k / 64 of a set.
+#[derive(Debug, Clone, PartialEq, Eq)]
+pub struct RunAnswer {
+    pub stop: Stop,
+    pub observations: u64,
+    pub steps: u64,
+    pub rollbacks: u64,
+    pub depends: [u64; 4],
+    pub plain: [u64; 4],
+    pub verdict: Verdict,
+}
+
+/// The answer of a plain run.
+#[derive(Debug, Clone, PartialEq, Eq)]
+pub struct PlainAnswer {
+    pub stop: Stop,
+    pub observations: u64,
+    pub steps: u64,
+    pub plain: [u64; 4],
+}
+
+/// What a pair reports of each of its two mispredicting runs.
+#[derive(Debug, Clone, PartialEq, Eq)]
+pub struct RunCounts {
+    pub stop: Stop,
+    pub steps: u64,
+    pub rollbacks: u64,
+    pub observations: u64,
+}
+
+/// The answer of a pair.
+#[derive(Debug, Clone, PartialEq, Eq)]
+pub struct PairAnswer {
+    pub word: PairWord,
+    pub first: RunCounts,
+    pub second: RunCounts,
+}

@@ -1,0 +1,269 @@
+//! The machine: expressions, instructions, the state with its dependency sets, and plain execution.
+
+use crate::location_set::LocationSet;
+use crate::trace::{LOAD, PC, STORE};
+
+pub const REGISTERS: usize = 16;
+
+/// A value with the set of locations it depends on.
+#[derive(Debug, Clone, Copy, PartialEq, Eq)]
+pub struct Word {
+    pub value: u64,
+    pub depends: LocationSet,
+}
+
+/// One token of a postfix expression.
+#[derive(Debug, Clone, Copy, PartialEq, Eq)]
+pub enum Token {
+    Register(usize),
+    Constant(u64),
+    Unary(UnaryOperator),
+    Binary(BinaryOperator),
+}
+
+#[derive(Debug, Clone, Copy, PartialEq, Eq)]
+pub enum UnaryOperator {
+    Neg,
+    Not,
+}
+
+#[derive(Debug, Clone, Copy, PartialEq, Eq)]
+pub enum BinaryOperator {
+    Add,
+    Sub,
+    Mul,
+    And,
+    Or,
+    Xor,
+    Shl,
+    Shr,
+    Eq,
+    Ult,
+}
+
+/// A postfix expression that keeps the postfix rule: no operand is lacking and one value is left.
+#[derive(Debug, Clone, PartialEq, Eq)]
+pub struct Expression(pub Vec<Token>);
+
+/// An instruction with its fields; a label equal to the instruction count is END.
+#[derive(Debug, Clone, PartialEq, Eq)]
+pub enum Instruction {
+    Skip,
+    Assign { register: usize, value: Expression },
+    Load { register: usize, address: Expression },
+    Store { register: usize, address: Expression },
+    Jump { target: Expression },
+    BranchIfZero { register: usize, label: usize },
+    ConditionalAssign { register: usize, condition: Expression, value: Expression },
+    Barrier,
+}
+
+/// Registers and memory cells with their dependency sets.
+#[derive(Debug, Clone, PartialEq, Eq)]
+pub struct State {
+    registers: [Word; REGISTERS],
+    cells: Vec<Word>,
+}
+
+/// An observation with the dependency set of its address, jump value or branch register.
+#[derive(Debug, Clone, Copy, PartialEq, Eq)]
+pub struct Observed {
+    pub kind: u64,
+    pub value: u64,
+    pub depends: LocationSet,
+}
+
+impl Instruction {
+    /// The kind byte, which is also the index into the table of window costs.
+    pub fn kind(&self) -> usize {
+        match self {
+            Instruction::Skip => 0,
+            Instruction::Assign { .. } => 1,
+            Instruction::Load { .. } => 2,
+            Instruction::Store { .. } => 3,
+            Instruction::Jump { .. } => 4,
+            Instruction::BranchIfZero { .. } => 5,
+            Instruction::ConditionalAssign { .. } => 6,
+            Instruction::Barrier => 7,
+        }
+    }
+
+    /// How many observations plain execution of the instruction makes.
+    pub fn plain_observations(&self) -> usize {
+        match self {
+            Instruction::Load { .. }
+            | Instruction::Store { .. }
+            | Instruction::Jump { .. }
+            | Instruction::BranchIfZero { .. } => 1,
+            _ => 0,
+        }
+    }
+}
+
+impl UnaryOperator {
+    fn apply(self, operand: u64) -> u64 {
+        match self {
+            UnaryOperator::Neg => operand.wrapping_neg(),
+            UnaryOperator::Not => !operand,
+        }
+    }
+}
+
+impl BinaryOperator {
+    fn apply(self, left: u64, right: u64) -> u64 {
+        match self {
+            BinaryOperator::Add => left.wrapping_add(right),
+            BinaryOperator::Sub => left.wrapping_sub(right),
+            BinaryOperator::Mul => left.wrapping_mul(right),
+            BinaryOperator::And => left & right,
+            BinaryOperator::Or => left | right,
+            BinaryOperator::Xor => left ^ right,
+            BinaryOperator::Shl => {
+                if right < 64 {
+                    left << right
+                } else {
+                    0
+                }
+            }
+            BinaryOperator::Shr => {
+                if right < 64 {
+                    left >> right
+                } else {
+                    0
+                }
+            }
+            BinaryOperator::Eq => u64::from(left == right),
+            BinaryOperator::Ult => u64::from(left < right),
+        }
+    }
+}
+
+impl State {
+    /// The state at the start of a run; each location depends on itself alone.
+    /// The words stand in the order of the locations: registers, then cells.
+    pub fn new(words: &[u64]) -> State {
+        let initial = |location: usize| Word {
+            value: words[location],
+            depends: LocationSet::single(location),
+        };
+        State {
+            registers: std::array::from_fn(initial),
+            cells: (REGISTERS..words.len()).map(initial).collect(),
+        }
+    }
+
+    pub fn register(&self, register: usize) -> Word {
+        self.registers[register]
+    }
+
+    /// The values alone, registers and then cells.
+    pub fn values(&self) -> Vec<u64> {
+        self.registers.iter().chain(&self.cells).map(|word| word.value).collect()
+    }
+
+    /// The postfix rule, checked when the job is read, keeps every pop from failing.
+    fn evaluate(&self, expression: &Expression) -> Word {
+        let mut stack: Vec<Word> = Vec::with_capacity(8);
+        for &token in &expression.0 {
+            let result = match token {
+                Token::Register(register) => self.registers[register],
+                Token::Constant(value) => Word { value, depends: LocationSet::EMPTY },
+                Token::Unary(operator) => {
+                    let operand = stack.pop().expect("postfix rule");
+                    Word { value: operator.apply(operand.value), ..operand }
+                }
+                Token::Binary(operator) => {
+                    let right = stack.pop().expect("postfix rule");
+                    let left = stack.pop().expect("postfix rule");
+                    Word {
+                        value: operator.apply(left.value, right.value),
+                        depends: left.depends.union(right.depends),
+                    }
+                }
+            };
+            stack.push(result);
+        }
+        stack.pop().expect("postfix rule")
+    }
+
+    /// The index of the cell at an address, if there is such a cell.
+    fn cell_index(&self, address: u64) -> Option<usize> {
+        usize::try_from(address).ok().filter(|&index| index < self.cells.len())
+    }
+
+    /// A load where there is no cell reads 0 and depends on the address alone.
+    fn load(&mut self, register: usize, address: Word) {
+        self.registers[register] = match self.cell_index(address.value) {
+            Some(index) => Word {
+                value: self.cells[index].value,
+                depends: address.depends.union(self.cells[index].depends),
+            },
+            None => Word { value: 0, depends: address.depends },
+        };
+    }
+
+    /// A store where there is no cell changes neither a value nor a set.
+    fn store(&mut self, register: usize, address: Word) {
+        let stored = self.registers[register];
+        if let Some(index) = self.cell_index(address.value) {
+            self.cells[index] =
+                Word { value: stored.value, depends: address.depends.union(stored.depends) };
+        }
+    }
+
+    /// The condition's set joins the register's set whether or not the value is assigned.
+    fn conditional_assign(&mut self, register: usize, condition: Word, value: Word) {
+        let kept = if condition.value != 0 { value } else { self.registers[register] };
+        self.registers[register] =
+            Word { value: kept.value, depends: condition.depends.union(kept.depends) };
+    }
+}
+
+/// Carries out one instruction as the plain run does.
+/// `end` is the instruction count; the result is the next place and what was observed.
+pub fn execute(
+    instruction: &Instruction,
+    state: &mut State,
+    place: usize,
+    end: usize,
+) -> (usize, Option<Observed>) {
+    let next = place + 1;
+    match instruction {
+        Instruction::Skip | Instruction::Barrier => (next, None),
+        Instruction::Assign { register, value } => {
+            state.registers[*register] = state.evaluate(value);
+            (next, None)
+        }
+        Instruction::ConditionalAssign { register, condition, value } => {
+            let (condition, value) = (state.evaluate(condition), state.evaluate(value));
+            state.conditional_assign(*register, condition, value);
+            (next, None)
+        }
+        Instruction::Load { register, address } => {
+            let address = state.evaluate(address);
+            state.load(*register, address);
+            (next, Some(observed(LOAD, address)))
+        }
+        Instruction::Store { register, address } => {
+            let address = state.evaluate(address);
+            state.store(*register, address);
+            (next, Some(observed(STORE, address)))
+        }
+        Instruction::Jump { target } => go_to(state.evaluate(target), end),
+        Instruction::BranchIfZero { register, label } => {
+            let tested = state.register(*register);
+            let target = if tested.value == 0 { *label } else { next };
+            go_to(Word { value: target as u64, ..tested }, end)
+        }
+    }
+}
+
+fn observed(kind: u64, word: Word) -> Observed {
+    Observed { kind, value: word.value, depends: word.depends }
+}
+
+/// A change of place; a target of `end` or more is END, observed as `end`.
+fn go_to(target: Word, end: usize) -> (usize, Option<Observed>) {
+    let value = target.value.min(end as u64);
+    (value as usize, Some(observed(PC, Word { value, ..target })))
+}

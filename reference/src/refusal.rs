@@ -1,0 +1,21 @@
+//! The numbers of the refusals, in the order in which they are checked.
+
+pub const LENGTH: u32 = 1;
+pub const TRAILER: u32 = 2;
+pub const OFFSETS: u32 = 3;
+pub const ENCODING: u32 = 4;
+pub const POSTFIX: u32 = 5;
+pub const BRANCH_LABEL: u32 = 6;
+pub const BYTES_LEFT: u32 = 7;
+pub const PUBLIC_BIT: u32 = 8;
+pub const SECOND_STATE: u32 = 9;
+pub const AREAS: u32 = 10;
+
+/// Refuses with the number unless the condition holds.
+pub fn require(condition: bool, number: u32) -> Result<(), u32> {
+    if condition {
+        Ok(())
+    } else {
+        Err(number)
+    }
+}

@@ -1,0 +1,258 @@
+//! The mispredicting run and the plain run, with the areas that a caller lends them.
+
+use crate::answer::{PlainAnswer, RunAnswer, Stop, Verdict};
+use crate::job::{read_job, Job};
+use crate::location_set::LocationSet;
+use crate::machine::{execute, Instruction, State};
+use crate::refusal::{self, require};
+use crate::trace::{TraceWriter, PC, ROLLBACK, START};
+
+pub const WORKING_WORDS: usize = 4_096;
+
+/// How much each kind of instruction lowers a window, by kind byte.
+const WINDOW_COSTS: [u64; 8] = [1; 8];
+
+/// A branch whose wrong path is being followed.
+struct OpenBranch {
+    id: u64,
+    saved: State,
+    true_target: usize,
+    window: u64,
+}
+
+/// The next step of a mispredicting run, by the rule that makes it.
+enum Step<'a> {
+    Rollback,
+    Open { register: usize, label: usize },
+    Other(&'a Instruction),
+}
+
+/// A mispredicting run between two steps.
+struct SpeculativeRun<'a> {
+    job: &'a Job,
+    trace: TraceWriter<'a>,
+    state: State,
+    place: usize,
+    open: Vec<OpenBranch>,
+    opened: u64,
+    steps: u64,
+    rollbacks: u64,
+    depends: LocationSet,
+    plain: LocationSet,
+}
+
+/// Makes the mispredicting run of a job.
+pub fn run(
+    job: &[u8],
+    trace: &mut [u64],
+    end: &mut [u64],
+    work: &mut [u64],
+) -> Result<RunAnswer, u32> {
+    let job = read_job(job)?;
+    check_areas(&job, end, work)?;
+    let (answer, state) = speculative_run(&job, trace);
+    fill_areas(&state, end, work);
+    Ok(answer)
+}
+
+/// Makes the plain run of a job.
+pub fn plain_run(
+    job: &[u8],
+    trace: &mut [u64],
+    end: &mut [u64],
+    work: &mut [u64],
+) -> Result<PlainAnswer, u32> {
+    let job = read_job(job)?;
+    check_areas(&job, end, work)?;
+    let (answer, state) = sequential_run(&job, trace);
+    fill_areas(&state, end, work);
+    Ok(answer)
+}
+
+fn check_areas(job: &Job, end: &[u64], work: &[u64]) -> Result<(), u32> {
+    let long_enough = work.len() >= WORKING_WORDS && end.len() >= job.initial.len();
+    require(long_enough, refusal::AREAS)
+}
+
+/// Words past those named here keep their contents.
+fn fill_areas(state: &State, end: &mut [u64], work: &mut [u64]) {
+    let values = state.values();
+    end[..values.len()].copy_from_slice(&values);
+    work[..WORKING_WORDS].fill(0);
+}
+
+/// Makes the mispredicting run; gives the answer and the state at the stop.
+pub fn speculative_run(job: &Job, trace: &mut [u64]) -> (RunAnswer, State) {
+    let mut run = SpeculativeRun {
+        job,
+        trace: TraceWriter::new(trace),
+        state: State::new(&job.initial),
+        place: 0,
+        open: Vec::new(),
+        opened: 0,
+        steps: 0,
+        rollbacks: 0,
+        depends: LocationSet::EMPTY,
+        plain: LocationSet::EMPTY,
+    };
+    let stop = run.run_to_stop();
+    let answer = RunAnswer {
+        stop,
+        observations: run.trace.count(),
+        steps: run.steps,
+        rollbacks: run.rollbacks,
+        depends: run.depends.words(),
+        plain: run.plain.words(),
+        verdict: verdict(stop, run.depends, run.plain, job.public),
+    };
+    (answer, run.state)
+}
+
+fn verdict(stop: Stop, depends: LocationSet, plain: LocationSet, public: LocationSet) -> Verdict {
+    if stop != Stop::Finished {
+        Verdict::Undecided
+    } else if depends.is_within(public) {
+        Verdict::Clean
+    } else if !depends.is_within(public.union(plain)) {
+        Verdict::Speculative
+    } else {
+        Verdict::Plain
+    }
+}
+
+impl<'a> SpeculativeRun<'a> {
+    /// Finished is tested first, then spent, then trace full.
+    fn run_to_stop(&mut self) -> Stop {
+        loop {
+            let Some(step) = self.next_step() else {
+                return Stop::Finished;
+            };
+            if self.steps == self.job.budget {
+                return Stop::Spent;
+            }
+            if !self.trace.has_room_for(step.observations()) {
+                return Stop::TraceFull;
+            }
+            self.make(step);
+            self.steps += 1;
+        }
+    }
+
+    /// The next step, or none at END with nothing open.
+    fn next_step(&self) -> Option<Step<'a>> {
+        let at_end = self.place == self.job.program.len();
+        match self.open.last() {
+            Some(top) if top.window == 0 || at_end => Some(Step::Rollback),
+            None if at_end => None,
+            _ => Some(Step::of(&self.job.program[self.place])),
+        }
+    }
+
+    fn make(&mut self, step: Step) {
+        match step {
+            Step::Rollback => self.roll_back(),
+            Step::Open { register, label } => self.open_branch(register, label),
+            Step::Other(instruction) => self.carry_out(instruction),
+        }
+    }
+
+    /// Rule 1. The gathered sets D and plain are not restored.
+    fn roll_back(&mut self) {
+        let top = self.open.pop().expect("a rollback needs an open branch");
+        self.state = top.saved;
+        self.place = top.true_target;
+        self.rollbacks += 1;
+        self.trace.push(ROLLBACK, top.id);
+        self.trace.push(PC, top.true_target as u64);
+    }
+
+    /// Rule 2. A nested branch lowers the old top first and takes what remains there.
+    fn open_branch(&mut self, register: usize, label: usize) {
+        let tested = self.state.register(register);
+        let next = self.place + 1;
+        let (true_target, wrong) = if tested.value == 0 { (label, next) } else { (next, label) };
+        self.gather(tested.depends);
+        self.lower_top(&Instruction::BranchIfZero { register, label });
+        let window = self.open.last().map_or(self.job.window, |top| top.window);
+        let id = self.opened;
+        self.open.push(OpenBranch { id, saved: self.state.clone(), true_target, window });
+        self.opened += 1;
+        self.place = wrong;
+        self.trace.push(START, id);
+        self.trace.push(PC, wrong as u64);
+    }
+
+    /// Rule 3. Only the top's window changes.
+    fn carry_out(&mut self, instruction: &Instruction) {
+        let end = self.job.program.len();
+        let (next, observed) = execute(instruction, &mut self.state, self.place, end);
+        self.place = next;
+        if let Some(observed) = observed {
+            self.gather(observed.depends);
+            self.trace.push(observed.kind, observed.value);
+        }
+        self.lower_top(instruction);
+        if let (Instruction::Barrier, Some(top)) = (instruction, self.open.last_mut()) {
+            top.window = 0;
+        }
+    }
+
+    fn lower_top(&mut self, instruction: &Instruction) {
+        if let Some(top) = self.open.last_mut() {
+            top.window = top.window.saturating_sub(WINDOW_COSTS[instruction.kind()]);
+        }
+    }
+
+    /// Adds an observed set to D, and to the plain set if nothing was open before this step.
+    fn gather(&mut self, observed: LocationSet) {
+        self.depends = self.depends.union(observed);
+        if self.open.is_empty() {
+            self.plain = self.plain.union(observed);
+        }
+    }
+}
+
+impl<'a> Step<'a> {
+    fn of(instruction: &'a Instruction) -> Step<'a> {
+        match *instruction {
+            Instruction::BranchIfZero { register, label } => Step::Open { register, label },
+            _ => Step::Other(instruction),
+        }
+    }
+
+    fn observations(&self) -> usize {
+        match self {
+            Step::Rollback | Step::Open { .. } => 2,
+            Step::Other(instruction) => instruction.plain_observations(),
+        }
+    }
+}
+
+/// Makes the plain run; gives the answer and the state at the stop.
+pub fn sequential_run(job: &Job, trace: &mut [u64]) -> (PlainAnswer, State) {
+    let mut trace = TraceWriter::new(trace);
+    let mut state = State::new(&job.initial);
+    let mut plain = LocationSet::EMPTY;
+    let (mut place, mut steps, end) = (0, 0, job.program.len());
+    let stop = loop {
+        if place == end {
+            break Stop::Finished;
+        }
+        let instruction = &job.program[place];
+        if steps == job.budget {
+            break Stop::Spent;
+        }
+        if !trace.has_room_for(instruction.plain_observations()) {
+            break Stop::TraceFull;
+        }
+        let (next, observed) = execute(instruction, &mut state, place, end);
+        if let Some(observed) = observed {
+            plain = plain.union(observed.depends);
+            trace.push(observed.kind, observed.value);
+        }
+        place = next;
+        steps += 1;
+    };
+    let observations = trace.count();
+    (PlainAnswer { stop, observations, steps, plain: plain.words() }, state)
+}

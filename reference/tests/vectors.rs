@@ -1,0 +1,218 @@
+//! Runs every vector of a vector file; the head of that file describes its format.
+//! The path is the environment variable VECTORS, or `../vectors/document-01.txt` of the package.
+
+mod common;
+
+use std::collections::HashMap;
+use std::path::PathBuf;
+
+use check_box_reference::{compare, listing, plain_run, run, RunCounts};
+use common::{area, area_with, locations, WORK};
+
+/// One block of the file: its key lines, and the lines that begin with "| ".
+#[derive(Default)]
+struct Vector {
+    fields: HashMap<String, String>,
+    text: String,
+}
+
+impl Vector {
+    fn field(&self, key: &str) -> &str {
+        self.fields.get(key).unwrap_or_else(|| panic!("no line \"{key}\""))
+    }
+
+    fn numbers(&self, key: &str) -> Vec<u64> {
+        let parse = |word: &str| word.parse().expect("a decimal number");
+        self.field(key).split_whitespace().map(parse).collect()
+    }
+
+    fn bytes(&self, key: &str) -> Vec<u8> {
+        let text = self.field(key);
+        assert!(text.len().is_multiple_of(2), "odd count of hexadecimal digits");
+        let byte = |at: usize| u8::from_str_radix(&text[at..at + 2], 16).expect("hexadecimal");
+        (0..text.len()).step_by(2).map(byte).collect()
+    }
+
+    fn lent(&self, name: &str) -> usize {
+        let words: Vec<&str> = self.field("lent").split_whitespace().collect();
+        let lent = words.chunks_exact(2).find(|pair| pair[0] == name);
+        lent.expect("a lent area")[1].parse().expect("a length")
+    }
+
+    fn refused(&self) -> Option<u32> {
+        self.fields.get("refused").map(|number| number.parse().expect("a number"))
+    }
+
+    /// The area as it must be afterwards, with the words of a line at its front.
+    fn area_after(&self, name: &str) -> Vec<u64> {
+        match self.refused() {
+            Some(_) => area(self.lent(name)),
+            None => area_with(&self.numbers(name), self.lent(name)),
+        }
+    }
+
+    fn work_after(&self) -> Vec<u64> {
+        match self.refused() {
+            Some(_) => area(self.lent("work")),
+            None => area_with(&[0; WORK], self.lent("work")),
+        }
+    }
+
+    /// The lines of the answer as the file writes them.
+    fn answer_lines(&self, keys: &[&str]) -> Vec<String> {
+        match self.refused() {
+            Some(number) => vec![format!("refused {number}")],
+            None => keys.iter().map(|key| line(key, self.field(key))).collect(),
+        }
+    }
+}
+
+fn line(key: &str, value: &str) -> String {
+    format!("{key} {value}").trim_end().to_string()
+}
+
+fn set_line(key: &str, set: [u64; 4]) -> String {
+    let members: Vec<String> = locations(set).iter().map(usize::to_string).collect();
+    line(key, &members.join(" "))
+}
+
+fn stop_line(stop: check_box_reference::Stop) -> String {
+    line("stop", &stop.word().replace(' ', "-"))
+}
+
+fn refused_lines(number: u32) -> Vec<String> {
+    vec![format!("refused {number}")]
+}
+
+fn check_run(vector: &Vector) {
+    let [mut trace, mut end, mut work] =
+        ["trace", "end", "work"].map(|name| area(vector.lent(name)));
+    let lines = match run(&vector.bytes("job"), &mut trace, &mut end, &mut work) {
+        Err(number) => refused_lines(number),
+        Ok(answer) => {
+            assert_eq!(answer.observations as usize * 2, vector.numbers("trace").len());
+            vec![
+                stop_line(answer.stop),
+                format!("observations {}", answer.observations),
+                format!("steps {}", answer.steps),
+                format!("rollbacks {}", answer.rollbacks),
+                set_line("depends", answer.depends),
+                set_line("plain", answer.plain),
+                line("verdict", answer.verdict.word()),
+            ]
+        }
+    };
+    let keys = ["stop", "observations", "steps", "rollbacks", "depends", "plain", "verdict"];
+    assert_eq!(lines, vector.answer_lines(&keys));
+    check_areas(vector, trace, end, work);
+}
+
+fn check_plain(vector: &Vector) {
+    let [mut trace, mut end, mut work] =
+        ["trace", "end", "work"].map(|name| area(vector.lent(name)));
+    let lines = match plain_run(&vector.bytes("job"), &mut trace, &mut end, &mut work) {
+        Err(number) => refused_lines(number),
+        Ok(answer) => {
+            assert_eq!(answer.observations as usize * 2, vector.numbers("trace").len());
+            vec![
+                stop_line(answer.stop),
+                format!("observations {}", answer.observations),
+                format!("steps {}", answer.steps),
+                set_line("plain", answer.plain),
+            ]
+        }
+    };
+    assert_eq!(lines, vector.answer_lines(&["stop", "observations", "steps", "plain"]));
+    check_areas(vector, trace, end, work);
+}
+
+fn check_areas(vector: &Vector, trace: Vec<u64>, end: Vec<u64>, work: Vec<u64>) {
+    assert_eq!(trace, vector.area_after("trace"), "trace area");
+    assert_eq!(end, vector.area_after("end"), "end area");
+    assert_eq!(work, vector.work_after(), "working area");
+}
+
+fn counts_line(key: &str, counts: &RunCounts) -> String {
+    let RunCounts { stop, steps, rollbacks, observations } = counts;
+    let stop = stop_line(*stop);
+    format!("{key} {stop} observations {observations} steps {steps} rollbacks {rollbacks}")
+}
+
+fn check_pair(vector: &Vector) {
+    let [mut first, mut second, mut work] =
+        ["trace1", "trace2", "work"].map(|name| area(vector.lent(name)));
+    let (job, state) = (vector.bytes("job"), vector.bytes("second"));
+    let lines = match compare(&job, &state, &mut first, &mut second, &mut work) {
+        Err(number) => refused_lines(number),
+        Ok(answer) => {
+            assert_eq!(answer.first.observations as usize * 2, vector.numbers("trace1").len());
+            assert_eq!(answer.second.observations as usize * 2, vector.numbers("trace2").len());
+            vec![
+                line("word", answer.word.word()),
+                counts_line("first-run", &answer.first),
+                counts_line("second-run", &answer.second),
+            ]
+        }
+    };
+    assert_eq!(lines, vector.answer_lines(&["word", "first-run", "second-run"]));
+    assert_eq!(first, vector.area_after("trace1"), "first trace area");
+    assert_eq!(second, vector.area_after("trace2"), "second trace area");
+    assert_eq!(work, vector.work_after(), "working area");
+}
+
+fn check_listing(vector: &Vector) {
+    let text = String::from_utf8(listing(&vector.bytes("job"))).expect("text");
+    assert_eq!(text, vector.text);
+}
+
+fn check(vector: &Vector) {
+    match vector.field("op") {
+        "run" => check_run(vector),
+        "plain" => check_plain(vector),
+        "pair" => check_pair(vector),
+        "listing" => check_listing(vector),
+        other => panic!("unknown op {other}"),
+    }
+}
+
+fn parse(block: &str) -> Vector {
+    let mut vector = Vector::default();
+    for line in block.lines().filter(|line| !line.starts_with('#')) {
+        if let Some(text) = line.strip_prefix('|') {
+            vector.text.push_str(text.strip_prefix(' ').unwrap_or(text));
+            vector.text.push('\n');
+            continue;
+        }
+        let (key, value) = line.split_once(' ').unwrap_or((line, ""));
+        let earlier = vector.fields.insert(key.to_string(), value.to_string());
+        assert!(earlier.is_none(), "line \"{key}\" stands twice in one vector");
+    }
+    vector
+}
+
+fn vectors_path() -> PathBuf {
+    match std::env::var_os("VECTORS") {
+        Some(path) => PathBuf::from(path),
+        None => PathBuf::from(env!("CARGO_MANIFEST_DIR")).join("../vectors/document-01.txt"),
+    }
+}
+
+#[test]
+fn all_vectors() {
+    let path = vectors_path();
+    let file = std::fs::read_to_string(&path).unwrap_or_else(|error| {
+        panic!("cannot read the vector file {}: {error}; set VECTORS to its path", path.display())
+    });
+    let mut ran = 0;
+    let mut disagreeing = Vec::new();
+    let vectors = file.split("\n\n").map(parse).filter(|vector| !vector.fields.is_empty());
+    for vector in vectors {
+        ran += 1;
+        if std::panic::catch_unwind(|| check(&vector)).is_err() {
+            disagreeing.push(vector.field("vector").to_string());
+        }
+    }
+    println!("{ran} vectors ran, {} disagreed", disagreeing.len());
+    assert!(ran > 0, "the vector file {} holds no vector", path.display());
+    assert!(disagreeing.is_empty(), "vectors that disagree: {}", disagreeing.join(", "));
+}
