@@ -13,7 +13,7 @@ use Rattle.location.specs.Sets.{limit}
 use Rattle.rules.specs.declared.Tagged.{Tagged}
 use Rattle.work.specs.declared.BranchEntry.{BranchEntry}
 use Rattle.work.specs.Layout.{changeBase, branchBase}
-use Rattle.work.specs.Words.{taggedIn, storedIn, Change, changeAt, entryAt, entryStored}
+use Rattle.work.specs.Words.{taggedIn, storedIn, changeAt, entryAt, entryStored}
 use Rattle.work.proofs.Laws.{four}
 
 -- the n words from one on are the same in both
@@ -109,8 +109,8 @@ tagged-stored w i v h f =
     let e₂ = in-sets vs w i 2 (omega arith) g in
     let e₃ = in-sets vs w i 3 (omega arith) g in
     let e₄ = in-sets vs w i 4 (omega arith) g in
-    let e : getD (sets w i vs) (i + 1) 0 ∷ getD (sets w i vs) (i + 2) 0 ∷ getD (sets w i vs) (i + 3) 0 ∷ getD (sets w i vs) (i + 4) 0 ∷ [] ≡ v .deps .words =
-    (λ t. e₁ t ∷ e₂ t ∷ e₃ t ∷ e₄ t ∷ []) ∙ four (v .deps .words) h in
+    let F = four (v .deps .words) h in
+    let e = (λ t. e₁ t ∷ e₂ t ∷ e₃ t ∷ e₄ t ∷ []) ∙ F in
     λ t. record { value = e₀ t; deps = record { words = e t } }
 
 pub change-stored : (w : List ℕ) (k l : ℕ) (v : Tagged) → l < limit → length (v .deps .words) ≡ 4 → changeBase k + 6 ≤ length w

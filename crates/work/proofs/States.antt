@@ -1,8 +1,8 @@
 -- The state in the words after stores, after a change, and after changes are undone.
 -- Assumes nothing.
 use mathlib.Core.Path.{_≡_, refl, sym, ap, ap₂, _∙_}
-use mathlib.Core.List.{List, [], _∷_}
-use Prim.Native.Nat.{ℕ, zero, suc, _+_, _-_, _*_, _<_, _≤_}
+use mathlib.Core.List.{List, [], _∷_, _++_}
+use Prim.Native.Nat.{ℕ, zero, suc, _+_, _-_, _<_, _≤_}
 use native.Mathlib.Nat.{add-zero, zero-add, le-refl}
 use native.Mathlib.Numerals.{add-one}
 use native.Mathlib.Omega.{arith}
@@ -13,7 +13,7 @@ use Rattle.rules.specs.declared.Tagged.{Tagged}
 use Rattle.rules.specs.Rules.Expressions.{tagged}
 use Rattle.rules.specs.Rules.Plain.{State, at, put}
 use Rattle.work.specs.Layout.{operandBase, changeBase, branchBase}
-use Rattle.work.specs.Words.{taggedIn, taggedAt, stored, Change, changeAt, changed, undone, entryAt}
+use Rattle.work.specs.Words.{taggedAt, stored, Change, changeAt, changed, undone, entryAt}
 use Rattle.work.specs.Machines.{stateFrom, stateIn, lastChanges, restored, savedAt}
 use Rattle.work.proofs.Ranges.{same-before, same-after, tagged-same, change-same, entry-same, log-same, tagged-stored, change-stored, drop-sets}
 
@@ -60,6 +60,21 @@ from-at w i (suc n) (suc j) d h = let e : suc i + j ≡ i + suc j = omega arith 
 pub state-at : (w : List ℕ) (n l : ℕ) → l < n → at (stateIn w n) l ≡ taggedAt w l
 unfolding at
 state-at w n l h = from-at w 0 n l (tagged 0 empty) h ∙ ap (taggedAt w) (zero-add l)
+
+-- ---- one location more, as the first state is stored
+from-more : (w : List ℕ) (i n : ℕ) → stateFrom w i (suc n) ≡ stateFrom w i n ++ (taggedAt w (i + n) ∷ [])
+from-more w i zero = ap (λ (j : ℕ). taggedAt w j ∷ []) (sym (add-zero i))
+from-more w i (suc n) =
+    let e : suc i + n ≡ i + suc n = omega arith in
+    ap (λ (σ : State). taggedAt w i ∷ σ) (from-more w (suc i) n ∙ ap (λ (j : ℕ). stateFrom w (suc i) n ++ (taggedAt w j ∷ [])) e)
+
+pub state-more : (w : List ℕ) (n : ℕ) (v : Tagged) → length (v .deps .words) ≡ 4 → operandBase n + 5 ≤ length w
+    → stateIn (stored w n v) (suc n) ≡ stateIn w n ++ (v ∷ [])
+state-more w n v e f =
+    let z : 0 + n ≡ n = omega arith in
+    let S = state-before (v .value ∷ v .deps .words) w (operandBase n) 0 n (omega arith) in
+    let X = ap (taggedAt (stored w n v)) z ∙ tagged-stored w (operandBase n) v e f in
+    from-more (stored w n v) 0 n ∙ (λ t. S t ++ (X t ∷ []))
 
 -- a location given its own operand
 own-put : (w : List ℕ) (i n j l : ℕ) → l ≡ i + j → set (stateFrom w i n) j (taggedAt w l) ≡ stateFrom w i n

@@ -50,17 +50,18 @@ machineOf w c n = record {
   opened = c .opened;
 }
 
--- Of d open branches and a log of k changes: the marks rise with the branches, and with nothing open the log is empty. A change
--- or a branch costs the top at least 1 of its window, so that at most W changes and W + 1 branches stand in the words.
-abbrev pub Held : (ℕ → BranchEntry) → ℕ → ℕ → ℕ → Type 0
-Held e W zero k = k ≡ 0
-Held e W (suc d) k = (e d .mark ≤ k) × (k + d + e d .window ≤ W) × Held e W d (e d .mark)
-
 -- "w 0 to 200"
 abbrev pub maxWindow : ℕ
 maxWindow = 200
 
+-- Of d open branches and a log of k changes: the marks rise with the branches, and with nothing open the log is empty. A change
+-- or a branch costs the top at least 1 of its window, so that there are at most 200 changes and 201 branches, and changes and
+-- branches are at most 201 together.
+abbrev pub Held : (ℕ → BranchEntry) → ℕ → ℕ → Type 0
+Held e zero k = k ≡ 0
+Held e (suc d) k = (e d .mark ≤ k) × (k + d + e d .window ≤ maxWindow) × Held e d (e d .mark)
+
 -- the working area is long enough, and the log and the branches do not meet
 pub record Fit (w : List ℕ) (c : Control) : Type 0 where
   pub room : workingWords ≤ length w
-  pub held : Held (entryAt w) maxWindow (c .depth) (c .log)
+  pub held : Held (entryAt w) (c .depth) (c .log)

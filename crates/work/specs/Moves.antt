@@ -3,7 +3,7 @@
 use mathlib.Core.Path.{_≡_}
 use mathlib.Core.Bool.{Bool, false, _||_}
 use mathlib.Core.List.{List, [], _∷_}
-use Prim.Native.Nat.{ℕ, suc, _+_, _^_, _<_, _≤_}
+use Prim.Native.Nat.{ℕ, suc, _≤_}
 use lib.Dec.{eqb, leb}
 use lib.ListN.{drop}
 use Rattle.location.specs.Sets.{limit}
@@ -12,8 +12,7 @@ use Rattle.rules.specs.Rules.Mispredicting.{Branch, Machine, rolling}
 use Rattle.work.specs.declared.machine.Control.{Control}
 use Rattle.work.specs.declared.machine.RolledBack.{RolledBack}
 use Rattle.work.specs.Layout.{labels}
-use Rattle.work.specs.Words.{windowIn}
-use Rattle.work.specs.Machines.{machineOf, maxWindow, Fit}
+use Rattle.work.specs.Machines.{machineOf, Fit}
 
 -- the top's window, and 0 with nothing open
 abbrev pub topWindow : List Branch → ℕ
@@ -48,13 +47,6 @@ openingNext M p target w v = record {
   opened = suc (M .opened);
 }
 
--- What rule 2 asks: the window w is one that a job may have, the top's is lowered, and the next id is a number of 64 bits.
-pub record Opens (ws : List ℕ) (c : Control) (w v : ℕ) : Type 0 where
-  pub fits : Fit ws c
-  pub window : w ≤ maxWindow
-  pub lowers : 0 < c .depth → v < windowIn ws (c .depth)
-  pub id : c .opened + 1 < 2 ^ 64
-
 -- The words of one machine become those of the next, for any number of locations. The words from the table of labels on stay.
 pub record Moves (w w′ : List ℕ) (c c′ : Control) (next : Machine → Machine) : Type 0 where
   pub machine : (n : ℕ) → n ≤ limit → machineOf w′ c′ n ≡ next (machineOf w c n)
@@ -63,7 +55,7 @@ pub record Moves (w w′ : List ℕ) (c c′ : Control) (next : Machine → Mach
 
 -- Rule 1 on the top branch b.
 pub record RollsBack (w w′ : List ℕ) (c : Control) (r : RolledBack) : Type 0 where
-  pub machine : (n : ℕ) (b : Branch) (bs : List Branch) → n ≤ limit → machineOf w c n .branches ≡ b ∷ bs
+  pub machine : (n : ℕ) (b : Branch) (bs : List Branch) → machineOf w c n .branches ≡ b ∷ bs
       → machineOf w′ (r .control) n ≡ rolling (machineOf w c n) b bs .next
   pub id : (n : ℕ) (b : Branch) (bs : List Branch) → machineOf w c n .branches ≡ b ∷ bs → r .id ≡ b .id
   pub target : (n : ℕ) (b : Branch) (bs : List Branch) → machineOf w c n .branches ≡ b ∷ bs → r .target ≡ b .target

@@ -76,7 +76,8 @@ pub fn store(work: &mut [u64], l: Location, v: Tagged)
 
 // Location l takes v; its operand of before goes to the log as change number count.
 pub fn change(work: &mut [u64], count: usize, l: Location, v: Tagged)
-    requires { ⌜ (operandBase (l .0) + 5 ≤ length (now work)) × (changeBase count + 6 ≤ length (now work)) ⌝ }
+    requires { ⌜ operandBase (l .0) + 5 ≤ length (now work) ⌝ }
+    requires { ⌜ changeBase count + 6 ≤ length (now work) ⌝ }
     ensures { λ _. ⌜ now (work .exit) ≡ changed (now (work .entry)) count (l .0) v ⌝ }
 {
     let entry = LOG + CHANGE * count;
@@ -103,7 +104,8 @@ pub fn undo(work: &mut [u64], count: usize, mark: usize)
 
 // What stands as branch number k.
 pub fn load_branch(work: &[u64], k: usize) -> BranchEntry
-    requires { ⌜ (4 * k ≤ 1202) × (branchBase k + 4 ≤ length (now work)) ⌝ }
+    requires { ⌜ 4 * k ≤ 1202 ⌝ }
+    requires { ⌜ branchBase k + 4 ≤ length (now work) ⌝ }
     ensures { λ r. ⌜ r ≡ entryAt (now (work .entry)) k ⌝ }
 {
     let at = LOG + (BRANCHES - ENTRY * k);
@@ -116,7 +118,8 @@ pub fn load_branch(work: &[u64], k: usize) -> BranchEntry
 }
 
 pub fn push_branch(work: &mut [u64], k: usize, b: BranchEntry)
-    requires { ⌜ (4 * k ≤ 1202) × (branchBase k + 4 ≤ length (now work)) ⌝ }
+    requires { ⌜ 4 * k ≤ 1202 ⌝ }
+    requires { ⌜ branchBase k + 4 ≤ length (now work) ⌝ }
     ensures { λ _. ⌜ now (work .exit) ≡ entryStored (now (work .entry)) k b ⌝ }
 {
     let at = LOG + (BRANCHES - ENTRY * k);
@@ -127,7 +130,8 @@ pub fn push_branch(work: &mut [u64], k: usize, b: BranchEntry)
 }
 
 pub fn set_window(work: &mut [u64], k: usize, window: usize)
-    requires { ⌜ (4 * k ≤ 1202) × (branchBase k + 4 ≤ length (now work)) ⌝ }
+    requires { ⌜ 4 * k ≤ 1202 ⌝ }
+    requires { ⌜ branchBase k + 4 ≤ length (now work) ⌝ }
     ensures { λ _. ⌜ now (work .exit) ≡ set (now (work .entry)) (branchBase k + 2) window ⌝ }
 {
     work[LOG + (BRANCHES - ENTRY * k) + 2] = window as u64;

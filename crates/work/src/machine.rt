@@ -4,14 +4,14 @@ use super::BranchEntry;
 use location::Location;
 use rules::Tagged;
 ghost use mathlib.Core.Path.{_≡_};
-ghost use Prim.Native.Nat.{ℕ, _<_, _≤_};
+ghost use Prim.Native.Nat.{ℕ, _+_, _^_, _<_, _≤_};
 ghost use lib.ListN.{length};
 ghost use Rattle.location.specs.Sets.{limit};
 ghost use Rattle.rules.specs.Rules.Calls.{workingWords};
 ghost use Rattle.rules.specs.Rules.Plain.{put};
 ghost use Rattle.work.specs.Words.{windowIn, loweredIn, windowAfter};
-ghost use Rattle.work.specs.Machines.{machineOf, Fit};
-ghost use Rattle.work.specs.Moves.{Opens, Moves, RollsBack, ordinaryNext, openingNext, expiredOn};
+ghost use Rattle.work.specs.Machines.{machineOf, maxWindow, Fit};
+ghost use Rattle.work.specs.Moves.{Moves, RollsBack, ordinaryNext, openingNext, expiredOn};
 
 // The place, how many branches are open, how many changes are logged, and how many branches were opened in all.
 pub struct Control {
@@ -30,7 +30,8 @@ pub struct RolledBack {
 
 // Rule 1: the top branch is dropped, and every location gets back what it held when the branch was opened.
 pub fn roll_back(work: &mut [u64], c: Control) -> RolledBack
-    requires { ⌜ Fit (now work) c × (0 < c .depth) ⌝ }
+    requires { ⌜ Fit (now work) c ⌝ }
+    requires { ⌜ 0 < c .depth ⌝ }
     ensures { λ r. ⌜ RollsBack (now (work .entry)) (now (work .exit)) c r ⌝ }
 {
     let depth = c.depth - 1;
@@ -51,9 +52,10 @@ pub fn roll_back(work: &mut [u64], c: Control) -> RolledBack
     }
 }
 
-// Of the top's window so much is left, if a branch is open.
+// So much is left of the top's window, if a branch is open.
 fn lower_top(work: &mut [u64], depth: usize, remaining: usize)
-    requires { ⌜ (depth ≤ 201) × (workingWords ≤ length (now work)) ⌝ }
+    requires { ⌜ depth ≤ maxWindow + 1 ⌝ }
+    requires { ⌜ workingWords ≤ length (now work) ⌝ }
     ensures { λ _. ⌜ now (work .exit) ≡ loweredIn (now (work .entry)) depth remaining ⌝ }
 {
     if depth == 0 {
@@ -72,27 +74,31 @@ fn new_window(depth: usize, window: usize, remaining: usize) -> usize
     remaining
 }
 
-// Rule 2: a branch is opened. The machine goes on at a wrong place; w is the window of a branch that is opened with none open.
+// Rule 2: a branch is opened, and the machine goes on at the wrong place. `window` is what a branch has that is opened with
+// nothing open.
 pub fn open_branch(
     work: &mut [u64],
     c: Control,
     wrong: usize,
     target: usize,
-    w: usize,
+    window: usize,
     remaining: usize,
 ) -> Control
-    requires { ⌜ Opens (now work) c w remaining ⌝ }
-    ensures { λ r. ⌜ Moves (now (work .entry)) (now (work .exit)) c r (λ M. openingNext M wrong target w remaining) ⌝ }
+    requires { ⌜ Fit (now work) c ⌝ }
+    requires { ⌜ (0 < c .depth → remaining < windowIn (now work) (c .depth)) ⌝ }
+    requires { ⌜ window ≤ maxWindow ⌝ }
+    requires { ⌜ c .opened + 1 < 2 ^ 64 ⌝ }
+    ensures { λ r. ⌜ Moves (now (work .entry)) (now (work .exit)) c r (λ M. openingNext M wrong target window remaining) ⌝ }
 {
     let depth = c.depth;
     let log = c.log;
     let opened = c.opened;
-    let window = new_window(depth, w, remaining);
+    let own = new_window(depth, window, remaining);
     lower_top(&mut work[..], depth, remaining);
     let b = BranchEntry {
         id: opened,
         target,
-        window,
+        window: own,
         mark: log,
     };
     super::push_branch(&mut work[..], depth, b);
@@ -113,7 +119,9 @@ pub fn assign(
     place: usize,
     remaining: usize,
 ) -> Control
-    requires { ⌜ Fit (now work) c × ((l .0 < limit) × (0 < c .depth → remaining < windowIn (now work) (c .depth))) ⌝ }
+    requires { ⌜ Fit (now work) c ⌝ }
+    requires { ⌜ (0 < c .depth → remaining < windowIn (now work) (c .depth)) ⌝ }
+    requires { ⌜ l .0 < limit ⌝ }
     ensures { λ r. ⌜ Moves (now (work .entry)) (now (work .exit)) c r (λ M. ordinaryNext M (put (M .state) (l .0) v) place remaining) ⌝ }
 {
     let depth = c.depth;
@@ -140,7 +148,8 @@ pub fn assign(
 
 // Rule 3 for an instruction that changes no location.
 pub fn go(work: &mut [u64], c: Control, place: usize, remaining: usize) -> Control
-    requires { ⌜ Fit (now work) c × (0 < c .depth → remaining ≤ windowIn (now work) (c .depth)) ⌝ }
+    requires { ⌜ Fit (now work) c ⌝ }
+    requires { ⌜ (0 < c .depth → remaining ≤ windowIn (now work) (c .depth)) ⌝ }
     ensures { λ r. ⌜ Moves (now (work .entry)) (now (work .exit)) c r (λ M. ordinaryNext M (M .state) place remaining) ⌝ }
 {
     let depth = c.depth;

@@ -1,6 +1,5 @@
 -- `change` meets its contract: the words after its three stores are those of a change. Assumes nothing.
 use mathlib.Core.Path.{_≡_, ap, _∙_}
-use Prim.Native.Nat.{_+_}
 use native.Mathlib.Omega.{arith}
 use lib.ListN.{length, length-set}
 use Rattle.work.specs.Layout.{changeBase}
@@ -9,15 +8,6 @@ use Rattle.work.proofs.Laws.{change-law, length-changed}
 use borrow.Author.Needs.{needs}
 use Rattle.work.proofs.change.Statement.{statement}
 use Rattle.work.proofs.change.Tie as tie
-
--- the words at the end
-final : (c : tie.After-slice-known3)
-    → c .before .before .store .last .0
-    ≡ changed (c .before .before .before .before .before .before .before .before .before .before .before .before .args .work .now) (c .before .before .before .before .before .before .before .before .before .before .before .before .args .count) (c .before .before .before .before .before .before .before .before .before .before .before .before .args .l .0) (c .before .before .before .before .before .before .before .before .before .before .before .before .args .v)
-final c =
-    let a = c .before .before .before .before .before .before .before .before .before .before .before .before .args in
-    change-law (a .work .now) (c .before .before .before .before .before .before .store-at .last .0) (c .before .before .store .last .0) (a .count) (a .l .0) (c .before .before .before .before .before .before .before .before .index .result) (a .v)
-    (c .before .before .before .before .before .before .before .before .before .load .result) (c .before .before .before .before .before .before .before .before .index .ensures) (c .before .before .before .before .before .before .before .before .before .load .ensures) (c .before .before .before .before .before .before .store-at .ensures) (c .before .before .store .ensures)
 
 mul-entry : tie.Need-mul-entry
 mul-entry c = search needs
@@ -46,15 +36,24 @@ store-at-requires c κs = simp length-set (omega arith)
 store-requires : tie.Need-store-requires
 store-requires c κs =
     let a = c .before .before .before .before .before .before .before .before .before .args in
-    omega (arith, c .before .before .before .store-at .kept .0, length-set (a .work .now) (changeBase (a .count)) (c .before .before .before .before .before .index .result))
+    let h = length-set (a .work .now) (changeBase (a .count)) (c .before .before .before .before .before .index .result) in
+    omega (arith, c .before .before .before .store-at .kept .0)
 
 same-length : tie.Need-same-length
 same-length c =
     let a = c .before .before .before .before .before .before .before .before .before .before .before .before .args in
-    ap length (final c) ∙ length-changed (a .work .now) (a .count) (a .l .0) (a .v)
+    let h = length-set (a .work .now) (changeBase (a .count)) (c .before .before .before .before .before .before .before .before .index .result) in
+    omega (arith, c .before .before .before .before .before .before .store-at .kept .0, c .before .before .store .kept .0)
 
 returns : tie.Need-returns
-returns c = final c
+returns c =
+    let a = c .before .before .before .before .before .before .before .before .before .before .before .before .args in
+    let j = c .before .before .before .before .before .before .before .before .index in
+    let x = c .before .before .before .before .before .before .before .before .before .load in
+    let g₁ = c .before .before .before .before .before .before .store-at in
+    let g₂ = c .before .before .store in
+    change-law (a .work .now) (g₁ .last .0) (g₂ .last .0) (a .count) (a .l .0) (j .result) (a .v) (x .result) (j .ensures) (x .ensures) (g₁ .ensures)
+    (g₂ .ensures)
 
 pub change-spec : {M : Type 1} → statement M
 change-spec =

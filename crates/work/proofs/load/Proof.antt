@@ -1,7 +1,6 @@
 -- `load` meets its contract: the operand stands at its location. Assumes nothing.
 use mathlib.Core.Path.{ap, _∙_}
-use Prim.Native.Nat.{ℕ, _*_}
-use Rattle.work.specs.Words.{taggedIn, taggedAt}
+use Rattle.work.specs.Words.{taggedAt}
 use borrow.Author.Needs.{needs}
 use Rattle.work.proofs.load.Statement.{statement}
 use Rattle.work.proofs.load.Tie as tie

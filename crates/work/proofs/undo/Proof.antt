@@ -1,6 +1,6 @@
 -- `undo` meets its contract. The invariant: undoing what is left gives what undoing all gives at first. Assumes nothing.
-use mathlib.Core.Path.{_≡_, refl, sym, ap, _∙_}
-use Prim.Native.Nat.{ℕ, _+_, _-_, _*_, _%_, _≤_, _<_}
+use mathlib.Core.Path.{_≡_, refl, ap, _∙_}
+use Prim.Native.Nat.{ℕ, _+_, _-_, _%_, _≤_}
 use native.Mathlib.Omega.{arith}
 use borrow.Author.Needs.{needs}
 use lib.ListN.{length, getD}
@@ -56,11 +56,11 @@ loop-again c =
     let v = c .before .before .before .before .before .before .before .before .loop in
     let k = v .k - 1 in
     let s : k + 1 ≡ v .k = omega arith in
-    let t =
-    undo-law (v .work) (c .before .before .store-at .last .0) k (a .mark) (getD (v .work) (changeBase k) 0 % limit)
-    (c .before .before .before .before .before .load-at .result) (omega arith) refl (c .before .before .before .before .before .load-at .ensures)
-    (c .before .before .store-at .ensures) in
-    (omega arith, omega (arith, c .before .before .store-at .kept .0), t ∙ ap (λ (j : ℕ). undone (v .work) j (j - a .mark)) s ∙ v .inv .2)
+    let l = getD (v .work) (changeBase k) 0 % limit in
+    let o = c .before .before .before .before .before .load-at in
+    let g = c .before .before .store-at in
+    let t = undo-law (v .work) (g .last .0) k (a .mark) l (o .result) (omega arith) refl (o .ensures) (g .ensures) in
+    (omega arith, omega (arith, g .kept .0), t ∙ ap (λ (j : ℕ). undone (v .work) j (j - a .mark)) s ∙ v .inv .2)
 
 same-length : tie.Need-same-length Inv-loop μ-loop
 same-length c = c .before .loop .inv .1

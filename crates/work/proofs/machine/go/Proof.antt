@@ -1,16 +1,14 @@
 -- `go` meets its contract. Assumes nothing.
 use native.Mathlib.Omega.{arith}
-use Rattle.work.specs.Words.{entryAt}
-use Rattle.work.specs.Machines.{maxWindow}
-use Rattle.work.proofs.Moves.{held-bound, moved-to, go-law}
+use Rattle.work.proofs.Moves.{fit-bound, moved-to, go-law}
 use borrow.Author.Needs.{needs}
 use Rattle.work.proofs.machine.go.Statement.{statement}
 use Rattle.work.proofs.machine.go.Tie as tie
 
 lower-top-requires : tie.Need-lower-top-requires
 lower-top-requires c κs =
-    let a = c .before .before .args in
-    omega (arith, held-bound (entryAt (a .work .now)) maxWindow (a .c .depth) (a .c .log) (c .before .before .pre .0 .held), c .before .before .pre .0 .room)
+    let f = c .before .before .pre .0 in
+    omega (arith, fit-bound f, f .room)
 
 same-length : tie.Need-same-length
 same-length c = search needs

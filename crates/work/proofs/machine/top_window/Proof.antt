@@ -1,11 +1,9 @@
 -- `top_window` meets its contract: the window is that of the last branch. Assumes nothing.
-use mathlib.Core.Path.{_≡_, ap, _∙_}
-use Prim.Native.Nat.{_+_, _-_, _*_, _≤_}
+use mathlib.Core.Path.{ap, _∙_}
+use Prim.Native.Nat.{_-_}
 use native.Mathlib.Omega.{arith}
 use Rattle.work.specs.declared.BranchEntry.{BranchEntry}
-use Rattle.work.specs.Words.{entryAt}
-use Rattle.work.specs.Machines.{maxWindow}
-use Rattle.work.proofs.Moves.{held-bound, window-above}
+use Rattle.work.proofs.Moves.{fit-bound, window-above}
 use borrow.Author.Needs.{needs}
 use Rattle.work.proofs.machine.top_window.Statement.{statement}
 use Rattle.work.proofs.machine.top_window.Tie as tie
@@ -18,8 +16,8 @@ sub-load-branch c = search needs
 
 load-branch-requires : tie.Need-load-branch-requires
 load-branch-requires c κs =
-    let a = c .before .before .args in
-    omega (arith, held-bound (entryAt (a .work .now)) maxWindow (a .c .depth) (a .c .log) (c .before .before .pre .held), c .before .before .pre .room)
+    let f = c .before .before .pre in
+    omega (arith, fit-bound f, f .room)
 
 returns-2 : tie.Need-returns-2
 returns-2 c =
