@@ -3,6 +3,7 @@
 use mathlib.Core.Path.{_≡_, refl, sym, ap, _∙_, subst, subst₂}
 use mathlib.Core.List.{List, [], _∷_}
 use Prim.Native.Nat.{ℕ, zero, suc, _+_, _-_, _*_, _<_, _≤_}
+use native.Mathlib.Nat.{pos-of-ne-zero}
 use native.Mathlib.Numerals.{add-one}
 use native.Mathlib.Omega.{arith}
 use lib.ListN.{length, drop, set, length-set}
@@ -33,6 +34,19 @@ fit-bound {w} {c} f = held-bound (entryAt w) (c .depth) (c .log) (f .held)
 -- the same move, to words that are equal
 pub moved-to : {w u u′ : List ℕ} {c c′ : Control} {next : Machine → Machine} → u′ ≡ u → Moves w u c c′ next → Moves w u′ c c′ next
 moved-to {w} {u} {u′} {c} {c′} {next} e m = subst (λ (x : List ℕ). Moves w x c c′ next) (sym e) m
+
+-- ---- what the code does of d branches, where d is not 0
+pub window-above : (w : List ℕ) (d : ℕ) → (d ≡ 0 → ⊥) → entryAt w (d - 1) .window ≡ windowIn w d
+window-above w zero h = absurd (h refl)
+window-above w (suc d) h = let s : suc d - 1 ≡ d = omega arith in ap (λ (j : ℕ). entryAt w j .window) s
+
+pub lowered-above : (w : List ℕ) (d v : ℕ) → (d ≡ 0 → ⊥) → set w (branchBase (d - 1) + 2) v ≡ loweredIn w d v
+lowered-above w zero v h = absurd (h refl)
+lowered-above w (suc d) v h = let s : suc d - 1 ≡ d = omega arith in ap (λ (j : ℕ). set w (branchBase j + 2) v) s
+
+pub after-above : (d u v : ℕ) → (d ≡ 0 → ⊥) → v ≡ windowAfter d u v
+after-above zero u v h = absurd (h refl)
+after-above (suc d) u v h = refl
 
 -- ---- rule 3, with the state as it is
 pub go-law : (w : List ℕ) (p₀ d k o p v : ℕ) → Fit w (record { place = p₀; depth = d; log = k; opened = o }) → (0 < d → v ≤ windowIn w d)
@@ -83,10 +97,14 @@ module _ (w : List ℕ) (c : Control) (l p v : ℕ) (x : Tagged) (f : Fit w c) (
         frame = drop-sets xs w (operandBase l) labels (omega (arith, e));
       }
 
-  pub assign-open : (d : ℕ) → c .depth ≡ suc d → v < entryAt w d .window
-      → Moves w (set (changed w k l x) (branchBase d + 2) v) c (record { place = p; depth = c .depth; log = k + 1; opened = c .opened })
+  pub assign-open : (c .depth ≡ 0 → ⊥) → (0 < c .depth → v < windowIn w (c .depth))
+      → Moves w (loweredIn (changed w k l x) (c .depth) v) c (record { place = p; depth = c .depth; log = k + 1; opened = c .opened })
       (λ M. ordinaryNext M (put (M .state) l x) p v)
-  assign-open d s b =
+  assign-open o b =
+      let d = c .depth - 1 in
+      let s : c .depth ≡ suc d = omega (arith, pos-of-ne-zero o) in
+      let b₁ = b (pos-of-ne-zero o) in
+      let b₂ = window-above w (c .depth) o in
       let w₁ = changed w k l x in
       let w₂ = set w₁ (branchBase d + 2) v in
       let ls = l ∷ taggedAt w l .value ∷ taggedAt w l .deps .words in
@@ -96,7 +114,8 @@ module _ (w : List ℕ) (c : Control) (l p v : ℕ) (x : Tagged) (f : Fit w c) (
       let X : (n : ℕ) → n ≤ limit → Extends w w₁ n k (k + 1) d = λ n hn. extends-changed w n k d l x (f .room) hn hl e (omega arith) in
       let X₀ = X 0 (omega arith) in
       let H = lowered-held w w₁ 0 k (k + 1) d v X₀ (omega arith) a h (omega arith) in
-      record {
+      moved-to {u = w₂} (sym (lowered-above w₁ (c .depth) v o))
+      (record {
         machine = λ n hn.
             let C = changed-state w n k l x hn hl (omega (arith, f .room)) e in
             let S = lowered-state w w₁ n k (k + 1) d v (X n hn) hn a h ∙ C in
@@ -110,7 +129,7 @@ module _ (w : List ℕ) (c : Control) (l p v : ℕ) (x : Tagged) (f : Fit w c) (
             drop-sets (v ∷ []) w₁ (branchBase d + 2) labels (omega arith)
             ∙ drop-sets xs (sets w (changeBase k) ls) (operandBase l) labels (omega (arith, e))
             ∙ drop-sets ls w (changeBase k) labels (omega arith);
-      }
+      })
 
 -- ---- rule 2
 new-window : (e : ℕ → BranchEntry) (g : ℕ → Change) (σ : State) (k d u v : ℕ) → windowAfter d u v ≡ windowOn (branchesOf e g σ k d) u v
@@ -242,16 +261,3 @@ module _ (w w₁ : List ℕ) (c : Control) (y : BranchEntry) (f : Fit w c) (h : 
         };
         frame = drop-past w₁ w 1280 labels (omega arith) past;
       }
-
--- ---- what the code does of d branches, where d is not 0
-pub window-above : (w : List ℕ) (d : ℕ) → (d ≡ 0 → ⊥) → entryAt w (d - 1) .window ≡ windowIn w d
-window-above w zero h = absurd (h refl)
-window-above w (suc d) h = let s : suc d - 1 ≡ d = omega arith in ap (λ (j : ℕ). entryAt w j .window) s
-
-pub lowered-above : (w : List ℕ) (d v : ℕ) → (d ≡ 0 → ⊥) → set w (branchBase (d - 1) + 2) v ≡ loweredIn w d v
-lowered-above w zero v h = absurd (h refl)
-lowered-above w (suc d) v h = let s : suc d - 1 ≡ d = omega arith in ap (λ (j : ℕ). set w (branchBase j + 2) v) s
-
-pub after-above : (d u v : ℕ) → (d ≡ 0 → ⊥) → v ≡ windowAfter d u v
-after-above zero u v h = absurd (h refl)
-after-above (suc d) u v h = refl

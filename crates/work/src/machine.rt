@@ -137,7 +137,7 @@ pub fn assign(
         };
     }
     super::change(&mut work[..], log, l, v);
-    super::set_window(&mut work[..], depth - 1, remaining);
+    lower_top(&mut work[..], depth, remaining);
     Control {
         place,
         depth,

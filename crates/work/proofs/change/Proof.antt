@@ -1,10 +1,8 @@
 -- `change` meets its contract: the words after its three stores are those of a change. Assumes nothing.
-use mathlib.Core.Path.{_≡_, ap, _∙_}
 use native.Mathlib.Omega.{arith}
-use lib.ListN.{length, length-set}
+use lib.ListN.{length-set}
 use Rattle.work.specs.Layout.{changeBase}
-use Rattle.work.specs.Words.{changed}
-use Rattle.work.proofs.Laws.{change-law, length-changed}
+use Rattle.work.proofs.Laws.{change-law}
 use borrow.Author.Needs.{needs}
 use Rattle.work.proofs.change.Statement.{statement}
 use Rattle.work.proofs.change.Tie as tie

@@ -1,13 +1,11 @@
 -- `assign` meets its contract: with nothing open a store, else a change with the top lowered. Assumes nothing.
 use mathlib.Core.Path.{_≡_, ap, _∙_}
 use mathlib.Core.List.{List}
-use Prim.Native.Nat.{ℕ, suc, _+_, _-_, _<_}
-use native.Mathlib.Nat.{pos-of-ne-zero}
+use Prim.Native.Nat.{ℕ}
 use native.Mathlib.Omega.{arith}
-use lib.ListN.{length, set}
-use Rattle.work.specs.Layout.{branchBase}
-use Rattle.work.specs.Words.{entryAt}
-use Rattle.work.proofs.Moves.{fit-bound, window-above, moved-to, assign-plain, assign-open}
+use lib.ListN.{length}
+use Rattle.work.specs.Words.{loweredIn}
+use Rattle.work.proofs.Moves.{fit-bound, moved-to, assign-plain, assign-open}
 use borrow.Author.Needs.{needs}
 use Rattle.work.proofs.machine.assign.Statement.{statement}
 use Rattle.work.proofs.machine.assign.Tie as tie
@@ -23,19 +21,16 @@ returns c =
     let a = c .before .before .before .before .before .before .args in
     let p = c .before .before .before .before .before .before .pre in
     let h : length (a .v .deps .words) ≡ 4 = search needs in
-    moved-to (c .before .before .store .ensures)
-    (assign-plain (a .work .now) (a .c) (a .l .0) (a .place) (a .remaining) (a .v) (p .0) (p .1 .1) h (c .before .before .before .before .if1 .taken))
+    let z = c .before .before .before .before .if1 .taken in
+    moved-to (c .before .before .store .ensures) (assign-plain (a .work .now) (a .c) (a .l .0) (a .place) (a .remaining) (a .v) (p .0) (p .1 .1) h z)
 
 change-requires : tie.Need-change-requires
 change-requires c κs =
     let f = c .before .before .before .pre .0 in
     omega (arith, fit-bound f, f .room, c .before .before .before .pre .1 .1)
 
-sub-set-window : tie.Need-sub-set-window
-sub-set-window c = search needs
-
-set-window-requires : tie.Need-set-window-requires
-set-window-requires c κs =
+lower-top-requires : tie.Need-lower-top-requires
+lower-top-requires c κs =
     let f = c .before .before .before .before .before .before .before .pre .0 in
     omega (arith, fit-bound f, f .room, c .before .before .before .change .kept .0)
 
@@ -50,14 +45,10 @@ returns-2 c =
     let a = c .before .before .before .before .before .before .before .before .before .before .args in
     let p = c .before .before .before .before .before .before .before .before .before .before .pre in
     let h : length (a .v .deps .words) ≡ 4 = search needs in
-    let n = c .before .before .before .before .before .before .before .before .if1 .left in
-    let d = a .c .depth - 1 in
-    let s : a .c .depth ≡ suc d = omega (arith, pos-of-ne-zero n) in
-    let b : a .remaining < entryAt (a .work .now) d .window =
-    omega (arith, window-above (a .work .now) (a .c .depth) n, p .1 .0 (pos-of-ne-zero n)) in
+    let o = c .before .before .before .before .before .before .before .before .if1 .left in
     let C = c .before .before .before .before .before .before .change .ensures in
-    let e = c .before .before .set-window .ensures ∙ ap (λ (w : List ℕ). set w (branchBase d + 2) (a .remaining)) C in
-    moved-to e (assign-open (a .work .now) (a .c) (a .l .0) (a .place) (a .remaining) (a .v) (p .0) (p .1 .1) h d s b)
+    let e = c .before .before .lower-top .ensures ∙ ap (λ (w : List ℕ). loweredIn w (a .c .depth) (a .remaining)) C in
+    moved-to e (assign-open (a .work .now) (a .c) (a .l .0) (a .place) (a .remaining) (a .v) (p .0) (p .1 .1) h o (p .1 .0))
 
 pub assign-spec : {M : Type 1} → statement M
 assign-spec =
@@ -67,8 +58,7 @@ assign-spec =
     same-length
     returns
     change-requires
-    sub-set-window
-    set-window-requires
+    lower-top-requires
     add-t19
     same-length-2
     returns-2)
