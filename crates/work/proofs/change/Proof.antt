@@ -1,0 +1,70 @@
+-- `change` meets its contract: the words after its three stores are those of a change. Assumes nothing.
+use native.Mathlib.Omega.{arith}
+use lib.ListN.{length-set}
+use Rattle.work.specs.Layout.{changeBase}
+use Rattle.work.proofs.Laws.{change-law}
+use borrow.Author.Needs.{needs}
+use Rattle.work.proofs.change.Statement.{statement}
+use Rattle.work.proofs.change.Tie as tie
+
+mul-entry : tie.Need-mul-entry
+mul-entry c = search needs
+
+add-entry : tie.Need-add-entry
+add-entry c = search needs
+
+load-requires : tie.Need-load-requires
+load-requires c κs = search needs
+
+index-requires : tie.Need-index-requires
+index-requires c κs = search needs
+
+mul-work : tie.Need-mul-work
+mul-work c = search needs
+
+slice-write-work : tie.Need-slice-write-work
+slice-write-work c = search needs
+
+add-store-at : tie.Need-add-store-at
+add-store-at c = search needs
+
+store-at-requires : tie.Need-store-at-requires
+store-at-requires c κs = simp length-set (omega arith)
+
+store-requires : tie.Need-store-requires
+store-requires c κs =
+    let a = c .before .before .before .before .before .before .before .before .before .args in
+    let h = length-set (a .work .now) (changeBase (a .count)) (c .before .before .before .before .before .index .result) in
+    omega (arith, c .before .before .before .store-at .kept .0)
+
+same-length : tie.Need-same-length
+same-length c =
+    let a = c .before .before .before .before .before .before .before .before .before .before .before .before .args in
+    let h = length-set (a .work .now) (changeBase (a .count)) (c .before .before .before .before .before .before .before .before .index .result) in
+    omega (arith, c .before .before .before .before .before .before .store-at .kept .0, c .before .before .store .kept .0)
+
+returns : tie.Need-returns
+returns c =
+    let a = c .before .before .before .before .before .before .before .before .before .before .before .before .args in
+    let j = c .before .before .before .before .before .before .before .before .index in
+    let x = c .before .before .before .before .before .before .before .before .before .load in
+    let g₁ = c .before .before .before .before .before .before .store-at in
+    let g₂ = c .before .before .store in
+    change-law (a .work .now) (g₁ .last .0) (g₂ .last .0) (a .count) (a .l .0) (j .result) (a .v) (x .result) (j .ensures) (x .ensures) (g₁ .ensures)
+    (g₂ .ensures)
+
+pub change-spec : {M : Type 1} → statement M
+change-spec =
+    tie.close
+    (tie.spec
+    mul-entry
+    add-entry
+    load-requires
+    index-requires
+    mul-work
+    slice-write-work
+    add-store-at
+    store-at-requires
+    store-requires
+    same-length
+    returns)
