@@ -45,6 +45,13 @@ impl Location {
     // How many registers there are; cells are numbered after them.
     pub const REGISTERS: u64 = 16;
 
+    // The location of a number.
+    pub fn new(n: usize) -> Self
+        ensures { λ l. ⌜ l .0 ≡ n ⌝ }
+    {
+        Location(n)
+    }
+
     pub fn register(r: u8) -> Self
         ensures { λ l. ⌜ l .0 ≡ r ⌝ }
     {
