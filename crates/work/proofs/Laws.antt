@@ -28,6 +28,10 @@ pub store-four : (w : List ℕ) (i a b c d : ℕ)
     → set (set (set (set w i a) (i + 1) b) (i + 2) c) (i + 3) d ≡ sets w i (a ∷ b ∷ c ∷ d ∷ [])
 store-four w i a b c d = rw (add-one, add-two, add-three)
 
+-- a store at the location that the code read
+pub store-law : (w w₁ : List ℕ) (l j : ℕ) (v : Tagged) → j ≡ l → w₁ ≡ stored w j v → w₁ ≡ stored w l v
+store-law w w₁ l j v ej e = e ∙ ap (λ (i : ℕ). stored w i v) ej
+
 -- a change, of what the code read and of the words after each of its stores
 pub change-law : (w w₁ w₂ : List ℕ) (k l j : ℕ) (v x : Tagged) → j ≡ l → x ≡ taggedAt w l
     → w₁ ≡ storedIn (set w (changeBase k) j) (changeBase k + 1) x → w₂ ≡ stored w₁ l v → w₂ ≡ changed w k l v

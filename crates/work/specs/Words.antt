@@ -61,6 +61,7 @@ abbrev pub loweredIn : List ℕ → ℕ → ℕ → List ℕ
 loweredIn w zero v = w
 loweredIn w (suc d) v = set w (branchBase d + 2) v
 
+-- the window of the last of d branches, and 0 of none
 abbrev pub windowIn : List ℕ → ℕ → ℕ
 windowIn w zero = 0
 windowIn w (suc d) = entryAt w d .window

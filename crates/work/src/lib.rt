@@ -1,5 +1,5 @@
 // The state of a run in the working words that the caller lends: an operand for each location, the log of changes, the open
-// branches and the table of labels. specs/Layout.antt says where each part stands, with the numbers of this table.
+// branches and the table of labels. specs/Layout.antt has the layout of the constants below for the proofs.
 pub mod machine;
 
 use location::Label;
@@ -8,24 +8,26 @@ use location::LocationSet;
 use rules::Tagged;
 ghost use mathlib.Core.Path.{_≡_};
 ghost use Prim.Native.Nat.{_+_, _-_, _*_, _<_, _≤_};
+ghost use mathlib.Core.List.{_∷_};
 ghost use lib.ListN.{length, getD, set, replicate};
+ghost use lib.Seq.{sets};
 ghost use Rattle.rules.specs.Rules.Calls.{written, workingWords};
 ghost use Rattle.work.specs.Layout.{operandBase, changeBase, branchBase, labelBase};
-ghost use Rattle.work.specs.Words.{taggedIn, taggedAt, storedIn, stored, changed, undone, entryAt, entryStored};
+ghost use Rattle.work.specs.Words.{taggedIn, taggedAt, stored, changed, undone, entryAt, entryStored};
 
-// Location l: its value, then the words of its set, from OPERAND * l on.
+// Location l has its operand from OPERAND * l on: the value, then the words of the set.
 pub const OPERAND: usize = 5;
-// Change k: the location, then its operand of before, from LOG + CHANGE * k on.
+// Change k of the log stands from LOG + CHANGE * k on: the location, then its operand of before.
 pub const LOG: usize = 1280;
-
+// How many words a change has.
 pub const CHANGE: usize = 6;
-// Branch k: its entry, from LOG + (BRANCHES - ENTRY * k) on, downwards and never below LOG.
+// Branch k stands from LOG + (BRANCHES - ENTRY * k) on, downwards towards the log and never below LOG.
 pub const BRANCHES: usize = 1202;
-
+// How many words a branch has.
 pub const ENTRY: usize = 4;
-// Label i: its byte offset in the program, at LABELS + i.
+// Label i has the byte offset of its instruction at LABELS + i.
 pub const LABELS: usize = 2486;
-// All of them.
+// How many words there are; those past the table of labels are free.
 pub const WORDS: usize = 4096;
 
 // What the words hold of an open branch: `mark` is the length of the log when it was opened.
@@ -47,13 +49,12 @@ fn load_at(work: &[u64], at: usize) -> Tagged
     }
 }
 
-fn store_at(work: &mut [u64], at: usize, v: Tagged)
+fn store_at(work: &mut [u64], at: usize, value: u64, deps: LocationSet)
     requires { ⌜ at + 5 ≤ length (now work) ⌝ }
-    ensures { λ _. ⌜ now (work .exit) ≡ storedIn (now (work .entry)) at v ⌝ }
+    ensures { λ _. ⌜ now (work .exit) ≡ sets (now (work .entry)) at (value ∷ deps .words) ⌝ }
 {
-    let deps = v.deps;
     let words = deps.words;
-    work[at] = v.value;
+    work[at] = value;
     work[at + 1] = words[0];
     work[at + 2] = words[1];
     work[at + 3] = words[2];
@@ -71,7 +72,8 @@ pub fn store(work: &mut [u64], l: Location, v: Tagged)
     requires { ⌜ operandBase (l .0) + 5 ≤ length (now work) ⌝ }
     ensures { λ _. ⌜ now (work .exit) ≡ stored (now (work .entry)) (l .0) v ⌝ }
 {
-    store_at(&mut work[..], OPERAND * l.index(), v);
+    let deps = v.deps;
+    store_at(&mut work[..], OPERAND * l.index(), v.value, deps);
 }
 
 // Location l takes v; its operand of before goes to the log as change number count.
@@ -82,8 +84,9 @@ pub fn change(work: &mut [u64], count: usize, l: Location, v: Tagged)
 {
     let entry = LOG + CHANGE * count;
     let old = load(&work[..], l);
+    let deps = old.deps;
     work[entry] = l.index() as u64;
-    store_at(&mut work[..], entry + 1, old);
+    store_at(&mut work[..], entry + 1, old.value, deps);
     store(&mut work[..], l, v);
 }
 
@@ -96,9 +99,10 @@ pub fn undo(work: &mut [u64], count: usize, mark: usize)
     while mark < k {
         k -= 1;
         let entry = LOG + CHANGE * k;
-        let old = load_at(&work[..], entry + 1);
+        let before = load_at(&work[..], entry + 1);
+        let deps = before.deps;
         let l = (work[entry] as usize) % LocationSet::LIMIT;
-        store_at(&mut work[..], OPERAND * l, old);
+        store_at(&mut work[..], OPERAND * l, before.value, deps);
     }
 }
 

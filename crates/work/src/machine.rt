@@ -90,21 +90,21 @@ pub fn open_branch(
     requires { ⌜ c .opened + 1 < 2 ^ 64 ⌝ }
     ensures { λ r. ⌜ Moves (now (work .entry)) (now (work .exit)) c r (λ M. openingNext M wrong target window remaining) ⌝ }
 {
-    let depth = c.depth;
+    let k = c.depth;
     let log = c.log;
     let opened = c.opened;
-    let own = new_window(depth, window, remaining);
-    lower_top(&mut work[..], depth, remaining);
+    let own = new_window(k, window, remaining);
+    lower_top(&mut work[..], k, remaining);
     let b = BranchEntry {
         id: opened,
         target,
         window: own,
         mark: log,
     };
-    super::push_branch(&mut work[..], depth, b);
+    super::push_branch(&mut work[..], k, b);
     Control {
         place: wrong,
-        depth: depth + 1,
+        depth: k + 1,
         log,
         opened: opened + 1,
     }

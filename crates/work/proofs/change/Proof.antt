@@ -33,21 +33,21 @@ store-at-requires c κs = simp length-set (omega arith)
 
 store-requires : tie.Need-store-requires
 store-requires c κs =
-    let a = c .before .before .before .before .before .before .before .before .before .args in
+    let a = c .before .before .before .before .before .before .before .before .before .before .args in
     let h = length-set (a .work .now) (changeBase (a .count)) (c .before .before .before .before .before .index .result) in
     omega (arith, c .before .before .before .store-at .kept .0)
 
 same-length : tie.Need-same-length
 same-length c =
-    let a = c .before .before .before .before .before .before .before .before .before .before .before .before .args in
+    let a = c .before .before .before .before .before .before .before .before .before .before .before .before .before .args in
     let h = length-set (a .work .now) (changeBase (a .count)) (c .before .before .before .before .before .before .before .before .index .result) in
     omega (arith, c .before .before .before .before .before .before .store-at .kept .0, c .before .before .store .kept .0)
 
 returns : tie.Need-returns
 returns c =
-    let a = c .before .before .before .before .before .before .before .before .before .before .before .before .args in
+    let a = c .before .before .before .before .before .before .before .before .before .before .before .before .before .args in
     let j = c .before .before .before .before .before .before .before .before .index in
-    let x = c .before .before .before .before .before .before .before .before .before .load in
+    let x = c .before .before .before .before .before .before .before .before .before .before .load in
     let g₁ = c .before .before .before .before .before .before .store-at in
     let g₂ = c .before .before .store in
     change-law (a .work .now) (g₁ .last .0) (g₂ .last .0) (a .count) (a .l .0) (j .result) (a .v) (x .result) (j .ensures) (x .ensures) (g₁ .ensures)

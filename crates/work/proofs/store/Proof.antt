@@ -1,7 +1,5 @@
 -- `store` meets its contract: the operand stands at its location. Assumes nothing.
-use mathlib.Core.Path.{ap, _∙_}
-use Prim.Native.Nat.{ℕ}
-use Rattle.work.specs.Words.{stored}
+use Rattle.work.proofs.Laws.{store-law}
 use borrow.Author.Needs.{needs}
 use Rattle.work.proofs.store.Statement.{statement}
 use Rattle.work.proofs.store.Tie as tie
@@ -20,8 +18,10 @@ same-length c = search needs
 
 returns : tie.Need-returns
 returns c =
-    let a = c .before .before .before .before .before .before .args in
-    c .before .before .store-at .ensures ∙ ap (λ (j : ℕ). stored (a .work .now) j (a .v)) (c .before .before .before .index .ensures)
+    let a = c .before .before .before .before .before .before .before .args in
+    let j = c .before .before .before .index in
+    let g = c .before .before .store-at in
+    store-law (a .work .now) (g .last .0) (a .l .0) (j .result) (a .v) (j .ensures) (g .ensures)
 
 pub store-spec : {M : Type 1} → statement M
 store-spec = tie.close (tie.spec index-requires mul-store-at store-at-requires same-length returns)

@@ -66,9 +66,9 @@ same-length c = search needs
 
 returns : tie.Need-returns
 returns c =
-    let a = c .before .before .args in
-    let h : length (a .v .deps .words) ≡ 4 = search needs in
-    store-five (a .work .now) (a .at) (a .v .value) (a .v .deps .words) h
+    let a = c .before .args in
+    let h : length (a .deps .words) ≡ 4 = search needs in
+    store-five (a .work .now) (a .at) (a .value) (a .deps .words) h
 
 pub store-at-spec : {M : Type 1} → statement M
 store-at-spec =

@@ -52,14 +52,14 @@ loop-less c = omega arith
 
 loop-again : tie.Need-loop-again Inv-loop μ-loop
 loop-again c =
-    let a = c .before .before .before .before .before .before .before .before .before .before .args in
-    let v = c .before .before .before .before .before .before .before .before .loop in
+    let a = c .before .before .before .before .before .before .before .before .before .before .before .args in
+    let v = c .before .before .before .before .before .before .before .before .before .loop in
     let k = v .k - 1 in
     let s : k + 1 ≡ v .k = omega arith in
     let l = getD (v .work) (changeBase k) 0 % limit in
-    let o = c .before .before .before .before .before .load-at in
+    let x = c .before .before .before .before .before .before .load-at in
     let g = c .before .before .store-at in
-    let t = undo-law (v .work) (g .last .0) k (a .mark) l (o .result) (omega arith) refl (o .ensures) (g .ensures) in
+    let t = undo-law (v .work) (g .last .0) k (a .mark) l (x .result) (omega arith) refl (x .ensures) (g .ensures) in
     (omega arith, omega (arith, g .kept .0), t ∙ ap (λ (j : ℕ). undone (v .work) j (j - a .mark)) s ∙ v .inv .2)
 
 same-length : tie.Need-same-length Inv-loop μ-loop
