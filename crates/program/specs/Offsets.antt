@@ -1,11 +1,12 @@
 -- The byte offset of each label of a program, and the instruction that stands there in a program that was accepted.
 -- Assumes nothing.
-use mathlib.Core.Path.{_≡_, refl, sym, ap}
+use mathlib.Core.Path.{_≡_, refl, sym, ap, ap₂, _∙_}
 use mathlib.Core.Bool.{Bool, true, false, cond}
-use mathlib.Core.List.{List, [], _∷_}
-use Prim.Native.Nat.{ℕ, zero, suc, _+_, _<_}
+use mathlib.Core.List.{List, [], _∷_, _++_}
+use Prim.Native.Nat.{ℕ, zero, suc, _+_, _≤_, _<_}
 use native.Mathlib.Omega.{arith}
-use lib.ListN.{length, getD}
+use lib.ListN.{length, getD, take, drop, length-append, List·getD-append}
+use lib.Seq.{sets, sets-eq, length-take-le, getD-append-add}
 use Rattle.rules.specs.declared.Refusal.{Refusal}
 use Rattle.rules.specs.declared.Refusal.the-variants as refusals
 use Rattle.rules.specs.Rules.Instructions.{Instr, skip}
@@ -49,7 +50,27 @@ pub record Fetched (p : List ℕ) (n label : ℕ) (d : Decoded) : Type 0 where
   pub read : instructionReadMeaning p (instruction-read.Found d) ≡ instr p (getD (offsetsFrom n p 0) label 0)
   pub same : meaning p (d .instruction) ≡ getD (valueOr [] (program n n 0 p 0)) label skip
 
--- ---- laws
+-- ---- the table of offsets
+pub length-offsetsFrom : (k : ℕ) (p : List ℕ) (at : ℕ) → length (offsetsFrom k p at) ≡ k
+unfolding offsetsFrom
+length-offsetsFrom zero p at = refl
+length-offsetsFrom (suc k) p at = ap suc (length-offsetsFrom k p (nextOffset (instr p at)))
+
+-- an entry of a table that the offsets of n instructions are written to, from a base on
+pub entry-offset : (n : ℕ) (p table : List ℕ) (base i : ℕ) → base + n ≤ length table → i < n
+    → getD (sets table base (offsetsFrom n p 0)) (base + i) 0 ≡ getD (offsetsFrom n p 0) i 0
+entry-offset n p table base i h g =
+    let vs = offsetsFrom n p 0 in
+    let front = take base table in
+    let lv : length vs ≡ n = length-offsetsFrom n p 0 in
+    let lf : length front ≡ base = length-take-le base table (omega arith) in
+    let la : length (front ++ vs) ≡ base + n = length-append front vs ∙ ap₂ (λ (a b : ℕ). a + b) lf lv in
+    ap (λ (ws : List ℕ). getD ws (base + i) 0) (sets-eq vs table base (omega arith))
+    ∙ List·getD-append (front ++ vs) (drop (base + length vs) table) 0 (base + i) (omega arith)
+    ∙ ap (λ (j : ℕ). getD (front ++ vs) (j + i) 0) (sym lf)
+    ∙ getD-append-add front vs i 0
+
+-- ---- laws of what was read
 pub got-not-refused : {A P : Type 0} {a : A} {q : ℕ} {r : Refusal} → refused r ≡ got a q → P
 got-not-refused {A} {P} {a} {q} {r} e = absurd (let z : _≡_ {A = ℕ} 0 1 = cc in omega arith)
 

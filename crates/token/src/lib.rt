@@ -106,7 +106,7 @@ pub enum Scan {
     Refused(Refusal),
 }
 
-pub fn scan_tokens(p: &[u8], at: usize, count: usize) -> Scan
+fn scan_tokens(p: &[u8], at: usize, count: usize) -> Scan
     ensures { λ r. ⌜ r ≡ scanOf 0 (tokens count (now (p .entry)) at) ⌝ }
 {
     let mut held = 0;

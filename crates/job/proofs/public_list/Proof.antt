@@ -1,0 +1,51 @@
+-- `job::public_list` meets its contract: four words of eight bytes. Assumes nothing.
+use mathlib.Core.Path.{_≡_}
+use Prim.Native.Nat.{_+_}
+use native.Mathlib.Omega.{arith}
+use Rattle.rules.specs.Rules.JobFile.{publicOf, wordsAt}
+use borrow.Author.Needs.{needs}
+use Rattle.job.proofs.public_list.Statement.{statement}
+use Rattle.job.proofs.public_list.Tie as tie
+
+number-requires : tie.Need-number-requires
+number-requires c κs = search needs
+
+add-number : tie.Need-add-number
+add-number c = search needs
+
+number-requires-2 : tie.Need-number-requires-2
+number-requires-2 c κs = search needs
+
+add-number-2 : tie.Need-add-number-2
+add-number-2 c = search needs
+
+number-requires-3 : tie.Need-number-requires-3
+number-requires-3 c κs = search needs
+
+add-number-3 : tie.Need-add-number-3
+add-number-3 c = search needs
+
+number-requires-4 : tie.Need-number-requires-4
+number-requires-4 c κs = search needs
+
+returns : tie.Need-returns
+unfolding publicOf wordsAt
+returns c =
+    let b = c .before .before .before in
+    let a = b .before .before .args in
+    let e : a .t .list + 8 + 8 ≡ a .t .list + 16 = omega arith in
+    let f : a .t .list + 16 + 8 ≡ a .t .list + 24 = omega arith in
+    rw (b .number .ensures .0, c .before .before .number2 .ensures .0, c .before .number3 .ensures .0, c .number4 .ensures .0, e, f)
+
+pub public-list-spec : {M : Type 1} → statement M
+public-list-spec =
+    tie.close
+    (tie.spec
+    number-requires
+    add-number
+    number-requires-2
+    add-number-2
+    number-requires-3
+    add-number-3
+    number-requires-4
+    returns)
