@@ -1,0 +1,76 @@
+-- `token::read_expression` meets its contract, by the tests on the token count; the scan gives the rest. Assumes nothing.
+use mathlib.Core.Path.{sym, _∙_}
+use borrow.Author.Tests.{le-leb, lt-leb}
+use Rattle.rules.specs.Rules.JobFile.{expr}
+use Rattle.token.specs.Bytes.{byte-got, byte-past}
+use Rattle.token.proofs.Laws.{expr-tokens, scan-got, scan-refused}
+use Rattle.token.specs.Meaning.{tokensOf}
+use borrow.Author.Needs.{needs}
+use Rattle.token.proofs.read_expression.Statement.{statement}
+use Rattle.token.proofs.read_expression.Tie as tie
+
+returns : tie.Need-returns
+unfolding expr
+returns c = let a = c .before .before .args in simp (byte-past (a .p .now) (a .at) (c .if1 .taken))
+
+shared-slice-read-wide : tie.Need-shared-slice-read-wide
+shared-slice-read-wide c = search needs
+
+wide-requires : tie.Need-wide-requires
+wide-requires c κs = search needs
+
+add-start : tie.Need-add-start
+add-start c = search needs
+
+returns-2 : tie.Need-returns-2
+unfolding expr
+returns-2 c =
+    let a = c .before .before .before .before .before .args in
+    rw (byte-got (a .p .now) (a .at) (c .before .before .before .if1 .left), ← (c .before .wide .ensures .0), lt-leb 1 _ (c .if2 .taken))
+
+returns-3 : tie.Need-returns-3
+unfolding expr
+returns-3 c =
+    let b = c .before .before in
+    let a = b .before .before .before .before .args in
+    rw (byte-got (a .p .now) (a .at) (b .before .before .if1 .left), ← (b .wide .ensures .0), le-leb 1 _ (c .before .if2 .left), lt-leb _ 16 (c .if3 .taken))
+
+scan-tokens-requires : tie.Need-scan-tokens-requires
+scan-tokens-requires c κs = search needs
+
+enum-known-next : tie.Need-enum-known-next
+enum-known-next c = search needs
+
+enum-known-r : tie.Need-enum-known-r
+enum-known-r c = search needs
+
+returns-4 : tie.Need-returns-4
+unfolding tokensOf
+returns-4 c =
+    let b = c .before .before .before .before in
+    let a = b .before .before .before .before .before .before .args in
+    let e = expr-tokens (a .p .now) (a .at) _ (b .before .before .before .before .if1 .left) (b .before .before .wide .ensures .0) (b .before .if2 .left) (b .if3 .left) in
+    scan-got _ 0 _ _ (sym (c .before .next .given .1) ∙ c .before .before .before .scan-tokens .ensures) ∙ sym e
+
+returns-5 : tie.Need-returns-5
+returns-5 c =
+    let b = c .before .before .before .before in
+    let a = b .before .before .before .before .before .before .args in
+    let e = expr-tokens (a .p .now) (a .at) _ (b .before .before .before .before .if1 .left) (b .before .before .wide .ensures .0) (b .before .if2 .left) (b .if3 .left) in
+    scan-refused _ 0 _ (sym (c .before .r .given .1) ∙ c .before .before .before .scan-tokens .ensures) ∙ sym e
+
+pub read-expression-spec : {M : Type 1} → statement M
+read-expression-spec =
+    tie.close
+    (tie.spec
+    returns
+    shared-slice-read-wide
+    wide-requires
+    add-start
+    returns-2
+    returns-3
+    scan-tokens-requires
+    enum-known-next
+    enum-known-r
+    returns-4
+    returns-5)

@@ -1,0 +1,170 @@
+// Reading bytes: numbers, the tokens of expressions, and expressions with the postfix rule. A reader is given the bytes
+// and an offset; it answers what stands there with the next offset, or a refusal.
+use rules::Refusal;
+ghost use mathlib.Core.Path.{_≡_};
+ghost use Prim.Native.Nat.{_+_, _*_, _^_, _<_, _≤_};
+ghost use lib.ListN.{length};
+ghost use Rattle.rules.specs.Rules.Expressions.{takes, after, sound};
+ghost use Rattle.rules.specs.Rules.JobFile.{little, token, tokens, expr};
+ghost use Rattle.token.specs.Meaning.{tokenMeaning, tokenReadMeaning, scanOf, tokensOf, expressionReadMeaning};
+
+fn wide(b: u8) -> u64
+    ensures { λ r. ⌜ (r ≡ b) × (r < 256) ⌝ }
+{
+    b as u64
+}
+
+// The number in k bytes at an offset, the lowest byte first.
+pub fn number(s: &[u8], at: usize, k: usize) -> u64
+    requires { ⌜ (k ≤ 8) × (at + k ≤ length (now s)) ⌝ }
+    ensures { λ r. ⌜ (r ≡ little (now (s .entry)) at k) × (r < 2 ^ (8 * k)) ⌝ }
+{
+    let mut x: u64 = 0;
+    let mut i = k;
+    while 0 < i {
+        i -= 1;
+        x = 256 * x + wide(s[at + i]);
+    }
+    x
+}
+
+// A token: a register, a constant, or an operator of one or of two operands by its place in the rules' table of them.
+pub enum Token {
+    Register(u8),
+    Constant(u64),
+    Unary(u8),
+    Binary(u8),
+}
+
+// A token with the offset after it.
+pub enum TokenRead {
+    Found(Token, usize),
+    Refused(Refusal),
+}
+
+pub fn read_token(p: &[u8], at: usize) -> TokenRead
+    ensures { λ r. ⌜ tokenReadMeaning r ≡ token (now (p .entry)) at ⌝ }
+{
+    if p.len() <= at {
+        return TokenRead::Refused(Refusal::Encoding);
+    }
+    let t = p[at];
+    let next = at + 1;
+    if t < 16 {
+        return TokenRead::Found(Token::Register(t), next);
+    }
+    if t == 16 {
+        if p.len() - next < 8 {
+            return TokenRead::Refused(Refusal::Encoding);
+        }
+        let c = number(p, next, 8);
+        let past = next + 8;
+        return TokenRead::Found(Token::Constant(c), past);
+    }
+    if t < 19 {
+        let unary = t - 17;
+        return TokenRead::Found(Token::Unary(unary), next);
+    }
+    if t < 29 {
+        let binary = t - 19;
+        return TokenRead::Found(Token::Binary(binary), next);
+    }
+    TokenRead::Refused(Refusal::Encoding)
+}
+
+// How many operands a token takes.
+pub fn taken(t: Token) -> usize
+    ensures { λ r. ⌜ r ≡ takes (tokenMeaning t) ⌝ }
+{
+    match t {
+        Token::Register(_) => 0,
+        Token::Constant(_) => 0,
+        Token::Unary(_) => 1,
+        Token::Binary(_) => 2,
+    }
+}
+
+// The values held after a token that takes k, where `held` are held before it. 9 marks the postfix rule as broken, for good.
+fn held_after(held: usize, k: usize) -> usize
+    ensures { λ r. ⌜ r ≡ after held k ⌝ }
+{
+    if 8 < held {
+        return 9;
+    }
+    if held < k {
+        return 9;
+    }
+    if 7 < held - k {
+        return 9;
+    }
+    held - k + 1
+}
+
+// The tokens of an expression: the offset after them, and the values held after them.
+pub enum Scan {
+    Past(usize, usize),
+    Refused(Refusal),
+}
+
+pub fn scan_tokens(p: &[u8], at: usize, count: usize) -> Scan
+    ensures { λ r. ⌜ r ≡ scanOf 0 (tokens count (now (p .entry)) at) ⌝ }
+{
+    let mut held = 0;
+    let mut offset = at;
+    let mut i = 0;
+    while i < count {
+        match read_token(p, offset) {
+            TokenRead::Found(t, next) => {
+                held = held_after(held, taken(t));
+                offset = next;
+                i += 1;
+            }
+            TokenRead::Refused(r) => {
+                return Scan::Refused(r);
+            }
+        }
+    }
+    Scan::Past(offset, held)
+}
+
+// An expression in the bytes: where its tokens start, and how many there are.
+pub struct Expression {
+    pub at: usize,
+    pub count: usize,
+}
+
+// An expression with the offset after it.
+pub enum ExpressionRead {
+    Found(Expression, usize),
+    Refused(Refusal),
+}
+
+pub fn read_expression(p: &[u8], at: usize) -> ExpressionRead
+    ensures { λ r. ⌜ expressionReadMeaning (now (p .entry)) r ≡ expr (now (p .entry)) at ⌝ }
+{
+    if p.len() <= at {
+        return ExpressionRead::Refused(Refusal::Encoding);
+    }
+    let count = wide(p[at]) as usize;
+    let start = at + 1;
+    if count < 1 {
+        return ExpressionRead::Refused(Refusal::Encoding);
+    }
+    if 16 < count {
+        return ExpressionRead::Refused(Refusal::Encoding);
+    }
+    match scan_tokens(p, start, count) {
+        Scan::Past(next, _) => ExpressionRead::Found(Expression { at: start, count }, next),
+        Scan::Refused(r) => ExpressionRead::Refused(r),
+    }
+}
+
+// Whether an expression keeps the postfix rule.
+pub fn well_formed(p: &[u8], e: Expression) -> bool
+    ensures { λ r. ⌜ r ≡ sound (tokensOf (now (p .entry)) e) ⌝ }
+{
+    match scan_tokens(p, e.at, e.count) {
+        Scan::Past(_, held) => held == 1,
+        Scan::Refused(_) => false,
+    }
+}

@@ -1,0 +1,48 @@
+-- What the leaves' stores make of the words.
+-- Assumes nothing.
+use mathlib.Core.Path.{_≡_, refl, sym, ap, _∙_}
+use mathlib.Core.List.{List, [], _∷_}
+use Prim.Native.Nat.{ℕ, suc, _+_, _-_, _<_, _≤_}
+use native.Mathlib.Numerals.{add-one, add-two, add-three, add-four}
+use native.Mathlib.Omega.{arith}
+use lib.ListN.{length, getD, set}
+use lib.Seq.{sets, length-sets}
+use Rattle.rules.specs.declared.Tagged.{Tagged}
+use Rattle.work.specs.Layout.{operandBase, changeBase}
+use Rattle.work.specs.Words.{taggedAt, storedIn, stored, changeAt, changed, undone}
+
+-- a list of four is its four elements
+pub four : (l : List ℕ) → length l ≡ 4 → getD l 0 0 ∷ getD l 1 0 ∷ getD l 2 0 ∷ getD l 3 0 ∷ [] ≡ l
+four [] h = absurd (omega arith)
+four (a ∷ []) h = absurd (omega arith)
+four (a ∷ b ∷ []) h = absurd (omega arith)
+four (a ∷ b ∷ c ∷ []) h = absurd (omega arith)
+four (a ∷ b ∷ c ∷ d ∷ []) h = refl
+four (a ∷ b ∷ c ∷ d ∷ e ∷ l) h = absurd (omega arith)
+
+pub store-five : (w : List ℕ) (i a : ℕ) (l : List ℕ) → length l ≡ 4
+    → set (set (set (set (set w i a) (i + 1) (getD l 0 0)) (i + 2) (getD l 1 0)) (i + 3) (getD l 2 0)) (i + 4) (getD l 3 0) ≡ sets w i (a ∷ l)
+store-five w i a l h = rw (add-one, add-two, add-three, add-four) (ap (λ (t : List ℕ). sets w i (a ∷ t)) (four l h))
+
+pub store-four : (w : List ℕ) (i a b c d : ℕ)
+    → set (set (set (set w i a) (i + 1) b) (i + 2) c) (i + 3) d ≡ sets w i (a ∷ b ∷ c ∷ d ∷ [])
+store-four w i a b c d = rw (add-one, add-two, add-three)
+
+-- a change, of what the code read and of the words after each of its stores
+pub change-law : (w w₁ w₂ : List ℕ) (k l j : ℕ) (v x : Tagged) → j ≡ l → x ≡ taggedAt w l
+    → w₁ ≡ storedIn (set w (changeBase k) j) (changeBase k + 1) x → w₂ ≡ stored w₁ l v → w₂ ≡ changed w k l v
+change-law w w₁ w₂ k l j v x ej ex e₁ e₂ =
+    e₂ ∙ ap (λ (u : List ℕ). stored u l v) (e₁ ∙ (λ i. storedIn (set w (changeBase k) (ej i)) (add-one (changeBase k) i) (ex i)))
+
+pub length-changed : (w : List ℕ) (k l : ℕ) (v : Tagged) → length (changed w k l v) ≡ length w
+length-changed w k l v =
+    let x = taggedAt w l in
+    let logged = sets w (changeBase k) (l ∷ x .value ∷ x .deps .words) in
+    length-sets logged (operandBase l) (v .value ∷ v .deps .words) ∙ length-sets w (changeBase k) (l ∷ x .value ∷ x .deps .words)
+
+-- one change undone, and then those before it
+pub undo-law : (w w₁ : List ℕ) (k mark l : ℕ) (x : Tagged) → mark ≤ k → l ≡ changeAt w k .location → x ≡ changeAt w k .before
+    → w₁ ≡ stored w l x → undone w₁ k (k - mark) ≡ undone w (k + 1) (k + 1 - mark)
+undo-law w w₁ k mark l x h el ex e =
+    let s : k + 1 - mark ≡ suc (k - mark) = omega arith in
+    rw (s, add-one) (ap (λ (u : List ℕ). undone u k (k - mark)) (e ∙ (λ i. stored w (el i) (ex i))))

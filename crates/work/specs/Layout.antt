@@ -1,0 +1,20 @@
+-- Where each part of the state stands in the working words: the first word of each. src/lib.rt has the same numbers as constants.
+-- Assumes nothing.
+use Prim.Native.Nat.{ℕ, _+_, _-_, _*_}
+
+-- words 0 to 1279: 256 operands of 5 words, by location: the value, then the four words of its set
+abbrev pub operandBase : ℕ → ℕ
+operandBase l = 5 * l
+
+-- words 1280 to 2485: the log of changes upwards, 6 words each: the location, then its operand of before
+abbrev pub changeBase : ℕ → ℕ
+changeBase k = 1280 + 6 * k
+
+-- and the open branches downwards, 4 words each: id, target, window, and the length of the log when it was opened. No number
+-- of a branch brings it below word 1280.
+abbrev pub branchBase : ℕ → ℕ
+branchBase k = 1280 + (1202 - 4 * k)
+
+-- words 2486 to 2997: the byte offset of each label
+abbrev pub labelBase : ℕ → ℕ
+labelBase i = 2486 + i

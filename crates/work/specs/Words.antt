@@ -1,0 +1,57 @@
+-- What stands in the working words, and the words after each store. Every number is read as something: a location in the log
+-- is taken modulo 256.
+-- Assumes nothing.
+use mathlib.Core.List.{List, [], _∷_}
+use Prim.Native.Nat.{ℕ, zero, suc, _+_, _%_}
+use lib.ListN.{getD}
+use lib.Seq.{sets}
+use Rattle.location.specs.Sets.{limit}
+use Rattle.rules.specs.declared.Tagged.{Tagged}
+use Rattle.work.specs.declared.BranchEntry.{BranchEntry}
+use Rattle.work.specs.Layout.{operandBase, changeBase, branchBase}
+
+-- ---- an operand: its value, then the words of its set
+abbrev pub taggedIn : List ℕ → ℕ → Tagged
+taggedIn w i = record {
+  value = getD w i 0;
+  deps = record { words = getD w (i + 1) 0 ∷ getD w (i + 2) 0 ∷ getD w (i + 3) 0 ∷ getD w (i + 4) 0 ∷ [] };
+}
+
+abbrev pub storedIn : List ℕ → ℕ → Tagged → List ℕ
+storedIn w i v = sets w i (v .value ∷ v .deps .words)
+
+abbrev pub taggedAt : List ℕ → ℕ → Tagged
+taggedAt w l = taggedIn w (operandBase l)
+
+abbrev pub stored : List ℕ → ℕ → Tagged → List ℕ
+stored w l v = storedIn w (operandBase l) v
+
+-- ---- a change of a location, with its operand of before
+pub record Change : Type 0 where
+  pub location : ℕ
+  pub before : Tagged
+
+abbrev pub changeAt : List ℕ → ℕ → Change
+changeAt w k = record { location = getD w (changeBase k) 0 % limit; before = taggedIn w (changeBase k + 1) }
+
+-- location l given v, with its operand of before logged as change number k
+abbrev pub changed : List ℕ → ℕ → ℕ → Tagged → List ℕ
+changed w k l v = stored (sets w (changeBase k) (l ∷ taggedAt w l .value ∷ taggedAt w l .deps .words)) l v
+
+-- the last j of k changes undone, the last one first
+abbrev pub undone : List ℕ → ℕ → ℕ → List ℕ
+undone w k zero = w
+undone w zero (suc j) = w
+undone w (suc k) (suc j) = undone (stored w (changeAt w k .location) (changeAt w k .before)) k j
+
+-- ---- an open branch
+abbrev pub entryAt : List ℕ → ℕ → BranchEntry
+entryAt w k = record {
+  id = getD w (branchBase k) 0;
+  target = getD w (branchBase k + 1) 0;
+  window = getD w (branchBase k + 2) 0;
+  mark = getD w (branchBase k + 3) 0;
+}
+
+abbrev pub entryStored : List ℕ → ℕ → BranchEntry → List ℕ
+entryStored w k b = sets w (branchBase k) (b .id ∷ b .target ∷ b .window ∷ b .mark ∷ [])

@@ -1,0 +1,152 @@
+// The state of a run in the working words that the caller lends: an operand for each location, the log of changes, the open
+// branches and the table of labels. specs/Layout.antt says where each part stands, with the numbers of this table.
+use location::Label;
+use location::Location;
+use location::LocationSet;
+use rules::Tagged;
+ghost use mathlib.Core.Path.{_≡_};
+ghost use Prim.Native.Nat.{_+_, _-_, _*_, _<_, _≤_};
+ghost use lib.ListN.{length, getD, set, replicate};
+ghost use Rattle.rules.specs.Rules.Calls.{written, workingWords};
+ghost use Rattle.work.specs.Layout.{operandBase, changeBase, branchBase, labelBase};
+ghost use Rattle.work.specs.Words.{taggedIn, taggedAt, storedIn, stored, changed, undone, entryAt, entryStored};
+
+// Location l: its value, then the words of its set, from OPERAND * l on.
+pub const OPERAND: usize = 5;
+// Change k: the location, then its operand of before, from LOG + CHANGE * k on.
+pub const LOG: usize = 1280;
+
+pub const CHANGE: usize = 6;
+// Branch k: its entry, from LOG + (BRANCHES - ENTRY * k) on, downwards and never below LOG.
+pub const BRANCHES: usize = 1202;
+
+pub const ENTRY: usize = 4;
+// Label i: its byte offset in the program, at LABELS + i.
+pub const LABELS: usize = 2486;
+// All of them.
+pub const WORDS: usize = 4096;
+
+// What the words hold of an open branch: `mark` is the length of the log when it was opened.
+pub struct BranchEntry {
+    pub id: usize,
+    pub target: usize,
+    pub window: usize,
+    pub mark: usize,
+}
+
+fn load_at(work: &[u64], at: usize) -> Tagged
+    requires { ⌜ at + 5 ≤ length (now work) ⌝ }
+    ensures { λ r. ⌜ r ≡ taggedIn (now (work .entry)) at ⌝ }
+{
+    let words = [work[at + 1], work[at + 2], work[at + 3], work[at + 4]];
+    Tagged {
+        value: work[at],
+        deps: LocationSet { words },
+    }
+}
+
+fn store_at(work: &mut [u64], at: usize, v: Tagged)
+    requires { ⌜ at + 5 ≤ length (now work) ⌝ }
+    ensures { λ _. ⌜ now (work .exit) ≡ storedIn (now (work .entry)) at v ⌝ }
+{
+    let deps = v.deps;
+    let words = deps.words;
+    work[at] = v.value;
+    work[at + 1] = words[0];
+    work[at + 2] = words[1];
+    work[at + 3] = words[2];
+    work[at + 4] = words[3];
+}
+
+pub fn load(work: &[u64], l: Location) -> Tagged
+    requires { ⌜ operandBase (l .0) + 5 ≤ length (now work) ⌝ }
+    ensures { λ r. ⌜ r ≡ taggedAt (now (work .entry)) (l .0) ⌝ }
+{
+    load_at(work, OPERAND * l.index())
+}
+
+pub fn store(work: &mut [u64], l: Location, v: Tagged)
+    requires { ⌜ operandBase (l .0) + 5 ≤ length (now work) ⌝ }
+    ensures { λ _. ⌜ now (work .exit) ≡ stored (now (work .entry)) (l .0) v ⌝ }
+{
+    store_at(&mut work[..], OPERAND * l.index(), v);
+}
+
+// Location l takes v; its operand of before goes to the log as change number count.
+pub fn change(work: &mut [u64], count: usize, l: Location, v: Tagged)
+    requires { ⌜ (operandBase (l .0) + 5 ≤ length (now work)) × (changeBase count + 6 ≤ length (now work)) ⌝ }
+    ensures { λ _. ⌜ now (work .exit) ≡ changed (now (work .entry)) count (l .0) v ⌝ }
+{
+    let entry = LOG + CHANGE * count;
+    let old = load(&work[..], l);
+    work[entry] = l.index() as u64;
+    store_at(&mut work[..], entry + 1, old);
+    store(&mut work[..], l, v);
+}
+
+// The changes from the last of count down to number mark are undone.
+pub fn undo(work: &mut [u64], count: usize, mark: usize)
+    requires { ⌜ changeBase count ≤ length (now work) ⌝ }
+    ensures { λ _. ⌜ now (work .exit) ≡ undone (now (work .entry)) count (count - mark) ⌝ }
+{
+    let mut k = count;
+    while mark < k {
+        k -= 1;
+        let entry = LOG + CHANGE * k;
+        let old = load_at(&work[..], entry + 1);
+        let l = (work[entry] as usize) % LocationSet::LIMIT;
+        store_at(&mut work[..], OPERAND * l, old);
+    }
+}
+
+// What stands as branch number k.
+pub fn load_branch(work: &[u64], k: usize) -> BranchEntry
+    requires { ⌜ (4 * k ≤ 1202) × (branchBase k + 4 ≤ length (now work)) ⌝ }
+    ensures { λ r. ⌜ r ≡ entryAt (now (work .entry)) k ⌝ }
+{
+    let at = LOG + (BRANCHES - ENTRY * k);
+    BranchEntry {
+        id: work[at] as usize,
+        target: work[at + 1] as usize,
+        window: work[at + 2] as usize,
+        mark: work[at + 3] as usize,
+    }
+}
+
+pub fn push_branch(work: &mut [u64], k: usize, b: BranchEntry)
+    requires { ⌜ (4 * k ≤ 1202) × (branchBase k + 4 ≤ length (now work)) ⌝ }
+    ensures { λ _. ⌜ now (work .exit) ≡ entryStored (now (work .entry)) k b ⌝ }
+{
+    let at = LOG + (BRANCHES - ENTRY * k);
+    work[at] = b.id as u64;
+    work[at + 1] = b.target as u64;
+    work[at + 2] = b.window as u64;
+    work[at + 3] = b.mark as u64;
+}
+
+pub fn set_window(work: &mut [u64], k: usize, window: usize)
+    requires { ⌜ (4 * k ≤ 1202) × (branchBase k + 4 ≤ length (now work)) ⌝ }
+    ensures { λ _. ⌜ now (work .exit) ≡ set (now (work .entry)) (branchBase k + 2) window ⌝ }
+{
+    work[LOG + (BRANCHES - ENTRY * k) + 2] = window as u64;
+}
+
+// The byte offset of an instruction, from the table of labels.
+pub fn offset_of(work: &[u64], label: Label) -> usize
+    requires { ⌜ labelBase (label .0) < length (now work) ⌝ }
+    ensures { λ r. ⌜ r ≡ getD (now (work .entry)) (labelBase (label .0)) 0 ⌝ }
+{
+    work[LABELS + label.index()] as usize
+}
+
+// The working words become 0.
+pub fn clear(work: &mut [u64])
+    requires { ⌜ workingWords ≤ length (now work) ⌝ }
+    ensures { λ _. ⌜ now (work .exit) ≡ written (replicate workingWords 0) (now (work .entry)) ⌝ }
+{
+    let mut i = 0;
+    while i < WORDS {
+        work[i] = 0;
+        i += 1;
+    }
+}
