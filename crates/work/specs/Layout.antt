@@ -15,6 +15,9 @@ changeBase k = 1280 + 6 * k
 abbrev pub branchBase : ℕ → ℕ
 branchBase k = 1280 + (1202 - 4 * k)
 
--- words 2486 to 2997: the byte offset of each label
+-- words 2486 to 2997: the byte offset of each label; words 2998 to 4095 are free
+abbrev pub labels : ℕ
+labels = 2486
+
 abbrev pub labelBase : ℕ → ℕ
-labelBase i = 2486 + i
+labelBase i = labels + i

@@ -1,2 +1,4 @@
 pub mod Layout
 pub mod Words
+pub mod Machines
+pub mod Moves

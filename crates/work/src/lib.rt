@@ -1,5 +1,7 @@
 // The state of a run in the working words that the caller lends: an operand for each location, the log of changes, the open
 // branches and the table of labels. specs/Layout.antt says where each part stands, with the numbers of this table.
+pub mod machine;
+
 use location::Label;
 use location::Location;
 use location::LocationSet;

@@ -1,0 +1,148 @@
+-- Words that a run of stores leaves as they were, and what is read there; and what is read where they were stored.
+-- Assumes nothing.
+use mathlib.Core.Path.{_≡_, refl, sym, ap, _∙_, fun-ext}
+use mathlib.Core.List.{List, [], _∷_}
+use Prim.Native.Nat.{ℕ, zero, suc, _+_, _-_, _%_, _<_, _≤_}
+use native.Mathlib.Nat.{add-zero, le-refl}
+use native.Mathlib.Numerals.{add-one}
+use native.Mathlib.Omega.{arith}
+use lib.Dec.{lit<}
+use lib.ListN.{length, getD, drop, set, length-set}
+use lib.Seq.{sets, getD-set-same, getD-set-other, getD-drop, drop-set-lt, drop-drop}
+use Rattle.location.specs.Sets.{limit}
+use Rattle.rules.specs.declared.Tagged.{Tagged}
+use Rattle.work.specs.declared.BranchEntry.{BranchEntry}
+use Rattle.work.specs.Layout.{changeBase, branchBase}
+use Rattle.work.specs.Words.{taggedIn, storedIn, Change, changeAt, entryAt, entryStored}
+use Rattle.work.proofs.Laws.{four}
+
+-- the n words from one on are the same in both
+pub record Same (w w′ : List ℕ) (from n : ℕ) : Type 0 where
+  pub word : (j : ℕ) → j < n → getD w (from + j) 0 ≡ getD w′ (from + j) 0
+
+before-sets : (vs w : List ℕ) (i j : ℕ) → j < i → getD (sets w i vs) j 0 ≡ getD w j 0
+before-sets [] w i j h = refl
+before-sets (a ∷ vs) w i j h = before-sets vs (set w i a) (suc i) j (omega arith) ∙ getD-set-other w i j a 0 (omega arith)
+
+after-sets : (vs w : List ℕ) (i j : ℕ) → i + length vs ≤ j → getD (sets w i vs) j 0 ≡ getD w j 0
+after-sets [] w i j h = refl
+after-sets (a ∷ vs) w i j h = after-sets vs (set w i a) (suc i) j (omega arith) ∙ getD-set-other w i j a 0 (omega arith)
+
+in-sets : (vs w : List ℕ) (i j : ℕ) → j < length vs → i + length vs ≤ length w → getD (sets w i vs) (i + j) 0 ≡ getD vs j 0
+in-sets [] w i j h f = absurd (omega arith)
+in-sets (a ∷ vs) w i zero h f =
+    rw (add-zero i) (before-sets vs (set w i a) (suc i) i (le-refl (suc i)) ∙ getD-set-same w i a 0 (omega arith))
+in-sets (a ∷ vs) w i (suc j) h f =
+    let e : i + suc j ≡ suc i + j = omega arith in
+    rw e (in-sets vs (set w i a) (suc i) j (omega arith) (rw (length-set w i a) (omega arith)))
+
+pub drop-sets : (vs w : List ℕ) (i n : ℕ) → i + length vs ≤ n → drop n (sets w i vs) ≡ drop n w
+drop-sets [] w i n h = refl
+drop-sets (a ∷ vs) w i n h = drop-sets vs (set w i a) (suc i) n (omega arith) ∙ drop-set-lt n w i a (omega arith)
+
+-- ---- where words are the same
+pub same-before : (vs w : List ℕ) (i from n : ℕ) → from + n ≤ i → Same (sets w i vs) w from n
+same-before vs w i from n h = record { word = λ j l. before-sets vs w i (from + j) (omega arith) }
+
+pub same-after : (vs w : List ℕ) (i from n : ℕ) → i + length vs ≤ from → Same (sets w i vs) w from n
+same-after vs w i from n h = record { word = λ j l. after-sets vs w i (from + j) (omega arith) }
+
+pub same-past : (w w′ : List ℕ) (m from n : ℕ) → m ≤ from → drop m w ≡ drop m w′ → Same w w′ from n
+same-past w w′ m from n h d =
+    record {
+      word = λ j l.
+          let k = from - m + j in
+          let e : from + j ≡ m + k = omega arith in
+          rw e (sym (getD-drop m w k 0) ∙ ap (λ (u : List ℕ). getD u k 0) d ∙ getD-drop m w′ k 0);
+    }
+
+pub drop-past : (w w′ : List ℕ) (m n : ℕ) → m ≤ n → drop m w ≡ drop m w′ → drop n w ≡ drop n w′
+drop-past w w′ m n h d =
+    let e : n ≡ m + (n - m) = omega arith in
+    rw (e, ← drop-drop (n - m) m w, ← drop-drop (n - m) m w′, d)
+
+-- ---- what is read there
+first-same : {w w′ : List ℕ} {i n : ℕ} → Same w w′ i n → 0 < n → getD w i 0 ≡ getD w′ i 0
+first-same {w} {w′} {i} s h = ap (λ (j : ℕ). getD w j 0) (sym (add-zero i)) ∙ s .word 0 h ∙ ap (λ (j : ℕ). getD w′ j 0) (add-zero i)
+
+pub tagged-same : {w w′ : List ℕ} {i : ℕ} → Same w w′ i 5 → taggedIn w i ≡ taggedIn w′ i
+tagged-same s =
+    let e₀ = first-same s (lit< tt) in
+    let e₁ = s .word 1 (lit< tt) in
+    let e₂ = s .word 2 (lit< tt) in
+    let e₃ = s .word 3 (lit< tt) in
+    let e₄ = s .word 4 (lit< tt) in
+    λ t. record { value = e₀ t; deps = record { words = e₁ t ∷ e₂ t ∷ e₃ t ∷ e₄ t ∷ [] } }
+
+pub change-same : {w w′ : List ℕ} (k : ℕ) → Same w w′ (changeBase k) 6 → changeAt w k ≡ changeAt w′ k
+change-same {w} {w′} k s =
+    let e = first-same s (lit< tt) in
+    let x : Same w w′ (changeBase k + 1) 5 = record
+    { word = λ j l. let p : changeBase k + 1 + j ≡ changeBase k + (1 + j) = omega arith in rw p (s .word (1 + j) (omega arith)) } in
+    λ t. record { location = e t % limit; before = tagged-same x t }
+
+pub entry-same : {w w′ : List ℕ} (k : ℕ) → Same w w′ (branchBase k) 4 → entryAt w k ≡ entryAt w′ k
+entry-same k s =
+    let e₀ = first-same s (lit< tt) in
+    let e₁ = s .word 1 (lit< tt) in
+    let e₂ = s .word 2 (lit< tt) in
+    let e₃ = s .word 3 (lit< tt) in
+    λ t. record { id = e₀ t; target = e₁ t; window = e₂ t; mark = e₃ t }
+
+-- the log and the branches stand past the operands
+pub log-same : (w w′ : List ℕ) → drop 1280 w ≡ drop 1280 w′ → changeAt w ≡ changeAt w′
+log-same w w′ d = fun-ext (λ k. change-same k (same-past w w′ 1280 (changeBase k) 6 (omega arith) d))
+
+pub entries-same : (w w′ : List ℕ) → drop 1280 w ≡ drop 1280 w′ → entryAt w ≡ entryAt w′
+entries-same w w′ d = fun-ext (λ k. entry-same k (same-past w w′ 1280 (branchBase k) 4 (omega arith) d))
+
+-- ---- what is read where it was stored
+first-in : (vs w : List ℕ) (i : ℕ) → 0 < length vs → i + length vs ≤ length w → getD (sets w i vs) i 0 ≡ getD vs 0 0
+first-in vs w i h f = ap (λ (j : ℕ). getD (sets w i vs) j 0) (sym (add-zero i)) ∙ in-sets vs w i 0 h f
+
+pub tagged-stored : (w : List ℕ) (i : ℕ) (v : Tagged) → length (v .deps .words) ≡ 4 → i + 5 ≤ length w → taggedIn (storedIn w i v) i ≡ v
+tagged-stored w i v h f =
+    let vs = v .value ∷ v .deps .words in
+    let g : i + length vs ≤ length w = omega arith in
+    let e₀ = first-in vs w i (omega arith) g in
+    let e₁ = in-sets vs w i 1 (omega arith) g in
+    let e₂ = in-sets vs w i 2 (omega arith) g in
+    let e₃ = in-sets vs w i 3 (omega arith) g in
+    let e₄ = in-sets vs w i 4 (omega arith) g in
+    let e : getD (sets w i vs) (i + 1) 0 ∷ getD (sets w i vs) (i + 2) 0 ∷ getD (sets w i vs) (i + 3) 0 ∷ getD (sets w i vs) (i + 4) 0 ∷ [] ≡ v .deps .words =
+    (λ t. e₁ t ∷ e₂ t ∷ e₃ t ∷ e₄ t ∷ []) ∙ four (v .deps .words) h in
+    λ t. record { value = e₀ t; deps = record { words = e t } }
+
+pub change-stored : (w : List ℕ) (k l : ℕ) (v : Tagged) → l < limit → length (v .deps .words) ≡ 4 → changeBase k + 6 ≤ length w
+    → changeAt (sets w (changeBase k) (l ∷ v .value ∷ v .deps .words)) k ≡ record { location = l; before = v }
+change-stored w k l v hl h f =
+    let i = changeBase k in
+    let vs = l ∷ v .value ∷ v .deps .words in
+    let m : l % limit ≡ l = omega arith in
+    let e₀ : getD (sets w i vs) i 0 % limit ≡ l = ap (λ (x : ℕ). x % limit) (first-in vs w i (omega arith) (omega arith)) ∙ m in
+    let e₁ : taggedIn (sets w i vs) (i + 1) ≡ v =
+    ap (taggedIn (sets w i vs)) (add-one i) ∙ tagged-stored (set w i l) (suc i) v h (rw (length-set w i l) (omega arith)) in
+    λ t. record { location = e₀ t; before = e₁ t }
+
+pub entry-stored : (w : List ℕ) (k : ℕ) (b : BranchEntry) → branchBase k + 4 ≤ length w → entryAt (entryStored w k b) k ≡ b
+entry-stored w k b f =
+    let vs = b .id ∷ b .target ∷ b .window ∷ b .mark ∷ [] in
+    let i = branchBase k in
+    let e₀ = first-in vs w i (lit< tt) f in
+    let e₁ = in-sets vs w i 1 (lit< tt) f in
+    let e₂ = in-sets vs w i 2 (lit< tt) f in
+    let e₃ = in-sets vs w i 3 (lit< tt) f in
+    λ t. record { id = e₀ t; target = e₁ t; window = e₂ t; mark = e₃ t }
+
+-- a branch's entry with another window
+abbrev pub withWindow : BranchEntry → ℕ → BranchEntry
+withWindow b v = record { id = b .id; target = b .target; window = v; mark = b .mark }
+
+pub entry-window : (w : List ℕ) (k v : ℕ) → branchBase k + 4 ≤ length w → entryAt (set w (branchBase k + 2) v) k ≡ withWindow (entryAt w k) v
+entry-window w k v f =
+    let i = branchBase k in
+    let e₀ = getD-set-other w (i + 2) i v 0 (omega arith) in
+    let e₁ = getD-set-other w (i + 2) (i + 1) v 0 (omega arith) in
+    let e₂ = getD-set-same w (i + 2) v 0 (omega arith) in
+    let e₃ = getD-set-other w (i + 2) (i + 3) v 0 (omega arith) in
+    λ t. record { id = e₀ t; target = e₁ t; window = e₂ t; mark = e₃ t }

@@ -1,0 +1,66 @@
+-- The rules' machine in the working words: a function of the words and of the control, so that whatever the words hold is some
+-- machine. What a branch saved is what undoing the changes since gives.
+-- Assumes nothing.
+use mathlib.Core.Path.{_≡_}
+use mathlib.Core.List.{List, [], _∷_}
+use Prim.Native.Nat.{ℕ, zero, suc, _+_, _-_, _≤_}
+use lib.ListN.{length}
+use Rattle.rules.specs.Rules.Calls.{workingWords}
+use Rattle.rules.specs.Rules.Plain.{State, put}
+use Rattle.rules.specs.Rules.Mispredicting.{Branch, Machine}
+use Rattle.work.specs.declared.BranchEntry.{BranchEntry}
+use Rattle.work.specs.declared.machine.Control.{Control}
+use Rattle.work.specs.Words.{taggedAt, Change, changeAt, entryAt}
+
+-- the operands of n locations from l on, and of the first n
+abbrev pub stateFrom : List ℕ → ℕ → ℕ → State
+stateFrom w l zero = []
+stateFrom w l (suc n) = taggedAt w l ∷ stateFrom w (suc l) n
+
+abbrev pub stateIn : List ℕ → ℕ → State
+stateIn w n = stateFrom w 0 n
+
+-- the last j of k changes, the last one first, where g i is change number i
+abbrev pub lastChanges : (ℕ → Change) → ℕ → ℕ → List Change
+lastChanges g k zero = []
+lastChanges g zero (suc j) = []
+lastChanges g (suc k) (suc j) = g k ∷ lastChanges g k j
+
+abbrev pub restored : State → List Change → State
+restored σ [] = σ
+restored σ (x ∷ xs) = restored (put σ (x .location) (x .before)) xs
+
+-- the state when the log had `mark` changes, where now it has k
+abbrev pub savedAt : (ℕ → Change) → State → ℕ → ℕ → State
+savedAt g σ k mark = restored σ (lastChanges g k (k - mark))
+
+-- the d open branches, the last one first, where e i is the entry of branch number i, and the log has k changes
+abbrev pub branchesOf : (ℕ → BranchEntry) → (ℕ → Change) → State → ℕ → ℕ → List Branch
+branchesOf e g σ k zero = []
+branchesOf e g σ k (suc d) =
+    record { id = e d .id; saved = savedAt g σ k (e d .mark); target = e d .target; window = e d .window }
+    ∷ branchesOf e g (savedAt g σ k (e d .mark)) (e d .mark) d
+
+-- the machine with n locations
+abbrev pub machineOf : List ℕ → Control → ℕ → Machine
+machineOf w c n = record {
+  state = stateIn w n;
+  place = c .place;
+  branches = branchesOf (entryAt w) (changeAt w) (stateIn w n) (c .log) (c .depth);
+  opened = c .opened;
+}
+
+-- Of d open branches and a log of k changes: the marks rise with the branches, and with nothing open the log is empty. A change
+-- or a branch costs the top at least 1 of its window, so that at most W changes and W + 1 branches stand in the words.
+abbrev pub Held : (ℕ → BranchEntry) → ℕ → ℕ → ℕ → Type 0
+Held e W zero k = k ≡ 0
+Held e W (suc d) k = (e d .mark ≤ k) × (k + d + e d .window ≤ W) × Held e W d (e d .mark)
+
+-- "w 0 to 200"
+abbrev pub maxWindow : ℕ
+maxWindow = 200
+
+-- the working area is long enough, and the log and the branches do not meet
+pub record Fit (w : List ℕ) (c : Control) : Type 0 where
+  pub room : workingWords ≤ length w
+  pub held : Held (entryAt w) maxWindow (c .depth) (c .log)
