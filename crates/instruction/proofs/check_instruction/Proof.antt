@@ -1,0 +1,72 @@
+-- `instruction::check_instruction` meets its contract: 4, then 5, then 6. Assumes nothing.
+use Rattle.rules.specs.Rules.JobFile.{instruction}
+use borrow.Author.Needs.{needs}
+use Rattle.instruction.proofs.check_instruction.Statement.{statement}
+use Rattle.instruction.proofs.check_instruction.Tie as tie
+
+decode-requires : tie.Need-decode-requires
+decode-requires c κs = search needs
+
+enum-known-d : tie.Need-enum-known-d
+enum-known-d c = search needs
+
+postfix-holds-requires : tie.Need-postfix-holds-requires
+postfix-holds-requires c κs = search needs
+
+branch-label-holds-requires : tie.Need-branch-label-holds-requires
+branch-label-holds-requires c κs = search needs
+
+enum-known-r : tie.Need-enum-known-r
+enum-known-r c = search needs
+
+returns : tie.Need-returns
+unfolding instruction
+returns c =
+    let b = c .before .before in
+    let d = b .before .before .before in
+    rw (
+      ← (d .before .before .decode .ensures),
+      d .d .given .1,
+      ← (b .before .postfix-holds .ensures),
+      b .if1 .taken,
+      ← (c .before .branch-label-holds .ensures _),
+      c .if2 .taken,
+    )
+
+returns-2 : tie.Need-returns-2
+unfolding instruction
+returns-2 c =
+    let b = c .before .before in
+    let d = b .before .before .before in
+    rw (
+      ← (d .before .before .decode .ensures),
+      d .d .given .1,
+      ← (b .before .postfix-holds .ensures),
+      b .if1 .taken,
+      ← (c .before .branch-label-holds .ensures _),
+      c .if2 .left,
+    )
+
+returns-3 : tie.Need-returns-3
+unfolding instruction
+returns-3 c =
+    let d = c .before .before .before in
+    rw (← (d .before .before .decode .ensures), d .d .given .1, ← (c .before .postfix-holds .ensures), c .if1 .left)
+
+returns-4 : tie.Need-returns-4
+unfolding instruction
+returns-4 c = rw (← (c .before .before .before .decode .ensures), c .before .r .given .1)
+
+pub check-instruction-spec : {M : Type 1} → statement M
+check-instruction-spec =
+    tie.close
+    (tie.spec
+    decode-requires
+    enum-known-d
+    postfix-holds-requires
+    branch-label-holds-requires
+    enum-known-r
+    returns
+    returns-2
+    returns-3
+    returns-4)

@@ -1,0 +1,120 @@
+-- `instruction::decode` meets its contract, by the kind byte. Assumes nothing.
+use mathlib.Core.Path.{sym, _∙_}
+use Rattle.instruction.proofs.Laws.{beyond, instr-kind, instr-unknown}
+use Rattle.rules.specs.Rules.JobFile.{instr, fields}
+use Rattle.token.specs.Bytes.{byte-past}
+use borrow.Author.Needs.{needs}
+use Rattle.instruction.proofs.decode.Statement.{statement}
+use Rattle.instruction.proofs.decode.Tie as tie
+
+returns : tie.Need-returns
+unfolding instr
+returns c = let a = c .before .before .args in simp (byte-past (a .p .now) (a .at) (c .if1 .taken))
+
+shared-slice-read-k : tie.Need-shared-slice-read-k
+shared-slice-read-k c = search needs
+
+add-next : tie.Need-add-next
+add-next c = search needs
+
+read-with-register-requires : tie.Need-read-with-register-requires
+read-with-register-requires c κs = search needs
+
+read-with-register-requires-2 : tie.Need-read-with-register-requires-2
+read-with-register-requires-2 c κs = search needs
+
+read-with-register-requires-3 : tie.Need-read-with-register-requires-3
+read-with-register-requires-3 c κs = search needs
+
+read-jump-requires : tie.Need-read-jump-requires
+read-jump-requires c κs = search needs
+
+read-branch-requires : tie.Need-read-branch-requires
+read-branch-requires c κs = search needs
+
+read-conditional-requires : tie.Need-read-conditional-requires
+read-conditional-requires c κs = search needs
+
+returns-2 : tie.Need-returns-2
+unfolding fields
+returns-2 c =
+    let a = c .before .before .before .before .args in
+    sym (instr-kind (a .p .now) (a .at) 0 (c .before .before .if1 .left) (c .match .keys1))
+
+returns-3 : tie.Need-returns-3
+unfolding fields
+returns-3 c =
+    let b = c .before in
+    let a = b .before .before .before .before .args in
+    c .read-with-register .ensures ∙ sym (instr-kind (a .p .now) (a .at) 1 (b .before .before .if1 .left) (b .match .keys2))
+
+returns-4 : tie.Need-returns-4
+unfolding fields
+returns-4 c =
+    let b = c .before in
+    let a = b .before .before .before .before .args in
+    c .read-with-register2 .ensures ∙ sym (instr-kind (a .p .now) (a .at) 2 (b .before .before .if1 .left) (b .match .keys3))
+
+returns-5 : tie.Need-returns-5
+unfolding fields
+returns-5 c =
+    let b = c .before in
+    let a = b .before .before .before .before .args in
+    c .read-with-register3 .ensures ∙ sym (instr-kind (a .p .now) (a .at) 3 (b .before .before .if1 .left) (b .match .keys4))
+
+returns-6 : tie.Need-returns-6
+unfolding fields
+returns-6 c =
+    let b = c .before in
+    let a = b .before .before .before .before .args in
+    c .read-jump .ensures ∙ sym (instr-kind (a .p .now) (a .at) 4 (b .before .before .if1 .left) (b .match .keys5))
+
+returns-7 : tie.Need-returns-7
+unfolding fields
+returns-7 c =
+    let b = c .before in
+    let a = b .before .before .before .before .args in
+    c .read-branch .ensures ∙ sym (instr-kind (a .p .now) (a .at) 5 (b .before .before .if1 .left) (b .match .keys6))
+
+returns-8 : tie.Need-returns-8
+unfolding fields
+returns-8 c =
+    let b = c .before in
+    let a = b .before .before .before .before .args in
+    c .read-conditional .ensures ∙ sym (instr-kind (a .p .now) (a .at) 6 (b .before .before .if1 .left) (b .match .keys7))
+
+returns-9 : tie.Need-returns-9
+unfolding fields
+returns-9 c =
+    let a = c .before .before .before .before .args in
+    sym (instr-kind (a .p .now) (a .at) 7 (c .before .before .if1 .left) (c .match .keys8))
+
+returns-10 : tie.Need-returns-10
+returns-10 c =
+    let a = c .before .before .before .before .args in
+    let m = c .match .rest in
+    sym (instr-unknown (a .p .now) (a .at) (c .before .before .if1 .left)
+    (beyond _ (m .0 .0 .0 .0 .0 .0 .0 .1) (m .0 .0 .0 .0 .0 .0 .1) (m .0 .0 .0 .0 .0 .1) (m .0 .0 .0 .0 .1) (m .0 .0 .0 .1) (m .0 .0 .1) (m .0 .1) (m .1)))
+
+pub decode-spec : {M : Type 1} → statement M
+decode-spec =
+    tie.close
+    (tie.spec
+    returns
+    shared-slice-read-k
+    add-next
+    read-with-register-requires
+    read-with-register-requires-2
+    read-with-register-requires-3
+    read-jump-requires
+    read-branch-requires
+    read-conditional-requires
+    returns-2
+    returns-3
+    returns-4
+    returns-5
+    returns-6
+    returns-7
+    returns-8
+    returns-9
+    returns-10)

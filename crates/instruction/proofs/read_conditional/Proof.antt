@@ -1,0 +1,91 @@
+-- `instruction::read_conditional` meets its contract: each answer of the three readers, in the order of the rules. Assumes nothing.
+use Rattle.rules.specs.Rules.JobFile.{conditional}
+use borrow.Author.Needs.{needs}
+use Rattle.instruction.proofs.read_conditional.Statement.{statement}
+use Rattle.instruction.proofs.read_conditional.Tie as tie
+
+read-register-requires : tie.Need-read-register-requires
+read-register-requires c κs = search needs
+
+enum-known-r : tie.Need-enum-known-r
+enum-known-r c = search needs
+
+read-expression-requires : tie.Need-read-expression-requires
+read-expression-requires c κs = search needs
+
+enum-known-c : tie.Need-enum-known-c
+enum-known-c c = search needs
+
+read-expression-requires-2 : tie.Need-read-expression-requires-2
+read-expression-requires-2 c κs = search needs
+
+enum-known-e : tie.Need-enum-known-e
+enum-known-e c = search needs
+
+enum-known-n : tie.Need-enum-known-n
+enum-known-n c = search needs
+
+enum-known-n-2 : tie.Need-enum-known-n-2
+enum-known-n-2 c = search needs
+
+enum-known-n-3 : tie.Need-enum-known-n-3
+enum-known-n-3 c = search needs
+
+returns : tie.Need-returns
+unfolding conditional
+returns c =
+    let e = c .before in
+    let d = e .before .before .before .before in
+    let r = d .before .before .before .before in
+    rw (
+      ← (r .before .before .read-register .ensures),
+      r .r .given .1,
+      ← (d .before .before .read-expression .ensures),
+      d .c .given .1,
+      ← (e .before .before .read-expression2 .ensures),
+      e .e .given .1,
+    )
+
+returns-2 : tie.Need-returns-2
+unfolding conditional
+returns-2 c =
+    let e = c .before in
+    let d = e .before .before .before .before in
+    let r = d .before .before .before .before in
+    rw (
+      ← (r .before .before .read-register .ensures),
+      r .r .given .1,
+      ← (d .before .before .read-expression .ensures),
+      d .c .given .1,
+      ← (e .before .before .read-expression2 .ensures),
+      e .n .given .1,
+    )
+
+returns-3 : tie.Need-returns-3
+unfolding conditional
+returns-3 c =
+    let d = c .before in
+    let r = d .before .before .before .before in
+    rw (← (r .before .before .read-register .ensures), r .r .given .1, ← (d .before .before .read-expression .ensures), d .n2 .given .1)
+
+returns-4 : tie.Need-returns-4
+unfolding conditional
+returns-4 c = rw (← (c .before .before .before .read-register .ensures), c .before .n3 .given .1)
+
+pub read-conditional-spec : {M : Type 1} → statement M
+read-conditional-spec =
+    tie.close
+    (tie.spec
+    read-register-requires
+    enum-known-r
+    read-expression-requires
+    enum-known-c
+    read-expression-requires-2
+    enum-known-e
+    enum-known-n
+    enum-known-n-2
+    enum-known-n-3
+    returns
+    returns-2
+    returns-3
+    returns-4)

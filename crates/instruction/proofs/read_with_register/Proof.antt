@@ -1,0 +1,60 @@
+-- `instruction::read_with_register` meets its contract: each answer of the two readers, in the order of the rules. Assumes nothing.
+use Rattle.rules.specs.Rules.JobFile.{withRegister}
+use borrow.Author.Needs.{needs}
+use Rattle.instruction.proofs.read_with_register.Statement.{statement}
+use Rattle.instruction.proofs.read_with_register.Tie as tie
+
+read-register-requires : tie.Need-read-register-requires
+read-register-requires c κs = search needs
+
+enum-known-r : tie.Need-enum-known-r
+enum-known-r c = search needs
+
+read-expression-requires : tie.Need-read-expression-requires
+read-expression-requires c κs = search needs
+
+enum-known-e : tie.Need-enum-known-e
+enum-known-e c = search needs
+
+with-register-requires : tie.Need-with-register-requires
+with-register-requires c κs = search needs
+
+enum-known-n : tie.Need-enum-known-n
+enum-known-n c = search needs
+
+enum-known-n-2 : tie.Need-enum-known-n-2
+enum-known-n-2 c = search needs
+
+returns : tie.Need-returns
+unfolding withRegister
+returns c =
+    let e = c .before .before in
+    let r = e .before .before .before .before in
+    rw (← (r .before .before .read-register .ensures), r .r .given .1, ← (e .before .before .read-expression .ensures), e .e .given .1)
+    (rw (c .with-register .ensures _))
+
+returns-2 : tie.Need-returns-2
+unfolding withRegister
+returns-2 c =
+    let e = c .before in
+    let r = e .before .before .before .before in
+    rw (← (r .before .before .read-register .ensures), r .r .given .1, ← (e .before .before .read-expression .ensures), e .n .given .1)
+
+returns-3 : tie.Need-returns-3
+unfolding withRegister
+returns-3 c = rw (← (c .before .before .before .read-register .ensures), c .before .n2 .given .1)
+
+pub read-with-register-spec : {M : Type 1} → statement M
+read-with-register-spec =
+    tie.close
+    (tie.spec
+    read-register-requires
+    enum-known-r
+    read-expression-requires
+    enum-known-e
+    with-register-requires
+    enum-known-n
+    enum-known-n-2
+    returns
+    returns-2
+    returns-3)

@@ -1,0 +1,129 @@
+-- The byte offset of each label of a program, and the instruction that stands there in a program that was accepted.
+-- Assumes nothing.
+use mathlib.Core.Path.{_≡_, refl, sym, ap}
+use mathlib.Core.Bool.{Bool, true, false, cond}
+use mathlib.Core.List.{List, [], _∷_}
+use Prim.Native.Nat.{ℕ, zero, suc, _+_, _<_}
+use native.Mathlib.Omega.{arith}
+use lib.ListN.{length, getD}
+use Rattle.rules.specs.declared.Refusal.{Refusal}
+use Rattle.rules.specs.declared.Refusal.the-variants as refusals
+use Rattle.rules.specs.Rules.Instructions.{Instr, skip}
+use Rattle.rules.specs.Rules.JobFile.{Read, got, refused, andThen, instr, postfix, target, instruction, program}
+use Rattle.token.specs.Meaning.{valueOr}
+use Rattle.instruction.specs.declared.Decoded.{Decoded}
+use Rattle.instruction.specs.declared.InstructionRead.the-variants as instruction-read
+use Rattle.instruction.specs.Meaning.{meaning, instructionReadMeaning}
+
+-- ---- offsets
+-- the offset after what was read
+unfoldable pub nextOffset : {A : Type 0} → Read A → ℕ
+nextOffset (got a q) = q
+nextOffset (refused r) = 0
+
+-- the offsets of k instructions, the first at an offset
+unfoldable pub offsetsFrom : ℕ → List ℕ → ℕ → List ℕ
+offsetsFrom zero p at = []
+offsetsFrom (suc k) p at = at ∷ offsetsFrom k p (nextOffset (instr p at))
+
+-- whether something was read
+unfoldable pub readable : {A : Type 0} → Read A → Bool
+readable (got a q) = true
+readable (refused r) = false
+
+-- The instruction with label i of n is x and stands at an offset: it can be read there, and passed the tests of 5 and 6.
+pub record Stands (n i : ℕ) (p : List ℕ) (at : ℕ) (x : Instr) : Type 0 where
+  pub read : instr p at ≡ got x (nextOffset (instr p at))
+  pub sound : postfix x ≡ true
+  pub label : target n i x ≡ true
+
+-- What `fetch` asks: the label is one of the program's, its entry of the table holds its offset, and the program was accepted.
+pub record Fetchable (p : List ℕ) (n : ℕ) (table : List ℕ) (base label : ℕ) : Type 0 where
+  pub inside : label < n
+  pub room : base + label < length table
+  pub entry : getD table (base + label) 0 ≡ getD (offsetsFrom n p 0) label 0
+  pub accepted : readable (program n n 0 p 0) ≡ true
+
+-- What `fetch` gives: what the rules read at the label's offset, which is the program's instruction with that label.
+pub record Fetched (p : List ℕ) (n label : ℕ) (d : Decoded) : Type 0 where
+  pub read : instructionReadMeaning p (instruction-read.Found d) ≡ instr p (getD (offsetsFrom n p 0) label 0)
+  pub same : meaning p (d .instruction) ≡ getD (valueOr [] (program n n 0 p 0)) label skip
+
+-- ---- laws
+pub got-not-refused : {A P : Type 0} {a : A} {q : ℕ} {r : Refusal} → refused r ≡ got a q → P
+got-not-refused {A} {P} {a} {q} {r} e = absurd (let z : _≡_ {A = ℕ} 0 1 = cc in omega arith)
+
+pub got-same : {A : Type 0} {a b : A} {q r : ℕ} → got a q ≡ got b r → a ≡ b
+got-same e = cc
+
+pub instruction-got : (n i : ℕ) (p : List ℕ) (at : ℕ) (x : Instr) (q : ℕ) → instruction n i p at ≡ got x q
+    → Stands n i p at x × (q ≡ nextOffset (instr p at))
+unfolding instruction nextOffset
+instruction-got n i p at x q e = first (instr p at) refl e
+  where
+    branchTest : Instr → ℕ → Read Instr
+    branchTest y q′ = cond (target n i y) (got y q′) (refused refusals.BranchLabel)
+
+    tests : Instr → ℕ → Read Instr
+    tests y q′ = andThen (cond (postfix y) (got y q′) (refused refusals.Postfix)) branchTest
+
+    second : (y : Instr) (q′ : ℕ) (a b : Bool) → postfix y ≡ a → target n i y ≡ b → instr p at ≡ got y q′
+        → andThen (cond a (got y q′) (refused refusals.Postfix)) branchTest ≡ got x q → Stands n i p at x × (q ≡ nextOffset (instr p at))
+    second y q′ false b ea eb r e = got-not-refused e
+    second y q′ true false ea eb r e = got-not-refused (rw eb at e)
+    second y q′ true true ea eb r e =
+        let f : got y q′ ≡ got x q = rw eb at e in
+        let fx : y ≡ x = cc in
+        let fq : q′ ≡ q = cc in
+        (record { read = rw r (ap (λ (z : Instr). got z q′) fx); sound = rw fx at ea; label = rw fx at eb }, rw r (sym fq))
+
+    first : (R : Read Instr) → instr p at ≡ R → andThen R tests ≡ got x q → Stands n i p at x × (q ≡ nextOffset (instr p at))
+    first (got y q′) r e = second y q′ (postfix y) (target n i y) refl refl r e
+    first (refused r′) r e = got-not-refused e
+
+-- each of k instructions, the first with label i, stands at its offset
+AllStand : ℕ → ℕ → ℕ → List ℕ → ℕ → List Instr → Type 0
+AllStand n k i p at xs = (l : ℕ) → l < k → Stands n (i + l) p (getD (offsetsFrom k p at) l 0) (getD xs l skip)
+
+cons : (n k i : ℕ) (p : List ℕ) (at : ℕ) (x : Instr) (ys : List Instr) (q : ℕ) → instruction n i p at ≡ got x q
+    → AllStand n k (i + 1) p q ys → AllStand n (suc k) i p at (x ∷ ys)
+unfolding AllStand offsetsFrom
+cons n k i p at x ys q r s zero h = let z : i + 0 ≡ i = omega arith in rw z (instruction-got n i p at x q r .0)
+cons n k i p at x ys q r s (suc l) h =
+    let z : i + suc l ≡ i + 1 + l = omega arith in
+    let t = instruction-got n i p at x q r .1 in
+    rw (z, ← t) (s l (omega arith))
+
+step : (n k i : ℕ) (p : List ℕ) (at : ℕ) (xs : List Instr) (q : ℕ) (f : ℕ → Read (List Instr))
+    → ((ys : List Instr) (q′ : ℕ) → f q′ ≡ got ys q → AllStand n k (i + 1) p q′ ys) → (R : Read Instr) → instruction n i p at ≡ R
+    → andThen R (λ x q′. andThen (f q′) (λ ys q″. got (x ∷ ys) q″)) ≡ got xs q → AllStand n (suc k) i p at xs
+step n k i p at xs q f rec (got x q′) r e = rest (f q′) refl e
+  where
+    rest : (S : Read (List Instr)) → f q′ ≡ S → andThen S (λ ys q″. got (x ∷ ys) q″) ≡ got xs q → AllStand n (suc k) i p at xs
+    rest (got ys q″) s e =
+        let g : x ∷ ys ≡ xs = cc in
+        let h : q″ ≡ q = cc in
+        rw g at (cons n k i p at x ys q′ r (rec ys q′ (rw h at s)))
+    rest (refused w) s e = got-not-refused e
+step n k i p at xs q f rec (refused w) r e = got-not-refused e
+
+-- k instructions of n that were read, the first with label i: each stands at its offset
+pub program-got : (n k i : ℕ) (p : List ℕ) (at : ℕ) (xs : List Instr) (q : ℕ) → program n k i p at ≡ got xs q
+    → (l : ℕ) → l < k → Stands n (i + l) p (getD (offsetsFrom k p at) l 0) (getD xs l skip)
+unfolding program AllStand
+program-got n zero i p at xs q e = λ l h. absurd (omega arith)
+program-got n (suc k) i p at xs q e =
+    step n k i p at xs q (program n k (i + 1) p) (λ ys q′ s. program-got n k (i + 1) p q′ ys q s) (instruction n i p at) refl e
+
+pub labelled : (n k i : ℕ) (p : List ℕ) (at : ℕ) → readable (program n k i p at) ≡ true
+    → (l : ℕ) → l < k → Stands n (i + l) p (getD (offsetsFrom k p at) l 0) (getD (valueOr [] (program n k i p at)) l skip)
+unfolding readable
+labelled n k i p at h l g = go (program n k i p at) refl h
+  where
+    unread : (r : Refusal) → readable {A = List Instr} (refused r) ≡ true → ⊥
+    unread r h = let z : _≡_ {A = ℕ} 0 1 = cc in omega arith
+
+    go : (R : Read (List Instr)) → program n k i p at ≡ R → readable R ≡ true
+        → Stands n (i + l) p (getD (offsetsFrom k p at) l 0) (getD (valueOr [] R) l skip)
+    go (got xs q) e h = program-got n k i p at xs q e l g
+    go (refused r) e h = absurd (unread r h)
