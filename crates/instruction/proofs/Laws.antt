@@ -1,25 +1,17 @@
--- How the match on the kind byte, the loop over instructions and the lowering of a window meet the rules.
+-- How the match on the kind byte and the lowering of a window meet the rules.
 -- Assumes nothing.
-use mathlib.Core.Path.{_≡_, refl, sym, ap, _∙_}
-use mathlib.Core.List.{List, [], _∷_}
-use Prim.Native.Nat.{ℕ, suc, zero-le, _+_, _-_, _≤_, _<_}
+use mathlib.Core.Path.{_≡_, refl}
+use mathlib.Core.List.{List}
+use Prim.Native.Nat.{ℕ, zero-le, _+_, _-_, _≤_, _<_}
 use native.Mathlib.Omega.{arith}
 use lib.ListN.{length, getD, List·getD-eq-default}
 use borrow.Author.Tests.{ne-eqb}
-use Rattle.rules.specs.declared.Refusal.{Refusal}
 use Rattle.rules.specs.declared.Refusal.the-variants as refusals
-use Rattle.rules.specs.Rules.Instructions.{Instr, skip, kind, windowCosts}
-use Rattle.rules.specs.Rules.JobFile.{Read, got, refused, refuse, andThen, fields, instr, instruction, program}
+use Rattle.rules.specs.Rules.Instructions.{Instr, kind, windowCosts}
+use Rattle.rules.specs.Rules.JobFile.{refused, refuse, fields, instr}
 use Rattle.rules.specs.Rules.Plain.{Code}
 use Rattle.rules.specs.Rules.Mispredicting.{remaining}
 use Rattle.token.specs.Bytes.{byte-got}
-use Rattle.token.specs.Meaning.{valueOr}
-use Rattle.instruction.specs.declared.Checked.the-variants as check
-use Rattle.instruction.specs.declared.Decoded.{Decoded}
-use Rattle.instruction.specs.declared.InstructionRead.{InstructionRead}
-use Rattle.instruction.specs.declared.InstructionRead.the-variants as instruction-read
-use Rattle.instruction.specs.Meaning.{instructionReadMeaning, checkedOf}
-use Rattle.instruction.specs.Offsets.{offsetsFrom, Stands, Fetchable, Fetched, labelled, got-not-refused, got-same}
 
 -- ---- the kind byte: the fields of each kind; a number that is none of the eight kinds
 pub instr-kind : (p : List ℕ) (at k : ℕ) → at < length p → getD p at 0 ≡ k → instr p at ≡ getD fields k (refuse refusals.Encoding) p (at + 1)
@@ -37,31 +29,6 @@ pub beyond : (k : ℕ) → (k ≡ 0 → ⊥) → (k ≡ 1 → ⊥) → (k ≡ 2 
     → (k ≡ 4 → ⊥) → (k ≡ 5 → ⊥) → (k ≡ 6 → ⊥) → (k ≡ 7 → ⊥) → 8 ≤ k
 beyond k a b c d e f g h = more 7 k (more 6 k (more 5 k (more 4 k (more 3 k (more 2 k (more 1 k (more 0 k zero-le a) b) c) d) e) f) g) h
 
--- ---- the program: one instruction more, or a refusal
-first : (R : Read (List Instr)) (x : Instr) → checkedOf (andThen R (λ xs q. got (x ∷ xs) q)) ≡ checkedOf R
-first (got xs q) x = refl
-first (refused r) x = refl
-
-onward : (R : Read Instr) (f : ℕ → Read (List Instr)) (q : ℕ) → check.Next q ≡ checkedOf R
-    → checkedOf (andThen R (λ x q. andThen (f q) (λ xs q′. got (x ∷ xs) q′))) ≡ checkedOf (f q)
-onward (got x q′) f q e = let e₁ : q ≡ q′ = cc in rw e₁ (first (f q′) x)
-onward (refused r) f q e = absurd (let z : _≡_ {A = ℕ} 0 1 = cc in omega arith)
-
-pub program-next : (n k i : ℕ) (p : List ℕ) (at q : ℕ) → check.Next q ≡ checkedOf (instruction n i p at)
-    → checkedOf (program n (suc k) i p at) ≡ checkedOf (program n k (i + 1) p q)
-unfolding program
-program-next n k i p at q e = onward (instruction n i p at) (program n k (i + 1) p) q e
-
-halted : (R : Read Instr) (f : ℕ → Read (List Instr)) (r : Refusal) → check.Refused r ≡ checkedOf R
-    → checkedOf (andThen R (λ x q. andThen (f q) (λ xs q′. got (x ∷ xs) q′))) ≡ check.Refused r
-halted (got x q′) f r e = absurd (let z : _≡_ {A = ℕ} 0 1 = cc in omega arith)
-halted (refused r′) f r e = let e₁ : r′ ≡ r = cc in ap check.Refused e₁
-
-pub program-refused : (n k i : ℕ) (p : List ℕ) (at : ℕ) (r : Refusal) → check.Refused r ≡ checkedOf (instruction n i p at)
-    → checkedOf (program n (suc k) i p at) ≡ check.Refused r
-unfolding program
-program-refused n k i p at r e = halted (instruction n i p at) (program n k (i + 1) p) r e
-
 -- ---- windows: k is the kind of the instruction i, c its cost
 pub remaining-barrier : (code : Code) (i : Instr) (v k : ℕ) → k ≡ kind i → k ≡ 7 → 0 ≡ remaining code i v
 unfolding remaining
@@ -71,20 +38,3 @@ pub remaining-other : (code : Code) (i : Instr) (v k c : ℕ) → code .costs �
     → c ≡ getD windowCosts (kind i) 0 → v - c ≡ remaining code i v
 unfolding remaining
 remaining-other code i v k c s e h g = rw (s, ← g, ← e, ne-eqb k 7 h)
-
--- ---- fetching: the answer r of the decoder at the label's entry
-module _ (p : List ℕ) (n : ℕ) (table : List ℕ) (base label i : ℕ) (r : InstructionRead) (asked : Fetchable p n table base label) (same : i ≡ label)
-    (decoded : instructionReadMeaning p r ≡ instr p (getD table (base + i) 0)) where
-  at-offset : instructionReadMeaning p r ≡ instr p (getD (offsetsFrom n p 0) label 0)
-  at-offset = decoded ∙ ap (λ (j : ℕ). instr p (getD table (base + j) 0)) same ∙ ap (instr p) (asked .entry)
-
-  stands : Stands n (0 + label) p (getD (offsetsFrom n p 0) label 0) (getD (valueOr [] (program n n 0 p 0)) label skip)
-  stands = labelled n n 0 p 0 (asked .accepted) label (asked .inside)
-
-  pub fetched : (d : Decoded) → r ≡ instruction-read.Found d → Fetched p n label d
-  fetched d e =
-      let f : instructionReadMeaning p (instruction-read.Found d) ≡ instr p (getD (offsetsFrom n p 0) label 0) = sym (ap (instructionReadMeaning p) e) ∙ at-offset in
-      record { read = f; same = got-same (f ∙ stands .read) }
-
-  pub not-refused : {P : Type 0} (w : Refusal) → r ≡ instruction-read.Refused w → P
-  not-refused w e = got-not-refused (sym (ap (instructionReadMeaning p) e) ∙ at-offset ∙ stands .read)

@@ -16,8 +16,6 @@ use Rattle.instruction.specs.declared.Instruction.{Instruction}
 use Rattle.instruction.specs.declared.Instruction.the-variants.{Skip, Assign, Load, Store, Jump, BranchZero, AssignIf, Barrier}
 use Rattle.instruction.specs.declared.InstructionRead.{InstructionRead}
 use Rattle.instruction.specs.declared.InstructionRead.the-variants as instruction-read
-use Rattle.instruction.specs.declared.Checked.{Checked}
-use Rattle.instruction.specs.declared.Checked.the-variants as check
 
 abbrev pub registerReadMeaning : RegisterRead → Read ℕ
 registerReadMeaning (register-read.Found r q) = got r q
@@ -45,8 +43,3 @@ withRegisterOf k = cond (eqb k 1) assign (cond (eqb k 2) load store)
 abbrev pub instructionReadMeaning : List ℕ → InstructionRead → Read Instr
 instructionReadMeaning p (instruction-read.Found d) = got (meaning p (d .instruction)) (d .next)
 instructionReadMeaning p (instruction-read.Refused r) = refused r
-
--- the code's answer for what the rules read and tested
-abbrev pub checkedOf : {A : Type 0} → Read A → Checked
-checkedOf (got a q) = check.Next q
-checkedOf (refused r) = check.Refused r

@@ -1,7 +1,7 @@
--- `instruction::postfix_holds` meets its contract, by the eight instructions. Assumes nothing.
+-- `program::postfix_holds` meets its contract, by the eight instructions. Assumes nothing.
 use borrow.Author.Needs.{needs}
-use Rattle.instruction.proofs.postfix_holds.Statement.{statement}
-use Rattle.instruction.proofs.postfix_holds.Tie as tie
+use Rattle.program.proofs.postfix_holds.Statement.{statement}
+use Rattle.program.proofs.postfix_holds.Tie as tie
 
 enum-told : tie.Need-enum-told
 enum-told c = search needs

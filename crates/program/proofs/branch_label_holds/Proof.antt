@@ -1,8 +1,10 @@
--- `instruction::branch_label_holds` meets its contract, by the eight instructions; a branch by its two tests. Assumes nothing.
-use borrow.Author.Tests.{le-leb, lt-leb, eq-eqb, ne-eqb}
 use borrow.Author.Needs.{needs}
-use Rattle.instruction.proofs.branch_label_holds.Statement.{statement}
-use Rattle.instruction.proofs.branch_label_holds.Tie as tie
+use Rattle.program.proofs.branch_label_holds.Statement.{statement}
+use Rattle.program.proofs.branch_label_holds.Tie as tie
+use borrow.Author.Tests.{le-leb, lt-leb, eq-eqb, ne-eqb}
+use Rattle.program.proofs.branch_label_holds.Tie as tie
+
+-- `program::branch_label_holds` meets its contract, by the eight instructions; a branch by its two tests. Assumes nothing.
 
 enum-told : tie.Need-enum-told
 enum-told c = search needs
@@ -28,8 +30,8 @@ index-requires c κs = search needs
 returns : tie.Need-returns
 returns c = λ p. rw (c .before .before .before .i .given .1, ← (c .before .index .ensures)) (simp (lt-leb _ _ (c .if1 .taken)))
 
-add-if2 : tie.Need-add-if2
-add-if2 c = search needs
+add-next : tie.Need-add-next
+add-next c = search needs
 
 returns-2 : tie.Need-returns-2
 returns-2 c = λ p.
@@ -80,7 +82,7 @@ branch-label-holds-spec =
     enum-known-i
     index-requires
     returns
-    add-if2
+    add-next
     returns-2
     enum-told-6
     enum-told-7

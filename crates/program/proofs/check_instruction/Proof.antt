@@ -1,8 +1,8 @@
--- `instruction::check_instruction` meets its contract: 4, then 5, then 6. Assumes nothing.
+-- `program::check_instruction` meets its contract: 4, then 5, then 6. Assumes nothing.
 use Rattle.rules.specs.Rules.JobFile.{instruction}
 use borrow.Author.Needs.{needs}
-use Rattle.instruction.proofs.check_instruction.Statement.{statement}
-use Rattle.instruction.proofs.check_instruction.Tie as tie
+use Rattle.program.proofs.check_instruction.Statement.{statement}
+use Rattle.program.proofs.check_instruction.Tie as tie
 
 decode-requires : tie.Need-decode-requires
 decode-requires c κs = search needs

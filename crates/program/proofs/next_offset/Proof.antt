@@ -1,8 +1,8 @@
--- `instruction::next_offset` meets its contract, by the two answers of the decoder. Assumes nothing.
-use Rattle.instruction.specs.Offsets.{nextOffset}
+-- `program::next_offset` meets its contract, by the two answers of the decoder. Assumes nothing.
+use Rattle.program.specs.Offsets.{nextOffset}
 use borrow.Author.Needs.{needs}
-use Rattle.instruction.proofs.next_offset.Statement.{statement}
-use Rattle.instruction.proofs.next_offset.Tie as tie
+use Rattle.program.proofs.next_offset.Statement.{statement}
+use Rattle.program.proofs.next_offset.Tie as tie
 
 decode-requires : tie.Need-decode-requires
 decode-requires c κs = search needs

@@ -1,8 +1,8 @@
--- `instruction::fetch` meets its contract: an accepted program has its instruction at the offset of each label. Assumes nothing.
-use Rattle.instruction.proofs.Laws.{fetched, not-refused}
+-- `program::fetch` meets its contract: an accepted program has its instruction at the offset of each label. Assumes nothing.
+use Rattle.program.proofs.Laws.{fetched, not-refused}
 use borrow.Author.Needs.{needs}
-use Rattle.instruction.proofs.fetch.Statement.{statement}
-use Rattle.instruction.proofs.fetch.Tie as tie
+use Rattle.program.proofs.fetch.Statement.{statement}
+use Rattle.program.proofs.fetch.Tie as tie
 
 index-requires : tie.Need-index-requires
 index-requires c κs = search needs

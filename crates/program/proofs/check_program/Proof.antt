@@ -1,4 +1,4 @@
--- `instruction::check_program` meets its contract. The invariant: checking the instructions left is checking the whole program.
+-- `program::check_program` meets its contract. The invariant: checking the instructions left is checking the whole program.
 -- Assumes nothing.
 use borrow.Author.Tests.{eq-eqb, ne-eqb}
 use native.Mathlib.Omega.{arith}
@@ -7,10 +7,10 @@ use mathlib.Core.Path.{_≡_, sym, _∙_}
 use Prim.Native.Nat.{suc, zero-le, _+_, _-_, _≤_}
 use native.Mathlib.Nat.{sub-zero}
 use borrow.Author.Needs.{needs}
-use Rattle.instruction.specs.Meaning.{checkedOf}
-use Rattle.instruction.proofs.Laws.{program-next, program-refused}
-use Rattle.instruction.proofs.check_program.Statement.{statement}
-use Rattle.instruction.proofs.check_program.Tie as tie
+use Rattle.program.specs.Checks.{checkedOf}
+use Rattle.program.proofs.Laws.{program-next, program-refused}
+use Rattle.program.proofs.check_program.Statement.{statement}
+use Rattle.program.proofs.check_program.Tie as tie
 
 abbrev Inv-loop : tie.InvT-loop
 Inv-loop p n at₀ i₀ at i = (i ≤ n) × (checkedOf (program n (n - i) i p at) ≡ checkedOf (program n n 0 p 0))
@@ -22,7 +22,7 @@ loop-holds : tie.Need-loop-holds Inv-loop μ-loop
 loop-holds c = (zero-le, rw sub-zero)
 
 check-instruction-requires : tie.Need-check-instruction-requires Inv-loop μ-loop
-check-instruction-requires c κs = c .loop-test .taken
+check-instruction-requires c κs = search needs
 
 enum-known-next : tie.Need-enum-known-next Inv-loop μ-loop
 enum-known-next c = search needs

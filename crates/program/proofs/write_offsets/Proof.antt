@@ -1,4 +1,4 @@
--- `instruction::write_offsets` meets its contract. The invariant: writing the offsets left gives what writing all of them gives.
+-- `program::write_offsets` meets its contract. The invariant: writing the offsets left gives what writing all of them gives.
 -- Assumes nothing.
 use mathlib.Core.Path.{_≡_, refl}
 use Prim.Native.Nat.{suc, zero-le, _+_, _-_, _≤_}
@@ -6,9 +6,9 @@ use native.Mathlib.Nat.{sub-zero, add-zero}
 use native.Mathlib.Omega.{arith}
 use lib.ListN.{length, length-set}
 use lib.Seq.{sets}
-use Rattle.instruction.specs.Offsets.{offsetsFrom}
-use Rattle.instruction.proofs.write_offsets.Statement.{statement}
-use Rattle.instruction.proofs.write_offsets.Tie as tie
+use Rattle.program.specs.Offsets.{offsetsFrom}
+use Rattle.program.proofs.write_offsets.Statement.{statement}
+use Rattle.program.proofs.write_offsets.Tie as tie
 
 abbrev Inv-loop : tie.InvT-loop
 Inv-loop p n table₀ base at₀ i₀ table at i =

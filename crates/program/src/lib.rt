@@ -1,0 +1,154 @@
+// A program: its tests (refusals 4 to 7), the byte offset of each label, and the instruction with a label.
+use instruction::Decoded;
+use instruction::Instruction;
+use instruction::InstructionRead;
+use location::Label;
+use rules::Refusal;
+ghost use mathlib.Core.Path.{_≡_};
+ghost use mathlib.Core.List.{List};
+ghost use Prim.Native.Nat.{ℕ, _+_, _<_, _≤_};
+ghost use lib.ListN.{length};
+ghost use lib.Seq.{sets};
+ghost use Rattle.rules.specs.Rules.JobFile.{instr, postfix, target, instruction, program};
+ghost use Rattle.instruction.specs.Meaning.{meaning};
+ghost use Rattle.program.specs.Checks.{checkedOf};
+ghost use Rattle.program.specs.Offsets.{nextOffset, offsetsFrom, Fetchable, Fetched};
+
+// Whether every expression of an instruction keeps the postfix rule.
+fn postfix_holds(p: &[u8], i: Instruction) -> bool
+    ensures { λ r. ⌜ r ≡ postfix (meaning (now (p .entry)) i) ⌝ }
+{
+    match i {
+        Instruction::Skip => true,
+        Instruction::Assign(_, e) => token::well_formed(p, e),
+        Instruction::Load(_, e) => token::well_formed(p, e),
+        Instruction::Store(_, e) => token::well_formed(p, e),
+        Instruction::Jump(e) => token::well_formed(p, e),
+        Instruction::BranchZero(_, _) => true,
+        Instruction::AssignIf(_, c, e) => {
+            if token::well_formed(p, c) {
+                token::well_formed(p, e)
+            } else {
+                false
+            }
+        }
+        Instruction::Barrier => true,
+    }
+}
+
+// Whether the branch label, if it has one, of the instruction with a label is allowed: at most n, and not the next label.
+fn branch_label_holds(i: Instruction, n: usize, label: usize) -> bool
+    requires { ⌜ label < n ⌝ }
+    ensures { λ r. ⌜ ((p : List ℕ) → r ≡ target n label (meaning p i)) ⌝ }
+{
+    match i {
+        Instruction::Skip => true,
+        Instruction::Assign(_, _) => true,
+        Instruction::Load(_, _) => true,
+        Instruction::Store(_, _) => true,
+        Instruction::Jump(_) => true,
+        Instruction::BranchZero(_, l) => {
+            let to = l.index();
+            if n < to {
+                return false;
+            }
+            let next = label + 1;
+            if to == next {
+                return false;
+            }
+            true
+        }
+        Instruction::AssignIf(_, _, _) => true,
+        Instruction::Barrier => true,
+    }
+}
+
+// The offset after what was read and passed its tests, or a refusal.
+pub enum Checked {
+    Next(usize),
+    Refused(Refusal),
+}
+
+fn check_instruction(p: &[u8], at: usize, n: usize, label: usize) -> Checked
+    requires { ⌜ label < n ⌝ }
+    ensures { λ r. ⌜ r ≡ checkedOf (instruction n label (now (p .entry)) at) ⌝ }
+{
+    match instruction::decode(p, at) {
+        InstructionRead::Found(d) => {
+            let i = d.instruction;
+            if postfix_holds(p, i) {
+                if branch_label_holds(i, n, label) {
+                    Checked::Next(d.next)
+                } else {
+                    Checked::Refused(Refusal::BranchLabel)
+                }
+            } else {
+                Checked::Refused(Refusal::Postfix)
+            }
+        }
+        InstructionRead::Refused(r) => Checked::Refused(r),
+    }
+}
+
+// A program of n instructions: 4, 5 and 6 on each in turn, then 7.
+pub fn check_program(p: &[u8], n: usize) -> Checked
+    ensures { λ r. ⌜ r ≡ checkedOf (program n n 0 (now (p .entry)) 0) ⌝ }
+{
+    let mut at = 0;
+    let mut i = 0;
+    while i < n {
+        match check_instruction(p, at, n, i) {
+            Checked::Next(next) => {
+                at = next;
+                i += 1;
+            }
+            Checked::Refused(r) => {
+                return Checked::Refused(r);
+            }
+        }
+    }
+    if at == p.len() {
+        Checked::Next(at)
+    } else {
+        Checked::Refused(Refusal::Surplus)
+    }
+}
+
+fn next_offset(p: &[u8], at: usize) -> usize
+    ensures { λ r. ⌜ r ≡ nextOffset (instr (now (p .entry)) at) ⌝ }
+{
+    match instruction::decode(p, at) {
+        InstructionRead::Found(d) => d.next,
+        InstructionRead::Refused(_) => 0,
+    }
+}
+
+// Writes the offsets of n instructions to a table, from a base on. Any bytes have such offsets.
+pub fn write_offsets(p: &[u8], n: usize, table: &mut [u64], base: usize)
+    requires { ⌜ base + n ≤ length (now table) ⌝ }
+    ensures { λ _. ⌜ now (table .exit) ≡ sets (now (table .entry)) base (offsetsFrom n (now (p .entry)) 0) ⌝ }
+{
+    let mut at: usize = 0;
+    let mut i = 0;
+    while i < n {
+        table[base + i] = at as u64;
+        at = next_offset(p, at);
+        i += 1;
+    }
+}
+
+// The instruction with a label, of a program of n instructions that was accepted, by its offset in the table.
+pub fn fetch(p: &[u8], n: usize, table: &[u64], base: usize, label: Label) -> Decoded
+    requires { ⌜ Fetchable (now p) n (now table) base (label .0) ⌝ }
+    ensures { λ r. ⌜ Fetched (now (p .entry)) n (label .0) r ⌝ }
+{
+    let entry = base + label.index();
+    let at = table[entry] as usize;
+    match instruction::decode(p, at) {
+        InstructionRead::Found(d) => d,
+        InstructionRead::Refused(_) => Decoded {
+            instruction: Instruction::Skip,
+            next: 0,
+        },
+    }
+}
