@@ -14,10 +14,6 @@ use Rattle.rules.specs.Rules.Calls.{traceWords}
 use Rattle.work.specs.Layout.{labels}
 use Rattle.work.specs.Words.{windowIn}
 use Rattle.work.specs.Machines.{stateIn, machineOf, Fit}
-use Rattle.instruction.specs.declared.Instruction.{Instruction}
-use Rattle.instruction.specs.Meaning.{meaning}
-use Rattle.effect.specs.declared.Effect.{Effect}
-use Rattle.effect.specs.Effects.{effectMeaning}
 use Rattle.stepping.specs.declared.Progress.{Progress}
 use Rattle.stepping.specs.Progress.{logOf}
 
@@ -50,12 +46,6 @@ pub record RolledBackTo (w w′ t t′ : List ℕ) (c c′ : Progress) : Type 0 
 pub record OpenedTo (w w′ t t′ : List ℕ) (r l window : ℕ) (c c′ : Progress) : Type 0 where
   pub made : (n : ℕ) (code : Code) → registers ≤ n → n ≤ limit → code .window ≡ window → code .costs ≡ windowCosts
       → Made n (opening code (machineOf w (c .control) n) r l) w w′ t t′ c c′
-
--- rule 3 for an instruction with the effect e
-pub record CarriedOutTo (p w w′ t t′ : List ℕ) (i : Instruction) (e : Effect) (c c′ : Progress) : Type 0 where
-  pub made : (n : ℕ) (code : Code) → n ≤ limit → code .costs ≡ windowCosts
-      → effectMeaning (stateIn w n) e ≡ exec code (stateIn w n) (c .control .place) (meaning p i)
-      → Made n (ordinary code (machineOf w (c .control) n) (meaning p i)) w w′ t t′ c c′
 
 -- What the rules ask in common: the words fit, the counts are small, the place is one of the program's, the trace area has room
 -- for so many observations more, and an open branch has some window left.
