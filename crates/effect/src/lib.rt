@@ -178,7 +178,7 @@ fn jump_to(value: u64, last: usize) -> usize
     last
 }
 
-fn branch_to(t: Tagged, label: Label, next: usize) -> usize
+pub fn branch_to(t: Tagged, label: Label, next: usize) -> usize
     ensures { λ r. ⌜ r ≡ branchTo t (label .0) next ⌝ }
 {
     if t.value == 0 {

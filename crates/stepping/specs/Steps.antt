@@ -5,15 +5,20 @@ use mathlib.Core.List.{List, [], _∷_, _++_}
 use Prim.Native.Nat.{ℕ, _+_, _*_, _<_, _≤_}
 use lib.ListN.{length, drop}
 use lib.Seq.{sets}
+use Rattle.location.specs.Sets.{registers, limit}
 use Rattle.rules.specs.Rules.Instructions.{Observation, windowCosts}
 use Rattle.rules.specs.Rules.Plain.{Code, exec}
-use Rattle.location.specs.Sets.{registers, limit}
-use Rattle.rules.specs.Rules.Mispredicting.{Branch, Step, rolling, opening, ordinary}
+use Rattle.rules.specs.Rules.Mispredicting.{Branch, Step, remaining, rolling, opening, ordinary}
 use Rattle.rules.specs.Rules.Runs.{note}
 use Rattle.rules.specs.Rules.Calls.{traceWords}
+use Rattle.work.specs.declared.machine.Control.{Control}
 use Rattle.work.specs.Layout.{labels}
 use Rattle.work.specs.Words.{windowIn}
 use Rattle.work.specs.Machines.{stateIn, machineOf, Fit}
+use Rattle.instruction.specs.declared.Instruction.{Instruction}
+use Rattle.instruction.specs.Meaning.{meaning}
+use Rattle.effect.specs.declared.Effect.{Effect}
+use Rattle.effect.specs.Effects.{effectMeaning}
 use Rattle.stepping.specs.declared.Progress.{Progress}
 use Rattle.stepping.specs.Progress.{logOf}
 
@@ -47,11 +52,21 @@ pub record OpenedTo (w w′ t t′ : List ℕ) (r l window : ℕ) (c c′ : Prog
   pub made : (n : ℕ) (code : Code) → registers ≤ n → n ≤ limit → code .window ≡ window → code .costs ≡ windowCosts
       → Made n (opening code (machineOf w (c .control) n) r l) w w′ t t′ c c′
 
--- What the rules ask in common: the words fit, the counts are small, the place is one of the program's, the trace area has room
--- for so many observations more, and an open branch has some window left.
+-- rule 3 for an instruction with the effect e
+pub record CarriedOutTo (p w w′ t t′ : List ℕ) (i : Instruction) (e : Effect) (c c′ : Progress) : Type 0 where
+  pub made : (n : ℕ) (code : Code) → n ≤ limit → code .costs ≡ windowCosts
+      → effectMeaning (stateIn w n) e ≡ exec code (stateIn w n) (c .control .place) (meaning p i)
+      → Made n (ordinary code (machineOf w (c .control) n) (meaning p i)) w w′ t t′ c c′
+
+-- What the rules 2 and 3 ask in common: the words fit, the counts are small, the trace area has room for so many observations
+-- more, and an open branch has some window left.
 pub record Steppable (w t : List ℕ) (observations : ℕ) (c : Progress) : Type 0 where
   pub fits : Fit w (c .control)
   pub counted : Counted c t
-  pub place : c .control .place ≤ 512
   pub more : 2 * (c .observations + observations) ≤ length t
   pub live : 0 < c .control .depth → 0 < windowIn w (c .control .depth)
+
+-- What instruction i leaves of the top's window: less than there was, if there was any.
+pub record Leaves (w : List ℕ) (c : Control) (i : Instruction) (v : ℕ) : Type 0 where
+  pub exact : (p : List ℕ) (code : Code) → code .costs ≡ windowCosts → v ≡ remaining code (meaning p i) (windowIn w (c .depth))
+  pub less : 0 < windowIn w (c .depth) → v < windowIn w (c .depth)

@@ -1,5 +1,5 @@
 -- `roll_back` meets its contract: the move, its observations and the counts are rule 1. Assumes nothing.
-use Rattle.stepping.proofs.Laws.{rolled-back}
+use Rattle.stepping.proofs.Steps.{rolled-back}
 use borrow.Author.Needs.{needs}
 use Rattle.stepping.proofs.roll_back.Statement.{statement}
 use Rattle.stepping.proofs.roll_back.Tie as tie
