@@ -12,7 +12,7 @@ use lib.Dec.{lit≤, leb, eqb}
 use lib.ListN.{length, getD, drop, set, length-set}
 use lib.Seq.{getD-set-same, getD-set-other}
 use borrow.Author.Tests.{leb-true, eqb-true}
-use Rattle.location.specs.Sets.{registers}
+use Rattle.location.specs.Sets.{registers, empty}
 use Rattle.rules.specs.declared.Refusal.{Refusal}
 use Rattle.rules.specs.declared.Tagged.{Tagged}
 use Rattle.rules.specs.Rules.Operators.{neg, add}
@@ -30,8 +30,7 @@ unary-default zero h = refl
 unary-default (suc zero) h = absurd (h refl)
 unary-default (suc (suc i)) h = refl
 
-pub binary-default : (i : ℕ) → i ≢ 1 → i ≢ 2 → i ≢ 3 → i ≢ 4 → i ≢ 5 → i ≢ 6 → i ≢ 7 → i ≢ 8 → i ≢ 9
-    → getD binary i add ≡ add
+pub binary-default : (i : ℕ) → i ≢ 1 → i ≢ 2 → i ≢ 3 → i ≢ 4 → i ≢ 5 → i ≢ 6 → i ≢ 7 → i ≢ 8 → i ≢ 9 → getD binary i add ≡ add
 unfolding binary
 binary-default zero h₁ h₂ h₃ h₄ h₅ h₆ h₇ h₈ h₉ = refl
 binary-default (suc zero) h₁ h₂ h₃ h₄ h₅ h₆ h₇ h₈ h₉ = absurd (h₁ refl)
@@ -102,14 +101,11 @@ push-store : (f : ℕ → Tagged) (t : Token) (l : List Tagged) (d low : ℕ) (v
 push-store f t l d low v e h ev =
     let s = takes-small t in
     let n = stack-length l d in
-    let x = getD (stackOf l d) (takes t - 1) missing in
-    let y = getD (stackOf l d) 0 missing in
-    let ex : 1 ≤ takes t → getD l low missing ≡ x = λ h₁. sym (stack-at l d (takes t - 1) low (omega arith)) in
-    let ey : 2 ≤ takes t → getD l (low + 1) missing ≡ y = λ h₂. sym (stack-at l d 0 (low + 1) (omega arith)) in
-    let e₁ = ev ∙ result-same f t (getD l low missing) x (getD l (low + 1) missing) y ex ey in
+    let x : 1 ≤ takes t → getD l low missing ≡ getD (stackOf l d) (takes t - 1) missing = λ h₁. sym (stack-at l d (takes t - 1) low (omega arith)) in
+    let y : 2 ≤ takes t → getD l (low + 1) missing ≡ getD (stackOf l d) 0 missing = λ h₂. sym (stack-at l d 0 (low + 1) (omega arith)) in
+    let e₁ = ev ∙ result-same f t (getD l low missing) (getD (stackOf l d) (takes t - 1) missing) (getD l (low + 1) missing) (getD (stackOf l d) 0 missing) x y in
     let e₂ = stack-drop l d (takes t) low e in
-    let e₃ = pushed-result f t (stackOf l d) missing (omega arith) in
-    stack-push l low v h ∙ ap₂ {C = List Tagged} (λ (a : Tagged) (st : List Tagged). a ∷ st) e₁ (sym e₂) ∙ sym e₃
+    stack-push l low v h ∙ ap₂ {C = List Tagged} (λ (a : Tagged) (st : List Tagged). a ∷ st) e₁ (sym e₂) ∙ sym (pushed-result f t (stackOf l d) missing (omega arith))
 
 -- ---- the postfix rule, token by token
 broken : (ts : Expr) → held 9 ts ≡ 9
@@ -122,8 +118,7 @@ after-holds : (d k : ℕ) (ts : Expr) → held (after d k) ts ≡ 1 → (k ≤ d
 unfolding after
 after-holds d k ts = go (leb d 8 && leb k d && leb (d - k) 7) refl
   where
-    go : (b : Bool) → (leb d 8 && leb k d && leb (d - k) 7) ≡ b → held (cond b (d - k + 1) 9) ts ≡ 1
-        → (k ≤ d) × (d - k ≤ 7) × (held (d - k + 1) ts ≡ 1)
+    go : (b : Bool) → (leb d 8 && leb k d && leb (d - k) 7) ≡ b → held (cond b (d - k + 1) 9) ts ≡ 1 → (k ≤ d) × (d - k ≤ 7) × (held (d - k + 1) ts ≡ 1)
     go true e h =
         let a = and-eq-true-iff (leb d 8 && leb k d) (leb (d - k) 7) .0 e in
         (leb-true k d (and-eq-true-iff (leb d 8) (leb k d) .0 (a .0) .1), leb-true (d - k) 7 (a .1), h)

@@ -29,16 +29,16 @@ Below n [] = Unit
 Below n (t ∷ ts) = TokenBelow n t × Below n ts
 
 -- ---- what is read has a property
-abbrev Holds : {A : Type 0} → (A → Type 0) → Read A → Type 0
+abbrev pub Holds : {A : Type 0} → (A → Type 0) → Read A → Type 0
 Holds P (got a q) = P a
 Holds P (refused r) = Unit
 
-then : {A B : Type 0} (P : A → Type 0) (Q : B → Type 0) (m : Read A) (f : A → ℕ → Read B) → Holds P m
+pub then : {A B : Type 0} (P : A → Type 0) (Q : B → Type 0) (m : Read A) (f : A → ℕ → Read B) → Holds P m
     → ((a : A) (q : ℕ) → P a → Holds Q (f a q)) → Holds Q (andThen m f)
 then P Q (got a q) f h k = k a q h
 then P Q (refused r) f h k = tt
 
-always : {A : Type 0} (m : Read A) → Holds (λ a. Unit) m
+pub always : {A : Type 0} (m : Read A) → Holds (λ a. Unit) m
 always (got a q) = tt
 always (refused r) = tt
 

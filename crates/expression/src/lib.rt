@@ -9,7 +9,7 @@ ghost use mathlib.Core.Path.{_≡_};
 ghost use mathlib.Core.Bool.{true};
 ghost use Prim.Native.Nat.{_≤_};
 ghost use lib.ListN.{length, getD};
-ghost use Rattle.location.specs.Sets.{registers, empty};
+ghost use Rattle.location.specs.Sets.{registers};
 ghost use Rattle.rules.specs.Rules.Operators.{neg, apply1, add, apply2};
 ghost use Rattle.rules.specs.Rules.Expressions.{sound, eval};
 ghost use Rattle.rules.specs.Rules.JobFile.{unary, binary};
@@ -50,16 +50,6 @@ fn operate_two(i: u8, x: u64, y: u64) -> u64
     }
 }
 
-// A constant rests on no location.
-fn constant(c: u64) -> Tagged
-    ensures { λ r. ⌜ (r .value ≡ c) × (r .deps ≡ empty) ⌝ }
-{
-    Tagged {
-        value: c,
-        deps: LocationSet::empty(),
-    }
-}
-
 // What a token gives, of the operands x and y.
 fn token_result(t: Token, work: &[u64], x: Tagged, y: Tagged) -> Tagged
     requires { ⌜ TokenBelow registers (tokenMeaning t) × (operandBase registers ≤ length (now work)) ⌝ }
@@ -67,7 +57,10 @@ fn token_result(t: Token, work: &[u64], x: Tagged, y: Tagged) -> Tagged
 {
     match t {
         Token::Register(r) => work::load(work, Location::register(r)),
-        Token::Constant(c) => constant(c),
+        Token::Constant(c) => Tagged {
+            value: c,
+            deps: LocationSet::empty(),
+        },
         Token::Unary(i) => {
             let deps = x.deps;
             Tagged {
@@ -91,7 +84,10 @@ pub fn evaluate(p: &[u8], work: &[u64], e: Expression) -> Tagged
     requires { ⌜ (sound (tokensOf (now p) e) ≡ true) × (operandBase registers ≤ length (now work)) ⌝ }
     ensures { λ r. ⌜ r ≡ eval (taggedAt (now (work .entry))) (tokensOf (now (p .entry)) e) ⌝ }
 {
-    let none = constant(0);
+    let none = Tagged {
+        value: 0,
+        deps: LocationSet::empty(),
+    };
     let mut stack = [none; SLOTS];
     let mut held = 0;
     let mut offset = e.at;

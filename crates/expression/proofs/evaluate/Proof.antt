@@ -15,14 +15,13 @@ use Rattle.expression.proofs.evaluate.Tie as tie
 
 abbrev Inv-loop : tie.InvT-loop
 Inv-loop p work none stack₀ held₀ offset₀ count i₀ stack held offset i =
-    (i ≤ count)
-    × Left (taggedAt work) p (eval (taggedAt work) (tokensOf p (record { at = offset₀; count = count }))) (count - i) offset held stack
+    (i ≤ count) × Left (taggedAt work) p (eval (taggedAt work) (tokensOf p (record { at = offset₀; count = count }))) (count - i) offset held stack
 
 abbrev μ-loop : tie.MeasureT-loop
 μ-loop p work none stack₀ held₀ offset₀ count i₀ stack held offset i = count - i
 
-constant-requires : tie.Need-constant-requires Inv-loop μ-loop
-constant-requires c κs = tt
+empty-requires : tie.Need-empty-requires Inv-loop μ-loop
+empty-requires c κs = tt
 
 loop-holds : tie.Need-loop-holds Inv-loop μ-loop
 loop-holds c =
@@ -34,19 +33,12 @@ turned : (c : tie.After-known-told Inv-loop μ-loop)
     → (let a = c .before .before .before .before .before .before .before .before .before .args in
     let v = c .before .before .before .before .before .loop in
     let f = taggedAt (a .work .now) in
-    let r = c .before .t .given .0 in
-    Turn f (a .p .now) (eval f (tokensOf (a .p .now) (a .e))) (a .e .count - (v .i + 1)) (r .1 .0) (v .held) (v .stack) (tokenMeaning (r .0)))
+    Turn f (a .p .now) (eval f (tokensOf (a .p .now) (a .e))) (a .e .count - (v .i + 1)) (c .before .t .given .0 .1 .0) (v .held) (v .stack) (tokenMeaning (c .before .t .given .0 .0)))
 turned c =
     let a = c .before .before .before .before .before .before .before .before .before .args in
     let v = c .before .before .before .before .before .loop in
     let e : a .e .count - v .i ≡ suc (a .e .count - (v .i + 1)) = omega arith in
-    let t = (rw (c .before .t .given .1) at (c .before .before .before .read-token .ensures)) in
-    turn _ (a .p .now) _ _ (v .offset) _ (v .held) (v .stack) _ t (rw e at (v .inv .1))
-
--- its operands are held, and the slot of its result is below the last one
-slot : (c : tie.After-taken Inv-loop μ-loop)
-    → (let d = c .before .before .before .before .before .before .loop .held in (c .taken .result ≤ d) × (d - c .taken .result ≤ 7))
-slot c = let u = turned (c .before) in (rw (c .taken .ensures) (u .enough), rw (c .taken .ensures) (u .room))
+    turn _ (a .p .now) _ _ (v .offset) _ (v .held) (v .stack) _ (rw (c .before .t .given .1) at (c .before .before .before .read-token .ensures)) (rw e at (v .inv .1))
 
 read-token-requires : tie.Need-read-token-requires Inv-loop μ-loop
 read-token-requires c κs = tt
@@ -58,36 +50,34 @@ taken-requires : tie.Need-taken-requires Inv-loop μ-loop
 taken-requires c κs = tt
 
 sub-low : tie.Need-sub-low Inv-loop μ-loop
-sub-low c = slot c .0
+sub-low c = let u = turned (c .before) in let en = u .enough in let ro = u .room in let e = c .taken .ensures in omega arith
 
 mul-x : tie.Need-mul-x Inv-loop μ-loop
-mul-x c = omega (arith, slot c .1)
+mul-x c = let u = turned (c .before) in let en = u .enough in let ro = u .room in let e = c .taken .ensures in omega arith
 
 array-copy-out-x : tie.Need-array-copy-out-x Inv-loop μ-loop
-array-copy-out-x c = omega (arith, slot c .1)
+array-copy-out-x c = let u = turned (c .before) in let en = u .enough in let ro = u .room in let e = c .taken .ensures in omega arith
 
 add-y : tie.Need-add-y Inv-loop μ-loop
-add-y c = omega (arith, slot (c .before) .1)
+add-y c = let u = turned (c .before .before) in let en = u .enough in let ro = u .room in let e = c .before .taken .ensures in omega arith
 
 mul-y : tie.Need-mul-y Inv-loop μ-loop
-mul-y c = omega (arith, slot (c .before) .1)
+mul-y c = let u = turned (c .before .before) in let en = u .enough in let ro = u .room in let e = c .before .taken .ensures in omega arith
 
 array-copy-out-y : tie.Need-array-copy-out-y Inv-loop μ-loop
-array-copy-out-y c = omega (arith, slot (c .before) .1)
+array-copy-out-y c = let u = turned (c .before .before) in let en = u .enough in let ro = u .room in let e = c .before .taken .ensures in omega arith
 
 token-result-requires : tie.Need-token-result-requires Inv-loop μ-loop
-token-result-requires c κs =
-    let k = c .before .before .before in
-    (turned k .below, k .before .before .before .before .before .before .before .before .before .pre .1)
+token-result-requires c κs = (turned (c .before .before .before) .below, c .before .before .before .before .before .before .before .before .before .before .before .before .pre .1)
 
 mul-stack : tie.Need-mul-stack Inv-loop μ-loop
-mul-stack c = omega (arith, slot (c .before .before .before) .1)
+mul-stack c = let u = turned (c .before .before .before .before) in let en = u .enough in let ro = u .room in let e = c .before .before .before .taken .ensures in omega arith
 
 array-set-from-stack : tie.Need-array-set-from-stack Inv-loop μ-loop
-array-set-from-stack c = omega (arith, slot (c .before .before .before) .1)
+array-set-from-stack c = let u = turned (c .before .before .before .before) in let en = u .enough in let ro = u .room in let e = c .before .before .before .taken .ensures in omega arith
 
 add-held : tie.Need-add-held Inv-loop μ-loop
-add-held c = omega (arith, slot (c .before .before .before) .1)
+add-held c = let u = turned (c .before .before .before .before) in let en = u .enough in let ro = u .room in let e = c .before .before .before .taken .ensures in omega arith
 
 add-i : tie.Need-add-i Inv-loop μ-loop
 add-i c = omega arith
@@ -96,10 +86,7 @@ loop-less : tie.Need-loop-less Inv-loop μ-loop
 loop-less c = omega arith
 
 loop-again : tie.Need-loop-again Inv-loop μ-loop
-loop-again c =
-    let k = c .before .before .before in
-    let r = c .token-result in
-    (omega arith, rw (k .taken .ensures) (turned (k .before) .again (r .result) (rw (k .taken .ensures) at (r .ensures))))
+loop-again c = (omega arith, rw (c .before .before .before .taken .ensures) (turned (c .before .before .before .before) .again (c .token-result .result) (rw (c .before .before .before .taken .ensures) at (c .token-result .ensures))))
 
 enum-told : tie.Need-enum-told Inv-loop μ-loop
 enum-told c = search needs
@@ -109,8 +96,7 @@ returns c =
     let a = c .before .before .before .before .before .before .before .before .args in
     let v = c .before .before .before .before .loop in
     let e : a .e .count - v .i ≡ suc (a .e .count - (v .i + 1)) = omega arith in
-    let t = (rw (c .enum-told .given .1) at (c .before .before .read-token .ensures)) in
-    absurd (unread _ (a .p .now) _ _ (v .offset) (v .held) (v .stack) _ t (rw e at (v .inv .1)))
+    absurd (unread _ (a .p .now) _ _ (v .offset) (v .held) (v .stack) _ (rw (c .enum-told .given .1) at (c .before .before .read-token .ensures)) (rw e at (v .inv .1)))
 
 array-copy-out-result : tie.Need-array-copy-out-result Inv-loop μ-loop
 array-copy-out-result c = lit< tt
@@ -128,7 +114,7 @@ evaluate-spec =
     (tie.spec
     Inv-loop
     μ-loop
-    constant-requires
+    empty-requires
     loop-holds
     read-token-requires
     enum-known-t

@@ -74,9 +74,7 @@ returns-9 c = rw (c .before .match .keys9) (c .ult .ensures)
 returns-10 : tie.Need-returns-10
 returns-10 c =
     let m = c .before .match .rest in
-    let n = m .0 .0 .0 .0 in
-    let d = binary-default _ (n .0 .0 .0 .0 .1) (n .0 .0 .0 .1) (n .0 .0 .1) (n .0 .1) (n .1) (m .0 .0 .0 .1) (m .0 .0 .1) (m .0 .1) (m .1) in
-    rw d (c .add .ensures)
+    rw (binary-default _ (m .0 .0 .0 .0 .0 .0 .0 .0 .1) (m .0 .0 .0 .0 .0 .0 .0 .1) (m .0 .0 .0 .0 .0 .0 .1) (m .0 .0 .0 .0 .0 .1) (m .0 .0 .0 .0 .1) (m .0 .0 .0 .1) (m .0 .0 .1) (m .0 .1) (m .1)) (c .add .ensures)
 
 pub operate-two-spec : {M : Type 1} → statement M
 operate-two-spec =

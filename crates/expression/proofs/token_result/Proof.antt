@@ -1,10 +1,18 @@
 -- `expression::token_result` meets its contract, by cases of the token. Assumes nothing.
-use mathlib.Core.Path.{ap, _∙_}
+use mathlib.Core.Path.{_≡_, ap, _∙_}
 use native.Mathlib.Omega.{arith}
 use Rattle.work.specs.Words.{taggedAt}
 use borrow.Author.Needs.{needs}
 use Rattle.expression.proofs.token_result.Statement.{statement}
 use Rattle.expression.proofs.token_result.Tie as tie
+use Rattle.expression.proofs.token_result.Reads as reads
+use Rattle.expression.proofs.token_result.Lts as lts
+use Rattle.expression.proofs.operate_one.Reads as operate-one-reads
+use Rattle.expression.proofs.operate_two.Reads as operate-two-reads
+use Rattle.location.proofs.Location.register.Reads as register-reads
+use Rattle.location.proofs.LocationSet.empty.Reads as empty-reads
+use Rattle.location.proofs.LocationSet.union.Reads as union-reads
+use Rattle.work.proofs.load.Reads as load-reads
 
 enum-known-t : tie.Need-enum-known-t
 enum-known-t c = search needs
@@ -21,8 +29,8 @@ load-requires c κs =
 enum-known-t-2 : tie.Need-enum-known-t-2
 enum-known-t-2 c = search needs
 
-constant-requires : tie.Need-constant-requires
-constant-requires c κs = search needs
+empty-requires : tie.Need-empty-requires
+empty-requires c κs = search needs
 
 enum-known-t-3 : tie.Need-enum-known-t-3
 enum-known-t-3 c = search needs
@@ -45,18 +53,13 @@ returns c =
     (c .load .ensures ∙ ap (taggedAt (c .before .before .before .before .before .before .args .work .now)) (c .before .register .ensures))
 
 returns-2 : tie.Need-returns-2
-returns-2 c = rw (c .before .before .t2 .given .1) (λ i. record { value = c .constant .ensures .0 i; deps = c .constant .ensures .1 i })
+returns-2 c = rw (c .before .before .t2 .given .1) (let e = c .empty .ensures in cc)
 
 returns-3 : tie.Need-returns-3
-returns-3 c =
-    let e = c .operate-one .ensures in
-    rw (c .before .before .before .t3 .given .1) (cc)
+returns-3 c = rw (c .before .before .before .t3 .given .1) (let e = c .operate-one .ensures in cc)
 
 returns-4 : tie.Need-returns-4
-returns-4 c =
-    let e = c .before .operate-two .ensures in
-    let e′ = c .union .ensures in
-    rw (c .before .before .before .before .before .t4 .given .1) (cc)
+returns-4 c = rw (c .before .before .before .before .before .t4 .given .1) (let e = c .before .operate-two .ensures in let e′ = c .union .ensures in cc)
 
 pub token-result-spec : {M : Type 1} → statement M
 token-result-spec =
@@ -66,7 +69,7 @@ token-result-spec =
     register-requires
     load-requires
     enum-known-t-2
-    constant-requires
+    empty-requires
     enum-known-t-3
     operate-one-requires
     enum-known-t-4

@@ -1,0 +1,3 @@
+pub mod Registers
+pub mod States
+pub mod Effects

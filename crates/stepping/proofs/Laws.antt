@@ -1,0 +1,88 @@
+-- What the code's counts, stores and windows are in the rules.
+-- Assumes nothing.
+use mathlib.Core.Path.{_≡_, refl, sym, ap, _∙_}
+use mathlib.Core.List.{List, [], _∷_, append-nil}
+use mathlib.Core.Logic.{_≢_}
+use Prim.Native.Nat.{ℕ, zero, suc, _+_, _*_, _<_, _≤_}
+use native.Mathlib.Omega.{arith}
+use lib.ListN.{length}
+use lib.Seq.{sets}
+use Rattle.location.specs.declared.LocationSet.{LocationSet}
+use Rattle.location.specs.Sets.{union}
+use Rattle.rules.specs.Rules.Calls.{observationWords, traceWords}
+use Rattle.rules.specs.Rules.Instructions.{Observation, Instr, windowCosts}
+use Rattle.rules.specs.Rules.Plain.{State, Code}
+use Rattle.rules.specs.Rules.Mispredicting.{Branch, remaining, lower, newWindow}
+use Rattle.rules.specs.Rules.Runs.{gather}
+use Rattle.rules.specs.Theorems.Undo.{remaining-less, windowCosts-positive}
+use Rattle.instruction.specs.declared.Instruction.{Instruction}
+use Rattle.instruction.specs.Meaning.{meaning}
+use Rattle.work.specs.declared.BranchEntry.{BranchEntry}
+use Rattle.work.specs.declared.machine.Control.{Control}
+use Rattle.work.specs.Words.{Change, windowIn}
+use Rattle.work.specs.Machines.{branchesOf}
+use Rattle.work.specs.Moves.{topWindow, lowerTo, windowOn}
+use Rattle.effect.specs.declared.Observed.{Observed}
+use Rattle.effect.specs.Effects.{observations}
+use Rattle.stepping.specs.Progress.{gatherAt}
+use Rattle.stepping.specs.Steps.{Leaves}
+
+-- ---- the plain set, by the number of open branches
+pub gathers-plain : (d : ℕ) (plain s : LocationSet) → d ≡ 0 → union plain s ≡ gatherAt d plain s
+gathers-plain d plain s z = ap (λ (j : ℕ). gatherAt j plain s) (sym z)
+
+pub keeps-plain : (d : ℕ) (plain s : LocationSet) → (d ≡ 0 → ⊥) → plain ≡ gatherAt d plain s
+keeps-plain zero plain s h = absurd (h refl)
+keeps-plain (suc d) plain s h = refl
+
+pub gathered : (e : ℕ → BranchEntry) (g : ℕ → Change) (σ : State) (k d : ℕ) (plain s : LocationSet)
+    → gatherAt d plain s ≡ gather (branchesOf e g σ k d) plain s
+unfolding gather
+gathered e g σ k zero plain s = refl
+gathered e g σ k (suc d) plain s = refl
+
+-- ---- the observations in the trace area
+-- two, one after the other
+pub stored-twice : (t t₁ t₂ : List ℕ) (k a b x y : ℕ) → t₁ ≡ sets t (2 * k) (a ∷ b ∷ []) → t₂ ≡ sets t₁ (2 * (k + 1)) (x ∷ y ∷ [])
+    → t₂ ≡ sets t (2 * k) (a ∷ b ∷ x ∷ y ∷ [])
+stored-twice t t₁ t₂ k a b x y e₁ e₂ =
+    let s : 2 * (k + 1) ≡ suc (suc (2 * k)) = omega arith in
+    e₂ ∙ (λ i. sets (e₁ i) (s i) (x ∷ y ∷ []))
+
+-- one or none, as an instruction shows it
+pub shows-none : (t : List ℕ) (k : ℕ) (o : Observed) → observations o ≡ []
+    → (0 ≡ length (observations o)) × (t ≡ sets t (2 * k) (traceWords (observations o)))
+unfolding traceWords
+shows-none t k o e = rw e (refl, refl)
+
+pub shows-one : (t t′ : List ℕ) (k a b : ℕ) (o : Observed) (x : Observation) → observations o ≡ x ∷ [] → a ∷ b ∷ [] ≡ observationWords x
+    → t′ ≡ sets t (2 * k) (a ∷ b ∷ []) → (1 ≡ length (observations o)) × (t′ ≡ sets t (2 * k) (traceWords (observations o)))
+unfolding traceWords
+shows-one t t′ k a b o x e ex et = rw e (refl, et ∙ ap (sets t (2 * k)) (ex ∙ sym (append-nil (observationWords x))))
+
+-- ---- the window
+-- what is left of the top's window
+pub top-lowered : (code : Code) (i : Instr) (bs : List Branch) → lowerTo (remaining code i (topWindow bs)) bs ≡ lower code i bs
+unfolding lower
+top-lowered code i [] = refl
+top-lowered code i (b ∷ bs) = refl
+
+-- a new branch's window
+pub window-lowered : (code : Code) (i : Instr) (bs : List Branch)
+    → windowOn bs (code .window) (remaining code i (topWindow bs)) ≡ newWindow code (lower code i bs)
+unfolding lower newWindow
+window-lowered code i [] = refl
+window-lowered code i (b ∷ bs) = refl
+
+pub leaves : (w : List ℕ) (c : Control) (i : Instruction) (u v : ℕ) → u ≡ windowIn w (c .depth)
+    → ((p : List ℕ) (code : Code) → code .costs ≡ windowCosts → v ≡ remaining code (meaning p i) u) → Leaves w c i v
+leaves w c i u v eu ev = record { exact = exact; less = less }
+  where
+    exact : (p : List ℕ) (code : Code) → code .costs ≡ windowCosts → v ≡ remaining code (meaning p i) (windowIn w (c .depth))
+    exact p code h = ev p code h ∙ ap (remaining code (meaning p i)) eu
+
+    less : 0 < windowIn w (c .depth) → v < windowIn w (c .depth)
+    less h =
+        let any : Code = record { prog = []; cells = 0; window = 0; costs = windowCosts } in
+        let ne : windowIn w (c .depth) ≢ 0 = λ z. omega arith in
+        omega (arith, exact [] any refl, remaining-less any windowCosts-positive (meaning [] i) (windowIn w (c .depth)) ne)

@@ -1,0 +1,72 @@
+-- What the functions that make a step promise.
+-- Assumes nothing.
+use mathlib.Core.Path.{_≡_}
+use mathlib.Core.List.{List, [], _∷_, _++_}
+use Prim.Native.Nat.{ℕ, _+_, _*_, _<_, _≤_}
+use lib.ListN.{length, drop}
+use lib.Seq.{sets}
+use Rattle.location.specs.Sets.{registers, limit}
+use Rattle.rules.specs.Rules.Instructions.{Observation, windowCosts}
+use Rattle.rules.specs.Rules.Plain.{Code, exec}
+use Rattle.rules.specs.Rules.Mispredicting.{Branch, Step, remaining, rolling, opening, ordinary}
+use Rattle.rules.specs.Rules.Runs.{note}
+use Rattle.rules.specs.Rules.Calls.{traceWords}
+use Rattle.work.specs.declared.machine.Control.{Control}
+use Rattle.work.specs.Layout.{labels}
+use Rattle.work.specs.Words.{windowIn}
+use Rattle.work.specs.Machines.{stateIn, machineOf, Fit}
+use Rattle.instruction.specs.declared.Instruction.{Instruction}
+use Rattle.instruction.specs.Meaning.{meaning}
+use Rattle.effect.specs.declared.Effect.{Effect}
+use Rattle.effect.specs.Effects.{effectMeaning}
+use Rattle.stepping.specs.declared.Progress.{Progress}
+use Rattle.stepping.specs.Progress.{logOf}
+
+-- The counts stay far below 2 ^ 64: no more branches were opened, and no more rollbacks made, than steps; and the trace area has
+-- the observations made.
+pub record Counted (c : Progress) (t : List ℕ) : Type 0 where
+  pub opened : c .control .opened ≤ c .steps
+  pub rollbacks : c .rollbacks ≤ c .steps
+  pub steps : c .steps ≤ 1000000
+  pub room : 2 * c .observations ≤ length t
+
+-- The words w, the trace area t and the progress c become those after the rules' step s of a machine with n locations.
+pub record Made (n : ℕ) (s : Step) (w w′ t t′ : List ℕ) (c c′ : Progress) : Type 0 where
+  pub machine : machineOf w′ (c′ .control) n ≡ s .next
+  pub fits : Fit w′ (c′ .control)
+  pub frame : drop labels w′ ≡ drop labels w
+  pub trace : t′ ≡ sets t (2 * c .observations) (traceWords (s .obs))
+  pub observations : c′ .observations ≡ c .observations + length (s .obs)
+  pub log : (os : List Observation) → logOf (os ++ s .obs) c′ ≡ note (machineOf w (c .control) n) s (logOf os c)
+  pub opened : c′ .control .opened ≤ c .control .opened + 1
+  pub rollbacks : c′ .rollbacks ≤ c .rollbacks + 1
+  pub steps : c′ .steps ≡ c .steps + 1
+
+-- rule 1 on the top branch
+pub record RolledBackTo (w w′ t t′ : List ℕ) (c c′ : Progress) : Type 0 where
+  pub made : (n : ℕ) (b : Branch) (bs : List Branch) → n ≤ limit → machineOf w (c .control) n .branches ≡ b ∷ bs
+      → Made n (rolling (machineOf w (c .control) n) b bs) w w′ t t′ c c′
+
+-- rule 2 for beqz r, l, at a place of the program, by a code whose window is w
+pub record OpenedTo (w w′ t t′ : List ℕ) (r l window : ℕ) (c c′ : Progress) : Type 0 where
+  pub made : (n : ℕ) (code : Code) → registers ≤ n → n ≤ limit → code .window ≡ window → code .costs ≡ windowCosts
+      → Made n (opening code (machineOf w (c .control) n) r l) w w′ t t′ c c′
+
+-- rule 3 for an instruction with the effect e
+pub record CarriedOutTo (p w w′ t t′ : List ℕ) (i : Instruction) (e : Effect) (c c′ : Progress) : Type 0 where
+  pub made : (n : ℕ) (code : Code) → n ≤ limit → code .costs ≡ windowCosts
+      → effectMeaning (stateIn w n) e ≡ exec code (stateIn w n) (c .control .place) (meaning p i)
+      → Made n (ordinary code (machineOf w (c .control) n) (meaning p i)) w w′ t t′ c c′
+
+-- What the rules 2 and 3 ask in common: the words fit, the counts are small, the trace area has room for so many observations
+-- more, and an open branch has some window left.
+pub record Steppable (w t : List ℕ) (observations : ℕ) (c : Progress) : Type 0 where
+  pub fits : Fit w (c .control)
+  pub counted : Counted c t
+  pub more : 2 * (c .observations + observations) ≤ length t
+  pub live : 0 < c .control .depth → 0 < windowIn w (c .control .depth)
+
+-- What instruction i leaves of the top's window: less than there was, if there was any.
+pub record Leaves (w : List ℕ) (c : Control) (i : Instruction) (v : ℕ) : Type 0 where
+  pub exact : (p : List ℕ) (code : Code) → code .costs ≡ windowCosts → v ≡ remaining code (meaning p i) (windowIn w (c .depth))
+  pub less : 0 < windowIn w (c .depth) → v < windowIn w (c .depth)
