@@ -1,0 +1,139 @@
+-- How each loop goes on from one location or word to the next, and what the words are when it is done.
+-- Assumes nothing.
+use mathlib.Core.Path.{_≡_, refl, sym, ap, _∙_}
+use mathlib.Core.Bool.{Bool, true, false, not, _&&_, _||_}
+use mathlib.Core.List.{List, [], _∷_, _++_, append-nil, append-assoc}
+use Prim.Native.Nat.{ℕ, zero, suc, zero-le, _+_, _-_, _*_, _/_, _%_, _^_, _<_, _≤_}
+use native.Mathlib.Numerals.{add-one}
+use native.Mathlib.Omega.{arith}
+use lib.Dec.{eqb}
+use lib.ListN.{length, getD, take, drop, set, replicate, length-set, length-replicate}
+use lib.Seq.{sets, length-sets, sets-eq, drop-cons}
+use Rattle.location.specs.declared.LocationSet.{LocationSet}
+use Rattle.location.specs.Sets.{none, only, single, member}
+use Rattle.rules.specs.declared.Tagged.{Tagged}
+use Rattle.rules.specs.Rules.Expressions.{tagged}
+use Rattle.rules.specs.Rules.Plain.{State, ownFrom, values}
+use Rattle.rules.specs.Rules.JobFile.{little, wordsAt, instr}
+use Rattle.rules.specs.Rules.Calls.{written}
+use Rattle.rules.specs.Rules.Pairs.{alikeFrom, sameWords}
+use Rattle.program.specs.Offsets.{nextOffset, offsetsFrom}
+use Rattle.work.specs.Layout.{operandBase, labels, labelBase}
+use Rattle.work.specs.Words.{taggedAt, stored}
+use Rattle.work.specs.Machines.{stateFrom, stateIn}
+use Rattle.transfer.specs.Stores.{take-sets, drop-sets, getD-sets}
+use Rattle.transfer.specs.States.{state-length, values-length, state-more}
+use Rattle.transfer.specs.Loads.{StateLoaded, LabelsLoaded}
+
+-- ---- a state loaded: the locations before l hold their words, and with the words left they are the whole state
+pub record Loading (bs : List ℕ) (at n : ℕ) (w w′ : List ℕ) (l : ℕ) : Type 0 where
+  pub passed : l ≤ n
+  pub state : stateIn w′ l ++ ownFrom l (wordsAt (n - l) bs (at + 8 * l)) ≡ ownFrom 0 (wordsAt n bs at)
+  pub after : drop (operandBase n) w′ ≡ drop (operandBase n) w
+  pub size : length w′ ≡ length w
+
+pub loading-none : (bs : List ℕ) (at n : ℕ) (w : List ℕ) → Loading bs at n w w 0
+loading-none bs at n w =
+    let e : n - 0 ≡ n = omega arith in
+    let f : at + 8 * 0 ≡ at = omega arith in
+    record { passed = zero-le; state = rw (e, f); after = refl; size = refl }
+
+pub single-length : (l : ℕ) → length (single l .words) ≡ 4
+unfolding single only none
+single-length l = length-set (replicate 4 0) (l / 64) (2 ^ (l % 64)) ∙ length-replicate {A = ℕ} 4 0
+
+module _ (bs : List ℕ) (at n : ℕ) (w₀ w w₁ : List ℕ) (l : ℕ) (known : Loading bs at n w₀ w l) where
+  pub loading-more : (k x : ℕ) (s : LocationSet) → l < n → operandBase n ≤ length w₀ → k ≡ l → x ≡ little bs (at + 8 * l) 8 → s ≡ single k
+      → w₁ ≡ stored w k (tagged x s) → Loading bs at n w₀ w₁ (l + 1)
+  unfolding ownFrom wordsAt
+  loading-more k x s h f ek ex es e =
+      let v = tagged (little bs (at + 8 * l) 8) (single l) in
+      let vs = v .value ∷ v .deps .words in
+      let g : w₁ ≡ stored w l v = e ∙ (λ t. stored w (ek t) (tagged (ex t) ((es ∙ ap single ek) t))) in
+      let four = single-length l in
+      let room : operandBase l + 5 ≤ length w = rw (known .size) (omega arith) in
+      let words = wordsAt (n - (l + 1)) bs (at + 8 * (l + 1)) in
+      let left = ownFrom (suc l) words in
+      let e₁ : n - l ≡ suc (n - (l + 1)) = omega arith in
+      let e₂ : at + 8 * l + 8 ≡ at + 8 * (l + 1) = omega arith in
+      let whole : stateIn w l ++ (v ∷ left) ≡ ownFrom 0 (wordsAt n bs at) = rw (e₁, e₂) at (known .state) in
+      let more : stateIn w₁ (suc l) ++ left ≡ stateIn w l ++ (v ∷ left) =
+      ap (λ (u : List ℕ). stateIn u (suc l) ++ left) g ∙ ap (λ (σ : State). σ ++ left) (state-more w l v four room) ∙ append-assoc (stateIn w l) (v ∷ []) left in
+      record {
+        passed = omega arith;
+        state = ap (λ (j : ℕ). stateIn w₁ j ++ ownFrom j words) (add-one l) ∙ more ∙ whole;
+        after = ap (drop (operandBase n)) g ∙ drop-sets vs w (operandBase l) (operandBase n) (omega arith) ∙ known .after;
+        size = ap length g ∙ length-sets w (operandBase l) vs ∙ known .size;
+      }
+
+pub loading-all : (bs : List ℕ) (at n : ℕ) (w w′ : List ℕ) (l : ℕ) → Loading bs at n w w′ l → n ≤ l → StateLoaded bs at n w w′
+unfolding ownFrom wordsAt
+loading-all bs at n w w′ l known h =
+    let e : l ≡ n = omega (arith, known .passed) in
+    let z : n - l ≡ 0 = omega arith in
+    let whole : stateIn w′ l ++ [] ≡ ownFrom 0 (wordsAt n bs at) = rw z at (known .state) in
+    record { state = ap (stateIn w′) (sym e) ∙ sym (append-nil (stateIn w′ l)) ∙ whole; after = known .after; size = known .size }
+
+-- ---- the table of labels
+offsets-length : (k : ℕ) (p : List ℕ) (at : ℕ) → length (offsetsFrom k p at) ≡ k
+unfolding offsetsFrom
+offsets-length zero p at = refl
+offsets-length (suc k) p at = ap suc (offsets-length k p (nextOffset (instr p at)))
+
+pub labels-loaded : (p : List ℕ) (count : ℕ) (w w′ : List ℕ) → labelBase count ≤ length w → w′ ≡ sets w labels (offsetsFrom count p 0)
+    → LabelsLoaded p count w w′
+labels-loaded p count w w′ f e =
+    let vs = offsetsFrom count p 0 in
+    let s : length vs ≡ count = offsets-length count p 0 in
+    record {
+      entry = λ i h. ap (λ (u : List ℕ). getD u (labelBase i) 0) e ∙ getD-sets vs w labels i (omega arith) (omega arith);
+      before = ap (take labels) e ∙ take-sets vs w labels labels (omega arith);
+      after = ap (drop (labelBase count)) e ∙ drop-sets vs w labels (labelBase count) (omega arith);
+      size = ap length e ∙ length-sets w labels vs;
+    }
+
+-- ---- values saved: storing the values left gives what storing all of them gives
+pub save-more : (w a a₁ : List ℕ) (n l k x : ℕ) → l < n → k ≡ l → x ≡ taggedAt w k .value → a₁ ≡ set a l x
+    → sets a₁ (l + 1) (values (stateFrom w (l + 1) (n - (l + 1)))) ≡ sets a l (values (stateFrom w l (n - l)))
+unfolding values
+save-more w a a₁ n l k x h ek ex e =
+    let e₁ : n - l ≡ suc (n - (l + 1)) = omega arith in
+    rw (e₁, add-one) (ap (λ (u : List ℕ). sets u (suc l) (values (stateFrom w (suc l) (n - suc l)))) (e ∙ ap (set a l) (ex ∙ ap (λ (j : ℕ). taggedAt w j .value) ek)))
+
+pub save-all : (w a : List ℕ) (n : ℕ) → n ≤ length a → sets a 0 (values (stateIn w n)) ≡ written (values (stateIn w n)) a
+unfolding written
+save-all w a n h =
+    let vs = values (stateIn w n) in
+    let s : length vs ≡ n = values-length (stateIn w n) ∙ state-length w n in
+    let z : 0 + length vs ≡ length vs = omega arith in
+    sets-eq vs a 0 (omega arith) ∙ ap (λ (j : ℕ). vs ++ drop j a) z
+
+-- ---- two areas compared, and two states: the first word left, and then the others
+pub same-step : (a b : List ℕ) (n i : ℕ) → i < n → n ≤ length a → n ≤ length b
+    → sameWords (take (n - i) (drop i a)) (take (n - i) (drop i b))
+    ≡ (eqb (getD a i 0) (getD b i 0) && sameWords (take (n - (i + 1)) (drop (i + 1) a)) (take (n - (i + 1)) (drop (i + 1) b)))
+unfolding sameWords
+same-step a b n i h ha hb =
+    let e : n - i ≡ suc (n - (i + 1)) = omega arith in
+    rw (e, add-one, drop-cons a i 0 (omega arith), drop-cons b i 0 (omega arith))
+
+pub alike-step : (public : LocationSet) (first second : List ℕ) (at n l : ℕ) → l < n
+    → alikeFrom public l (wordsAt (n - l) first (at + 8 * l)) (wordsAt (n - l) second (8 * l))
+    ≡ ((not (member public l) || eqb (little first (at + 8 * l) 8) (little second (8 * l) 8))
+    && alikeFrom public (l + 1) (wordsAt (n - (l + 1)) first (at + 8 * (l + 1))) (wordsAt (n - (l + 1)) second (8 * (l + 1))))
+unfolding alikeFrom wordsAt
+alike-step public first second at n l h =
+    let e : n - l ≡ suc (n - (l + 1)) = omega arith in
+    let e₁ : at + 8 * (l + 1) ≡ at + 8 * l + 8 = omega arith in
+    let e₂ : 8 * (l + 1) ≡ 8 * l + 8 = omega arith in
+    rw (e, e₁, e₂, add-one)
+
+pub public-word : (public : LocationSet) (l k x y : ℕ) (b r : Bool) → k ≡ l → b ≡ member public k → b ≡ true → r ≡ eqb x y
+    → r ≡ (not (member public l) || eqb x y)
+public-word public l k x y b r ek eb t e =
+    let m : member public l ≡ true = ap (member public) (sym ek) ∙ sym eb ∙ t in
+    rw m e
+
+pub private-word : (public : LocationSet) (l k x y : ℕ) (b : Bool) → k ≡ l → b ≡ member public k → b ≡ false
+    → true ≡ (not (member public l) || eqb x y)
+private-word public l k x y b ek eb t = let m : member public l ≡ false = ap (member public) (sym ek) ∙ sym eb ∙ t in rw m
