@@ -1,12 +1,12 @@
--- How the code's tests of the parts of a file meet the rules' parse, and a word of the state.
+-- How the code's tests of the parts of a file meet the rules' parse.
 -- Assumes nothing.
 use mathlib.Core.Path.{_≡_, refl, sym, ap, _∙_}
 use mathlib.Core.Bool.{Bool, true, false, not, _&&_, cond}
 use mathlib.Core.List.{List}
-use Prim.Native.Nat.{ℕ, zero, suc, _+_, _-_, _*_, _<_, _≤_}
+use Prim.Native.Nat.{ℕ, suc, _+_, _-_, _<_, _≤_}
 use native.Mathlib.Nat.{sub-zero}
 use native.Mathlib.Omega.{arith}
-use lib.ListN.{getD, take}
+use lib.ListN.{take}
 use borrow.Author.Tests.{le-leb}
 use Rattle.location.specs.declared.LocationSet.{LocationSet}
 use Rattle.location.specs.Sets.{registers, limit, member}
@@ -15,7 +15,7 @@ use Rattle.rules.specs.declared.Refusal.{Refusal}
 use Rattle.rules.specs.declared.Refusal.the-variants as refusals
 use Rattle.rules.specs.Rules.Instructions.{Instr}
 use Rattle.rules.specs.Rules.Runs.{Job}
-use Rattle.rules.specs.Rules.JobFile.{little, Read, got, refused, sized, wordsAt, noneFrom, listed, accepted, rejected, program, jobOf, programOf, finish}
+use Rattle.rules.specs.Rules.JobFile.{Read, got, refused, sized, noneFrom, listed, accepted, rejected, program, jobOf, programOf, finish}
 use Rattle.program.specs.declared.Checked.{Checked}
 use Rattle.program.specs.declared.Checked.the-variants as check
 use Rattle.program.specs.Checks.{checkedOf}
@@ -26,13 +26,6 @@ use Rattle.job.specs.Answers.{jobReadOf}
 pub sized-true : {len : ℕ} → 16 ≤ len → len ≤ 16384 → sized len ≡ true
 unfolding sized
 sized-true {len} h g = rw (le-leb 16 len h, le-leb len 16384 g)
-
--- word k of n words at an offset
-pub word-at : (n : ℕ) (bs : List ℕ) (at k : ℕ) → k < n → getD (wordsAt n bs at) k 0 ≡ little bs (at + 8 * k) 8
-unfolding wordsAt
-word-at zero bs at k h = absurd (omega arith)
-word-at (suc n) bs at zero h = let e : at + 8 * 0 ≡ at = omega arith in rw e
-word-at (suc n) bs at (suc k) h = let e : at + 8 * suc k ≡ at + 8 + 8 * k = omega arith in rw e (word-at n bs (at + 8) k (omega arith))
 
 -- ---- the cells from a on, up to the limit of the set
 abbrev pub noCellFrom : LocationSet → ℕ → Bool

@@ -7,10 +7,10 @@ use program::Checked;
 use rules::Refusal;
 use rules::Trailer;
 ghost use mathlib.Core.Path.{_≡_};
-ghost use Prim.Native.Nat.{_+_, _-_, _*_, _<_, _≤_};
+ghost use Prim.Native.Nat.{ℕ, _+_, _-_, _*_, _<_, _≤_};
 ghost use lib.ListN.{length, getD};
 ghost use Rattle.location.specs.Sets.{registers, limit};
-ghost use Rattle.rules.specs.Rules.JobFile.{little, trailerAt, trailer, limits, offsets, stateOf, publicOf, noneFrom, programOf, finish, parse};
+ghost use Rattle.rules.specs.Rules.JobFile.{little, trailerAt, trailer, limits, offsets, wordsAt, publicOf, noneFrom, programOf, finish, parse};
 ghost use Rattle.job.specs.Answers.{jobReadOf};
 
 fn field(s: &[u8], at: usize, k: usize) -> usize
@@ -113,13 +113,13 @@ fn no_cell_from(set: LocationSet, first: usize) -> bool
     true
 }
 
-// Word k of the state of a job file with these offsets: the register or cell with location k.
-pub fn state_word(job: &[u8], t: Trailer, k: usize) -> u64
-    requires { ⌜ (k < registers + t .cells) × (t .state + 8 * (k + 1) ≤ length (now job)) ⌝ }
-    ensures { λ r. ⌜ r ≡ getD (stateOf t (now (job .entry))) k 0 ⌝ }
+// Word k of a state of n words that starts at an offset, as the job's does at its state offset and a second state at 0.
+pub fn state_word(s: &[u8], start: usize, k: usize) -> u64
+    requires { ⌜ start + 8 * (k + 1) ≤ length (now s) ⌝ }
+    ensures { λ r. ⌜ ((n : ℕ) → k < n → r ≡ getD (wordsAt n (now (s .entry)) start) k 0) ⌝ }
 {
-    let at = t.state + 8 * k;
-    token::number(job, at, 8)
+    let at = start + 8 * k;
+    token::number(s, at, 8)
 }
 
 // What a job file is: its trailer, or the first refusal.

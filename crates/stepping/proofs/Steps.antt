@@ -1,7 +1,7 @@
--- Each rule of a step, from its parts: the machine's move, what was observed, and the counts.
+-- Each rule of a step, from its parts: the machine's move, the words stored in the trace area, and the counts.
 -- Assumes nothing.
 use mathlib.Core.Path.{_≡_, refl, sym, ap, _∙_, subst}
-use mathlib.Core.Bool.{Bool, true, false, cond}
+use mathlib.Core.Bool.{Bool, cond}
 use mathlib.Core.List.{List, [], _∷_, _++_}
 use Prim.Native.Nat.{ℕ, suc, _+_, _*_, _<_, _≤_}
 use native.Mathlib.Numerals.{add-one}
@@ -14,20 +14,20 @@ use Rattle.location.specs.Sets.{registers, empty, union}
 use Rattle.rules.specs.declared.Tagged.{Tagged}
 use Rattle.rules.specs.Rules.Calls.{traceWords}
 use Rattle.rules.specs.Rules.Instructions.{Observation, windowCosts}
-use Rattle.rules.specs.Rules.Plain.{State, at, put, Code, branchTo, exec}
+use Rattle.rules.specs.Rules.Plain.{at, put, Code, branchTo}
 use Rattle.rules.specs.Rules.Plain as plain
 use Rattle.rules.specs.Rules.Mispredicting.{Branch, Machine, Step, remaining, lower, newWindow, rolling, opening, ordinary}
-use Rattle.rules.specs.Rules.Runs.{gather, note}
+use Rattle.rules.specs.Rules.Runs.{note}
 use Rattle.instruction.specs.declared.Instruction.{Instruction}
 use Rattle.instruction.specs.declared.Instruction.the-variants.{BranchZero}
 use Rattle.instruction.specs.Meaning.{meaning}
 use Rattle.work.specs.declared.machine.Control.{Control}
 use Rattle.work.specs.declared.machine.RolledBack.{RolledBack}
 use Rattle.work.specs.Layout.{labels}
-use Rattle.work.specs.Words.{taggedAt, entryAt, changeAt, windowIn}
-use Rattle.work.specs.Machines.{stateIn, branchesOf, machineOf, Fit}
+use Rattle.work.specs.Words.{taggedAt, entryAt, changeAt}
+use Rattle.work.specs.Machines.{stateIn, machineOf, Fit}
 use Rattle.work.specs.Moves.{topWindow, lowerTo, windowOn, ordinaryNext, openingNext, Moves, RollsBack}
-use Rattle.work.proofs.Moves.{top-window}
+use Rattle.work.proofs.Rules.{top-window}
 use Rattle.effect.specs.declared.Effect.{Effect}
 use Rattle.effect.specs.Effects.{observations, stateAfter, effectMeaning}
 use Rattle.effect.specs.States.{state-at}
@@ -36,8 +36,10 @@ use Rattle.stepping.specs.Progress.{logOf, progressAfter}
 use Rattle.stepping.specs.Steps.{Made, Leaves, RolledBackTo, OpenedTo, CarriedOutTo}
 use Rattle.stepping.proofs.Laws.{gathered, top-lowered, window-lowered}
 
+-- ---- any step
 module _ (w w′ t t′ : List ℕ) (c c′ : Progress) (n : ℕ) (s : Step) (control : Control)
     (counted : c′ ≡ progressAfter c control (length (s .obs)) (s .back) (s .seen)) where
+  -- the counts and sets are the rules' log after the step
   noted : (os : List Observation) → logOf (os ++ s .obs) c′ ≡ note (machineOf w (c .control) n) s (logOf os c)
   unfolding note
   noted os =
@@ -81,18 +83,19 @@ rolled-back {w} {w′} {t} {t′} {c} {c′} {r} {seen} m et es ec =
           let I = m .id n b bs e in
           let T = m .target n b bs e in
           made-of w w′ t t′ c c′ n (rolling (machineOf w (c .control) n) b bs) (r .control) (ec ∙ ap (progressAfter c (r .control) 2 1) es)
-          (m .machine n b bs hn e) (m .fits) (m .frame) (et ∙ (λ i. sets t (2 * c .observations) (1 ∷ I i ∷ 2 ∷ T i ∷ []))) (omega arith) (omega arith);
+          (m .machine n b bs e) (m .fits) (m .frame) (et ∙ (λ i. sets t (2 * c .observations) (1 ∷ I i ∷ 2 ∷ T i ∷ []))) (omega arith) (omega arith);
     }
 
--- ---- what is left of the top's window, in the machine
-module _ (w : List ℕ) (c : Control) (n v : ℕ) (i : Instruction) (left : Leaves w c i v) (p : List ℕ) (code : Code) (costs : code .costs ≡ windowCosts) where
+-- ---- what an instruction leaves of the top's window, in the machine
+module _ (w : List ℕ) (c : Control) (n v : ℕ) (i : Instruction) (left : Leaves w c i v) (p : List ℕ) (code : Code)
+    (costs : code .costs ≡ windowCosts) where
   abbrev open-branches : List Branch
   open-branches = machineOf w c n .branches
 
   window-left : v ≡ remaining code (meaning p i) (topWindow open-branches)
   window-left =
       left .exact p code costs
-      ∙ ap (remaining code (meaning p i)) (sym (top-window (entryAt w) (changeAt w) (stateIn w n) w (c .log) (c .depth) refl))
+      ∙ ap (remaining code (meaning p i)) (sym (top-window w (changeAt w) (stateIn w n) (c .log) (c .depth)))
 
   branches-left : lowerTo v open-branches ≡ lower code (meaning p i) open-branches
   branches-left = ap (λ (u : ℕ). lowerTo u open-branches) window-left ∙ top-lowered code (meaning p i) open-branches
@@ -130,7 +133,7 @@ opened {w} {w′} {t} {t′} {c} {c′} {r} {window} {wrong} {target} {v} {l} {x
     }
 
 -- ---- rule 3
--- the machine after an effect e, where b says whether a location takes a word
+-- the machine after an effect, where b says whether a location takes a word
 abbrev nextBy : Effect → ℕ → Bool → Machine → Machine
 nextBy e v b M = ordinaryNext M (cond b (put (M .state) (e .location .0) (e .value)) (M .state)) (e .place) v
 

@@ -1,7 +1,7 @@
 -- What the functions that make a step promise.
 -- Assumes nothing.
 use mathlib.Core.Path.{_≡_}
-use mathlib.Core.List.{List, [], _∷_, _++_}
+use mathlib.Core.List.{List, _∷_, _++_}
 use Prim.Native.Nat.{ℕ, _+_, _*_, _<_, _≤_}
 use lib.ListN.{length, drop}
 use lib.Seq.{sets}
@@ -47,18 +47,18 @@ pub record RolledBackTo (w w′ t t′ : List ℕ) (c c′ : Progress) : Type 0 
   pub made : (n : ℕ) (b : Branch) (bs : List Branch) → n ≤ limit → machineOf w (c .control) n .branches ≡ b ∷ bs
       → Made n (rolling (machineOf w (c .control) n) b bs) w w′ t t′ c c′
 
--- rule 2 for beqz r, l, at a place of the program, by a code whose window is w
+-- rule 2 for beqz r, l, in a program whose window is so much
 pub record OpenedTo (w w′ t t′ : List ℕ) (r l window : ℕ) (c c′ : Progress) : Type 0 where
   pub made : (n : ℕ) (code : Code) → registers ≤ n → n ≤ limit → code .window ≡ window → code .costs ≡ windowCosts
       → Made n (opening code (machineOf w (c .control) n) r l) w w′ t t′ c c′
 
--- rule 3 for an instruction with the effect e
+-- rule 3 for an instruction of the bytes p, with the effect e
 pub record CarriedOutTo (p w w′ t t′ : List ℕ) (i : Instruction) (e : Effect) (c c′ : Progress) : Type 0 where
   pub made : (n : ℕ) (code : Code) → n ≤ limit → code .costs ≡ windowCosts
       → effectMeaning (stateIn w n) e ≡ exec code (stateIn w n) (c .control .place) (meaning p i)
       → Made n (ordinary code (machineOf w (c .control) n) (meaning p i)) w w′ t t′ c c′
 
--- What the rules 2 and 3 ask in common: the words fit, the counts are small, the trace area has room for so many observations
+-- What rules 2 and 3 ask in common: the words fit, the counts are small, the trace area has room for so many observations
 -- more, and an open branch has some window left.
 pub record Steppable (w t : List ℕ) (observations : ℕ) (c : Progress) : Type 0 where
   pub fits : Fit w (c .control)

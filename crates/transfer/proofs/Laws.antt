@@ -4,14 +4,14 @@ use mathlib.Core.Path.{_≡_, refl, sym, ap, _∙_}
 use mathlib.Core.Bool.{Bool, true, false, not, _&&_, _||_}
 use mathlib.Core.List.{List, [], _∷_, _++_, append-nil, append-assoc}
 use Prim.Native.Nat.{ℕ, zero, suc, zero-le, _+_, _-_, _*_, _/_, _%_, _^_, _<_, _≤_}
+use native.Mathlib.Nat.{add-zero, zero-add, le-refl}
 use native.Mathlib.Numerals.{add-one}
 use native.Mathlib.Omega.{arith}
 use lib.Dec.{eqb}
 use lib.ListN.{length, getD, take, drop, set, replicate, length-set, length-replicate}
-use lib.Seq.{sets, length-sets, sets-eq, drop-cons}
+use lib.Seq.{sets, length-sets, sets-eq, drop-cons, getD-set-same, getD-set-other, take-set-le}
 use Rattle.location.specs.declared.LocationSet.{LocationSet}
 use Rattle.location.specs.Sets.{none, only, single, member}
-use Rattle.rules.specs.declared.Tagged.{Tagged}
 use Rattle.rules.specs.Rules.Expressions.{tagged}
 use Rattle.rules.specs.Rules.Plain.{State, ownFrom, values}
 use Rattle.rules.specs.Rules.JobFile.{little, wordsAt, instr}
@@ -21,8 +21,9 @@ use Rattle.program.specs.Offsets.{nextOffset, offsetsFrom}
 use Rattle.work.specs.Layout.{operandBase, labels, labelBase}
 use Rattle.work.specs.Words.{taggedAt, stored}
 use Rattle.work.specs.Machines.{stateFrom, stateIn}
-use Rattle.transfer.specs.Stores.{take-sets, drop-sets, getD-sets}
-use Rattle.transfer.specs.States.{state-length, values-length, state-more}
+use Rattle.work.proofs.Ranges.{drop-sets}
+use Rattle.work.proofs.States.{state-more}
+use Rattle.transfer.specs.States.{state-length, values-length}
 use Rattle.transfer.specs.Loads.{StateLoaded, LabelsLoaded}
 
 -- ---- a state loaded: the locations before l hold their words, and with the words left they are the whole state
@@ -43,13 +44,13 @@ unfolding single only none
 single-length l = length-set (replicate 4 0) (l / 64) (2 ^ (l % 64)) ∙ length-replicate {A = ℕ} 4 0
 
 module _ (bs : List ℕ) (at n : ℕ) (w₀ w w₁ : List ℕ) (l : ℕ) (known : Loading bs at n w₀ w l) where
-  pub loading-more : (k x : ℕ) (s : LocationSet) → l < n → operandBase n ≤ length w₀ → k ≡ l → x ≡ little bs (at + 8 * l) 8 → s ≡ single k
-      → w₁ ≡ stored w k (tagged x s) → Loading bs at n w₀ w₁ (l + 1)
+  pub loading-more : (j k x : ℕ) (s : LocationSet) → l < n → operandBase n ≤ length w₀ → j ≡ l → k ≡ l → x ≡ little bs (at + 8 * l) 8
+      → s ≡ single j → w₁ ≡ stored w k (tagged x s) → Loading bs at n w₀ w₁ (l + 1)
   unfolding ownFrom wordsAt
-  loading-more k x s h f ek ex es e =
+  loading-more j k x s h f ej ek ex es e =
       let v = tagged (little bs (at + 8 * l) 8) (single l) in
       let vs = v .value ∷ v .deps .words in
-      let g : w₁ ≡ stored w l v = e ∙ (λ t. stored w (ek t) (tagged (ex t) ((es ∙ ap single ek) t))) in
+      let g : w₁ ≡ stored w l v = e ∙ (λ t. stored w (ek t) (tagged (ex t) ((es ∙ ap single ej) t))) in
       let four = single-length l in
       let room : operandBase l + 5 ≤ length w = rw (known .size) (omega arith) in
       let words = wordsAt (n - (l + 1)) bs (at + 8 * (l + 1)) in
@@ -74,7 +75,23 @@ loading-all bs at n w w′ l known h =
     let whole : stateIn w′ l ++ [] ≡ ownFrom 0 (wordsAt n bs at) = rw z at (known .state) in
     record { state = ap (stateIn w′) (sym e) ∙ sym (append-nil (stateIn w′ l)) ∙ whole; after = known .after; size = known .size }
 
--- ---- the table of labels
+-- ---- the table of labels: what stands before the words that were stored, and where they were stored
+take-sets : (vs w : List ℕ) (i n : ℕ) → n ≤ i → take n (sets w i vs) ≡ take n w
+take-sets [] w i n h = refl
+take-sets (a ∷ vs) w i n h = take-sets vs (set w i a) (suc i) n (omega arith) ∙ take-set-le n w i a h
+
+getD-sets-before : (vs w : List ℕ) (i j : ℕ) → j < i → getD (sets w i vs) j 0 ≡ getD w j 0
+getD-sets-before [] w i j h = refl
+getD-sets-before (a ∷ vs) w i j h = getD-sets-before vs (set w i a) (suc i) j (omega arith) ∙ getD-set-other w i j a 0 (omega arith)
+
+getD-sets : (vs w : List ℕ) (i j : ℕ) → j < length vs → i + length vs ≤ length w → getD (sets w i vs) (i + j) 0 ≡ getD vs j 0
+getD-sets [] w i j h f = absurd (omega arith)
+getD-sets (a ∷ vs) w i zero h f =
+    rw (add-zero i) (getD-sets-before vs (set w i a) (suc i) i (le-refl (suc i)) ∙ getD-set-same w i a 0 (omega arith))
+getD-sets (a ∷ vs) w i (suc j) h f =
+    let e : i + suc j ≡ suc i + j = omega arith in
+    rw e (getD-sets vs (set w i a) (suc i) j (omega arith) (rw (length-set w i a) (omega arith)))
+
 offsets-length : (k : ℕ) (p : List ℕ) (at : ℕ) → length (offsetsFrom k p at) ≡ k
 unfolding offsetsFrom
 offsets-length zero p at = refl
@@ -128,12 +145,11 @@ alike-step public first second at n l h =
     let e₂ : 8 * (l + 1) ≡ 8 * l + 8 = omega arith in
     rw (e, e₁, e₂, add-one)
 
-pub public-word : (public : LocationSet) (l k x y : ℕ) (b r : Bool) → k ≡ l → b ≡ member public k → b ≡ true → r ≡ eqb x y
-    → r ≡ (not (member public l) || eqb x y)
-public-word public l k x y b r ek eb t e =
-    let m : member public l ≡ true = ap (member public) (sym ek) ∙ sym eb ∙ t in
-    rw m e
-
-pub private-word : (public : LocationSet) (l k x y : ℕ) (b : Bool) → k ≡ l → b ≡ member public k → b ≡ false
-    → true ≡ (not (member public l) || eqb x y)
-private-word public l k x y b ek eb t = let m : member public l ≡ false = ap (member public) (sym ek) ∙ sym eb ∙ t in rw m
+-- one location, of what the code read
+pub alike-word : (public : LocationSet) (first second : List ℕ) (at l k x y : ℕ) (b : Bool) → k ≡ l → b ≡ member public k
+    → x ≡ little first (at + 8 * l) 8 → y ≡ little second (0 + 8 * l) 8
+    → (not b || eqb x y) ≡ (not (member public l) || eqb (little first (at + 8 * l) 8) (little second (8 * l) 8))
+alike-word public first second at l k x y b ek eb ex ey =
+    let eb′ = eb ∙ ap (member public) ek in
+    let ey′ = ey ∙ ap (λ (j : ℕ). little second j 8) (zero-add (8 * l)) in
+    λ t. not (eb′ t) || eqb (ex t) (ey′ t)

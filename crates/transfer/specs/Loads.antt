@@ -1,17 +1,17 @@
 -- What loading promises, and what follows for the words that stand elsewhere.
 -- Assumes nothing.
-use mathlib.Core.Path.{_≡_, _∙_}
+use mathlib.Core.Path.{_≡_}
 use mathlib.Core.List.{List}
-use Prim.Native.Nat.{ℕ, _+_, _-_, _<_, _≤_}
+use Prim.Native.Nat.{ℕ, _<_, _≤_}
 use native.Mathlib.Omega.{arith}
 use lib.ListN.{length, getD, take, drop}
-use lib.Seq.{drop-drop}
 use Rattle.location.specs.Sets.{limit}
 use Rattle.rules.specs.Rules.Plain.{ownFrom}
 use Rattle.rules.specs.Rules.JobFile.{wordsAt}
 use Rattle.program.specs.Offsets.{offsetsFrom}
 use Rattle.work.specs.Layout.{operandBase, labels, labelBase}
 use Rattle.work.specs.Machines.{stateIn}
+use Rattle.work.proofs.Ranges.{drop-past}
 use Rattle.transfer.specs.States.{state-same}
 
 -- The operands of n locations are the words at an offset of the bytes, each with the set of itself alone; the other words stay.
@@ -28,11 +28,6 @@ pub record LabelsLoaded (p : List ℕ) (count : ℕ) (w w′ : List ℕ) : Type 
   pub size : length w′ ≡ length w
 
 -- ---- laws
-drop-past : (w w′ : List ℕ) (m n : ℕ) → m ≤ n → drop m w ≡ drop m w′ → drop n w ≡ drop n w′
-drop-past w w′ m n h d =
-    let e : n ≡ m + (n - m) = omega arith in
-    rw (e, ← drop-drop (n - m) m w, ← drop-drop (n - m) m w′, d)
-
 -- the words past the operands, wherever one begins
 pub state-loaded-after : {bs : List ℕ} {at n : ℕ} {w w′ : List ℕ} → StateLoaded bs at n w w′ → (m : ℕ) → operandBase n ≤ m → drop m w′ ≡ drop m w
 state-loaded-after {bs} {at} {n} {w} {w′} s m h = drop-past w′ w (operandBase n) m h (s .after)

@@ -19,18 +19,25 @@ ghost use Rattle.transfer.specs.Loads.{StateLoaded, LabelsLoaded};
 // The bytes of a word in a state.
 const WORD_BYTES: usize = 8;
 
-// Location l of n takes the word at offset at + 8 l of the bytes, with the set of itself alone.
+// Word number l of those that stand at an offset of the bytes.
+fn word_at(bytes: &[u8], at: usize, l: usize) -> u64
+    requires { ⌜ at + 8 * l + 8 ≤ length (now bytes) ⌝ }
+    ensures { λ r. ⌜ r ≡ little (now (bytes .entry)) (at + 8 * l) 8 ⌝ }
+{
+    token::number(bytes, at + WORD_BYTES * l, WORD_BYTES)
+}
+
+// Each of n locations takes its word of those at an offset of the bytes, with the set of itself alone.
 pub fn load_state(bytes: &[u8], at: usize, n: usize, work: &mut [u64])
     requires { ⌜ (at + 8 * n ≤ length (now bytes)) × (operandBase n ≤ length (now work)) ⌝ }
     ensures { λ _. ⌜ StateLoaded (now (bytes .entry)) at n (now (work .entry)) (now (work .exit)) ⌝ }
 {
-    let mut l = 0;
-    while l < n {
-        let location = Location::new(l);
-        let value = token::number(bytes, at + WORD_BYTES * l, WORD_BYTES);
-        let deps = LocationSet::single(location);
-        work::store(&mut work[..], location, Tagged { value, deps });
-        l += 1;
+    let mut loaded = 0;
+    while loaded < n {
+        let value = word_at(bytes, at, loaded);
+        let deps = LocationSet::single(Location::new(loaded));
+        work::store(&mut work[..], Location::new(loaded), Tagged { value, deps });
+        loaded += 1;
     }
 }
 
@@ -47,11 +54,11 @@ pub fn save_values(work: &[u64], n: usize, area: &mut [u64])
     requires { ⌜ (operandBase n ≤ length (now work)) × (n ≤ length (now area)) ⌝ }
     ensures { λ _. ⌜ now (area .exit) ≡ written (values (stateIn (now (work .entry)) n)) (now (area .entry)) ⌝ }
 {
-    let mut l = 0;
-    while l < n {
-        let v = work::load(work, Location::new(l));
-        area[l] = v.value;
-        l += 1;
+    let mut saved = 0;
+    while saved < n {
+        let v = work::load(work, Location::new(saved));
+        area[saved] = v.value;
+        saved += 1;
     }
 }
 
@@ -70,16 +77,16 @@ pub fn same_words(a: &[u64], b: &[u64], n: usize) -> bool
     true
 }
 
-// Whether a location is not public, or holds the same word in both states; the word stands at i and j.
-fn alike_at(public: LocationSet, l: usize, first: &[u8], i: usize, second: &[u8], j: usize) -> bool
-    requires { ⌜ (i + 8 ≤ length (now first)) × (j + 8 ≤ length (now second)) ⌝ }
-    ensures { λ r. ⌜ r ≡ (not (member public l) || eqb (little (now (first .entry)) i 8) (little (now (second .entry)) j 8)) ⌝ }
+// Whether a location is not public, or holds the same word in both states, at an offset of the first bytes and at 0 of the second.
+fn alike_at(public: LocationSet, first: &[u8], at: usize, second: &[u8], l: usize) -> bool
+    requires { ⌜ (at + 8 * l + 8 ≤ length (now first)) × (8 * l + 8 ≤ length (now second)) ⌝ }
+    ensures { λ r. ⌜ r ≡ (not (member public l) || eqb (little (now (first .entry)) (at + 8 * l) 8) (little (now (second .entry)) (8 * l) 8)) ⌝ }
 {
-    if public.member(Location::new(l)) {
-        token::number(first, i, WORD_BYTES) == token::number(second, j, WORD_BYTES)
-    } else {
-        true
+    let equal = word_at(first, at, l) == word_at(second, 0, l);
+    if !public.member(Location::new(l)) {
+        return true;
     }
+    equal
 }
 
 // Whether two states of n words, at an offset of the first bytes and at 0 of the second, hold the same word at each public location.
@@ -89,7 +96,7 @@ pub fn alike_bytes(public: LocationSet, first: &[u8], at: usize, second: &[u8], 
 {
     let mut l = 0;
     while l < n {
-        if !alike_at(public, l, first, at + WORD_BYTES * l, second, WORD_BYTES * l) {
+        if !alike_at(public, first, at, second, l) {
             return false;
         }
         l += 1;

@@ -11,7 +11,7 @@ use Rattle.rules.specs.declared.Tagged.{Tagged}
 use Rattle.rules.specs.Rules.Calls.{workingWords}
 use Rattle.rules.specs.Rules.Plain.{State}
 use Rattle.work.specs.declared.BranchEntry.{BranchEntry}
-use Rattle.work.specs.Layout.{changeBase, branchBase}
+use Rattle.work.specs.Layout.{changeBase, branchBase, firstBranch}
 use Rattle.work.specs.Words.{Change, changeAt, changed, entryAt, entryStored}
 use Rattle.work.specs.Machines.{stateIn, lastChanges, restored, savedAt, branchesOf, maxWindow, Held}
 use Rattle.work.specs.Moves.{lowerTo}
@@ -53,7 +53,7 @@ pub extends-self : (w : List ℕ) (n k d : ℕ) → workingWords ≤ length w �
 extends-self w n k d r = record { room = r; more = le-refl k; entries = λ j l. refl; logs = λ j l. refl; saved = λ m l. refl }
 
 pub extends-changed : (w : List ℕ) (n k d l : ℕ) (v : Tagged) → workingWords ≤ length w → n ≤ limit → l < limit → length (v .deps .words) ≡ 4
-    → 6 * k + 6 + 4 * d ≤ 1202 → Extends w (changed w k l v) n k (k + 1) d
+    → 6 * k + 6 + 4 * d ≤ firstBranch → Extends w (changed w k l v) n k (k + 1) d
 extends-changed w n k d l v r hn hl e a =
     let hk : changeBase k + 6 ≤ length w = omega arith in
     record {
@@ -65,7 +65,7 @@ extends-changed w n k d l v r hn hl e a =
     }
 
 -- ---- there the window of branch number d, the top one, is lowered
-module _ (w w₁ : List ℕ) (n k k₁ d v : ℕ) (x : Extends w w₁ n k k₁ d) (hn : n ≤ limit) (apart : 6 * k₁ + 4 * d ≤ 1202)
+module _ (w w₁ : List ℕ) (n k k₁ d v : ℕ) (x : Extends w w₁ n k k₁ d) (hn : n ≤ limit) (apart : 6 * k₁ + 4 * d ≤ firstBranch)
     (h : Held (entryAt w) (suc d) k) where
   abbrev w₂ : List ℕ
   w₂ = set w₁ (branchBase d + 2) v
@@ -118,7 +118,7 @@ module _ (w w₁ : List ℕ) (n k k₁ d v : ℕ) (x : Extends w w₁ n k k₁ d
       subst (λ (y : BranchEntry). (y .mark ≤ k₁) × (k₁ + d + y .window ≤ maxWindow) × Held (entryAt w₂) d (y .mark)) (sym top) (l₁, b, H)
 
 -- ---- an entry pushed as branch number d, with the log's length as its mark
-module _ (w : List ℕ) (n k d : ℕ) (b : BranchEntry) (hn : n ≤ limit) (room : workingWords ≤ length w) (apart : 6 * k + 4 * d ≤ 1202)
+module _ (w : List ℕ) (n k d : ℕ) (b : BranchEntry) (hn : n ≤ limit) (room : workingWords ≤ length w) (apart : 6 * k + 4 * d ≤ firstBranch)
     (mark : b .mark ≡ k) (h : Held (entryAt w) d k) where
   abbrev w₃ : List ℕ
   w₃ = entryStored w d b

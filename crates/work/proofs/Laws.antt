@@ -9,7 +9,7 @@ use lib.ListN.{length, getD, set}
 use lib.Seq.{sets, length-sets}
 use Rattle.rules.specs.declared.Tagged.{Tagged}
 use Rattle.work.specs.Layout.{operandBase, changeBase}
-use Rattle.work.specs.Words.{taggedAt, storedIn, stored, changeAt, changed, undone}
+use Rattle.work.specs.Words.{taggedAt, storedIn, stored, changeAt, changed, undone, taggedWords}
 
 -- a list of four is its four elements
 pub four : (l : List ℕ) → length l ≡ 4 → getD l 0 0 ∷ getD l 1 0 ∷ getD l 2 0 ∷ getD l 3 0 ∷ [] ≡ l
@@ -41,8 +41,8 @@ change-law w w₁ w₂ k l j v x ej ex e₁ e₂ =
 pub length-changed : (w : List ℕ) (k l : ℕ) (v : Tagged) → length (changed w k l v) ≡ length w
 length-changed w k l v =
     let x = taggedAt w l in
-    let logged = sets w (changeBase k) (l ∷ x .value ∷ x .deps .words) in
-    length-sets logged (operandBase l) (v .value ∷ v .deps .words) ∙ length-sets w (changeBase k) (l ∷ x .value ∷ x .deps .words)
+    let logged = sets w (changeBase k) (l ∷ taggedWords x) in
+    length-sets logged (operandBase l) (taggedWords v) ∙ length-sets w (changeBase k) (l ∷ taggedWords x)
 
 -- one change undone, and then those before it
 pub undo-law : (w w₁ : List ℕ) (k mark l : ℕ) (x : Tagged) → mark ≤ k → l ≡ changeAt w k .location → x ≡ changeAt w k .before

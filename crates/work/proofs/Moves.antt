@@ -15,8 +15,8 @@ use Rattle.rules.specs.Rules.Mispredicting.{Branch, Machine, rolling}
 use Rattle.work.specs.declared.BranchEntry.{BranchEntry}
 use Rattle.work.specs.declared.machine.Control.{Control}
 use Rattle.work.specs.declared.machine.RolledBack.{RolledBack}
-use Rattle.work.specs.Layout.{operandBase, changeBase, branchBase, labels}
-use Rattle.work.specs.Words.{taggedAt, stored, Change, changeAt, changed, undone, entryAt, entryStored, windowIn, loweredIn, windowAfter}
+use Rattle.work.specs.Layout.{operandBase, changeBase, branchBase, labels, logBase, firstBranch}
+use Rattle.work.specs.Words.{taggedAt, stored, Change, changeAt, changed, undone, entryAt, entryStored, windowIn, loweredIn, windowAfter, taggedWords}
 use Rattle.work.specs.Machines.{stateIn, savedAt, branchesOf, machineOf, maxWindow, Held, Fit}
 use Rattle.work.specs.Moves.{lowerTo, windowOn, ordinaryNext, openingNext, Moves, RollsBack}
 use Rattle.work.proofs.Ranges.{drop-sets, drop-past, log-same, entries-same}
@@ -57,7 +57,7 @@ go-law w p₀ (suc d) k o p v f b =
     let h = f .held in
     let h₁ = h .1 in
     let l = b (omega arith) in
-    let a : 6 * k + 4 * d ≤ 1202 = omega arith in
+    let a : 6 * k + 4 * d ≤ firstBranch = omega arith in
     record {
       machine = λ n hn.
           let S = lowered-state w w n k k d v (extends-self w n k d (f .room)) hn a h in
@@ -76,7 +76,7 @@ module _ (w : List ℕ) (c : Control) (l p v : ℕ) (x : Tagged) (f : Fit w c) (
   k = c .log
 
   abbrev xs : List ℕ
-  xs = x .value ∷ x .deps .words
+  xs = taggedWords x
 
   -- the branches in words w′, with k′ changes logged, are those of w with the top lowered, where d are open
   abbrev Lowered : List ℕ → ℕ → ℕ → ℕ → Type 0
@@ -107,10 +107,10 @@ module _ (w : List ℕ) (c : Control) (l p v : ℕ) (x : Tagged) (f : Fit w c) (
       let b₂ = window-above w (c .depth) o in
       let w₁ = changed w k l x in
       let w₂ = set w₁ (branchBase d + 2) v in
-      let ls = l ∷ taggedAt w l .value ∷ taggedAt w l .deps .words in
+      let ls = l ∷ taggedWords (taggedAt w l) in
       let h : Held (entryAt w) (suc d) k = subst (λ (j : ℕ). Held (entryAt w) j k) s (f .held) in
       let h₁ = h .1 in
-      let a : 6 * (k + 1) + 4 * d ≤ 1202 = omega arith in
+      let a : 6 * (k + 1) + 4 * d ≤ firstBranch = omega arith in
       let X : (n : ℕ) → n ≤ limit → Extends w w₁ n k (k + 1) d = λ n hn. extends-changed w n k d l x (f .room) hn hl e (omega arith) in
       let X₀ = X 0 (omega arith) in
       let H = lowered-held w w₁ 0 k (k + 1) d v X₀ (omega arith) a h (omega arith) in
@@ -162,7 +162,7 @@ module _ (w : List ℕ) (c : Control) (p t u v : ℕ) (f : Fit w c) (b : 0 < c .
       let G = go-law w (c .place) d k (c .opened) p v f (λ h. let l = b h in omega arith) in
       let r = G .fits .room in
       let h = G .fits .held in
-      let i : 6 * k + 4 * d ≤ 1202 = omega (arith, open-bound) in
+      let i : 6 * k + 4 * d ≤ firstBranch = omega (arith, open-bound) in
       let H = pushed-held w₁ 0 k d new (omega arith) r i refl h open-bound in
       record {
         machine = λ n hn.
@@ -182,7 +182,7 @@ module _ (w : List ℕ) (c : Control) (p t u v : ℕ) (f : Fit w c) (b : 0 < c .
 
 -- ---- rule 1
 -- the branch of an entry, whose saved state is what the changes down to its mark give back
-abbrev branchOf : BranchEntry → (ℕ → Change) → State → ℕ → Branch
+abbrev pub branchOf : BranchEntry → (ℕ → Change) → State → ℕ → Branch
 branchOf y g σ k = record { id = y .id; saved = savedAt g σ k (y .mark); target = y .target; window = y .window }
 
 -- where a branch is open, the top and the others
@@ -210,8 +210,8 @@ module _ (w w₁ : List ℕ) (c : Control) (y : BranchEntry) (f : Fit w c) (h : 
   abbrev after : RolledBack
   after = record { control = record { place = y .target; depth = c .depth - 1; log = y .mark; opened = c .opened }; id = y .id; target = y .target }
 
-  past : drop 1280 w₁ ≡ drop 1280 w
-  past = ap (drop 1280) ew ∙ drop-undone w (c .log) (c .log - y .mark)
+  past : drop logBase w₁ ≡ drop logBase w
+  past = ap (drop logBase) ew ∙ drop-undone w (c .log) (c .log - y .mark)
 
   state-back : (n : ℕ) → stateIn w₁ n ≡ savedAt (changeAt w) (stateIn w n) (c .log) (top .mark)
   state-back n =
@@ -259,5 +259,5 @@ module _ (w w₁ : List ℕ) (c : Control) (y : BranchEntry) (f : Fit w c) (h : 
           room = rw (ew, length-undone w (c .log) (c .log - y .mark)) (f .room);
           held = subst₂ (λ (e : ℕ → BranchEntry) (b : BranchEntry). Held e (c .depth - 1) (b .mark)) E (sym ey) T;
         };
-        frame = drop-past w₁ w 1280 labels (omega arith) past;
+        frame = drop-past w₁ w logBase labels (omega arith) past;
       }

@@ -12,8 +12,8 @@ use lib.Seq.{sets, getD-set-same, getD-set-other, getD-drop, drop-set-lt, drop-d
 use Rattle.location.specs.Sets.{limit}
 use Rattle.rules.specs.declared.Tagged.{Tagged}
 use Rattle.work.specs.declared.BranchEntry.{BranchEntry}
-use Rattle.work.specs.Layout.{changeBase, branchBase}
-use Rattle.work.specs.Words.{taggedIn, storedIn, changeAt, entryAt, entryStored}
+use Rattle.work.specs.Layout.{changeBase, branchBase, logBase}
+use Rattle.work.specs.Words.{taggedIn, storedIn, changeAt, entryAt, entryStored, taggedWords}
 use Rattle.work.proofs.Laws.{four}
 
 -- the n words from one on are the same in both
@@ -90,11 +90,11 @@ entry-same k s =
     λ t. record { id = e₀ t; target = e₁ t; window = e₂ t; mark = e₃ t }
 
 -- the log and the branches stand past the operands
-pub log-same : (w w′ : List ℕ) → drop 1280 w ≡ drop 1280 w′ → changeAt w ≡ changeAt w′
-log-same w w′ d = fun-ext (λ k. change-same k (same-past w w′ 1280 (changeBase k) 6 (omega arith) d))
+pub log-same : (w w′ : List ℕ) → drop logBase w ≡ drop logBase w′ → changeAt w ≡ changeAt w′
+log-same w w′ d = fun-ext (λ k. change-same k (same-past w w′ logBase (changeBase k) 6 (omega arith) d))
 
-pub entries-same : (w w′ : List ℕ) → drop 1280 w ≡ drop 1280 w′ → entryAt w ≡ entryAt w′
-entries-same w w′ d = fun-ext (λ k. entry-same k (same-past w w′ 1280 (branchBase k) 4 (omega arith) d))
+pub entries-same : (w w′ : List ℕ) → drop logBase w ≡ drop logBase w′ → entryAt w ≡ entryAt w′
+entries-same w w′ d = fun-ext (λ k. entry-same k (same-past w w′ logBase (branchBase k) 4 (omega arith) d))
 
 -- ---- what is read where it was stored
 first-in : (vs w : List ℕ) (i : ℕ) → 0 < length vs → i + length vs ≤ length w → getD (sets w i vs) i 0 ≡ getD vs 0 0
@@ -102,7 +102,7 @@ first-in vs w i h f = ap (λ (j : ℕ). getD (sets w i vs) j 0) (sym (add-zero i
 
 pub tagged-stored : (w : List ℕ) (i : ℕ) (v : Tagged) → length (v .deps .words) ≡ 4 → i + 5 ≤ length w → taggedIn (storedIn w i v) i ≡ v
 tagged-stored w i v h f =
-    let vs = v .value ∷ v .deps .words in
+    let vs = taggedWords v in
     let g : i + length vs ≤ length w = omega arith in
     let e₀ = first-in vs w i (omega arith) g in
     let e₁ = in-sets vs w i 1 (omega arith) g in
@@ -114,10 +114,10 @@ tagged-stored w i v h f =
     λ t. record { value = e₀ t; deps = record { words = e t } }
 
 pub change-stored : (w : List ℕ) (k l : ℕ) (v : Tagged) → l < limit → length (v .deps .words) ≡ 4 → changeBase k + 6 ≤ length w
-    → changeAt (sets w (changeBase k) (l ∷ v .value ∷ v .deps .words)) k ≡ record { location = l; before = v }
+    → changeAt (sets w (changeBase k) (l ∷ taggedWords v)) k ≡ record { location = l; before = v }
 change-stored w k l v hl h f =
     let i = changeBase k in
-    let vs = l ∷ v .value ∷ v .deps .words in
+    let vs = l ∷ taggedWords v in
     let m : l % limit ≡ l = omega arith in
     let e₀ : getD (sets w i vs) i 0 % limit ≡ l = ap (λ (x : ℕ). x % limit) (first-in vs w i (omega arith) (omega arith)) ∙ m in
     let e₁ : taggedIn (sets w i vs) (i + 1) ≡ v =

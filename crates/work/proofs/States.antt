@@ -12,8 +12,8 @@ use Rattle.location.specs.Sets.{limit, empty}
 use Rattle.rules.specs.declared.Tagged.{Tagged}
 use Rattle.rules.specs.Rules.Expressions.{tagged}
 use Rattle.rules.specs.Rules.Plain.{State, at, put}
-use Rattle.work.specs.Layout.{operandBase, changeBase, branchBase}
-use Rattle.work.specs.Words.{taggedAt, stored, Change, changeAt, changed, undone, entryAt}
+use Rattle.work.specs.Layout.{operandBase, changeBase, branchBase, logBase}
+use Rattle.work.specs.Words.{taggedAt, stored, Change, changeAt, changed, undone, entryAt, taggedWords}
 use Rattle.work.specs.Machines.{stateFrom, stateIn, lastChanges, restored, savedAt}
 use Rattle.work.proofs.Ranges.{same-before, same-after, tagged-same, change-same, entry-same, log-same, tagged-stored, change-stored, drop-sets}
 
@@ -21,7 +21,7 @@ use Rattle.work.proofs.Ranges.{same-before, same-after, tagged-same, ch
 out-stored : (w : List ℕ) (i n l : ℕ) (v : Tagged) → l < i → length (v .deps .words) ≡ 4 → stateFrom (stored w l v) i n ≡ stateFrom w i n
 out-stored w i zero l v h e = refl
 out-stored w i (suc n) l v h e =
-    let e₁ = tagged-same (same-after (v .value ∷ v .deps .words) w (operandBase l) (operandBase i) 5 (omega arith)) in
+    let e₁ = tagged-same (same-after (taggedWords v) w (operandBase l) (operandBase i) 5 (omega arith)) in
     let e₂ = out-stored w (suc i) n l v (omega arith) e in
     λ t. e₁ t ∷ e₂ t
 
@@ -34,7 +34,7 @@ from-stored w i (suc n) zero l v h e f =
     let e₂ = out-stored w (suc i) n l v (omega arith) e in
     λ t. e₁ t ∷ e₂ t
 from-stored w i (suc n) (suc j) l v h e f =
-    let e₁ = tagged-same (same-before (v .value ∷ v .deps .words) w (operandBase l) (operandBase i) 5 (omega arith)) in
+    let e₁ = tagged-same (same-before (taggedWords v) w (operandBase l) (operandBase i) 5 (omega arith)) in
     let e₂ = from-stored w (suc i) n j l v (omega arith) e f in
     λ t. e₁ t ∷ e₂ t
 
@@ -72,7 +72,7 @@ pub state-more : (w : List ℕ) (n : ℕ) (v : Tagged) → length (v .deps .word
     → stateIn (stored w n v) (suc n) ≡ stateIn w n ++ (v ∷ [])
 state-more w n v e f =
     let z : 0 + n ≡ n = omega arith in
-    let S = state-before (v .value ∷ v .deps .words) w (operandBase n) 0 n (omega arith) in
+    let S = state-before (taggedWords v) w (operandBase n) 0 n (omega arith) in
     let X = ap (taggedAt (stored w n v)) z ∙ tagged-stored w (operandBase n) v e f in
     from-more (stored w n v) 0 n ∙ (λ t. S t ++ (X t ∷ []))
 
@@ -83,13 +83,13 @@ own-put w i (suc n) zero l h = let e : l ≡ i = omega arith in ap (λ (x : ℕ)
 own-put w i (suc n) (suc j) l h = ap (λ (σ : State). taggedAt w i ∷ σ) (own-put w (suc i) n j l (omega arith))
 
 -- ---- changes undone
-pub drop-undone : (w : List ℕ) (k j : ℕ) → drop 1280 (undone w k j) ≡ drop 1280 w
+pub drop-undone : (w : List ℕ) (k j : ℕ) → drop logBase (undone w k j) ≡ drop logBase w
 drop-undone w k zero = refl
 drop-undone w zero (suc j) = refl
 drop-undone w (suc k) (suc j) =
     let x = changeAt w k in
     drop-undone (stored w (x .location) (x .before)) k j
-    ∙ drop-sets (x .before .value ∷ x .before .deps .words) w (operandBase (x .location)) 1280 (omega arith)
+    ∙ drop-sets (taggedWords (x .before)) w (operandBase (x .location)) logBase (omega arith)
 
 pub length-undone : (w : List ℕ) (k j : ℕ) → length (undone w k j) ≡ length w
 length-undone w k zero = refl
@@ -97,19 +97,19 @@ length-undone w zero (suc j) = refl
 length-undone w (suc k) (suc j) =
     let x = changeAt w k in
     length-undone (stored w (x .location) (x .before)) k j
-    ∙ length-sets w (operandBase (x .location)) (x .before .value ∷ x .before .deps .words)
+    ∙ length-sets w (operandBase (x .location)) (taggedWords (x .before))
 
-pub state-undone : (w : List ℕ) (n k j : ℕ) → 1280 ≤ length w
+pub state-undone : (w : List ℕ) (n k j : ℕ) → logBase ≤ length w
     → stateIn (undone w k j) n ≡ restored (stateIn w n) (lastChanges (changeAt w) k j)
 state-undone w n k zero f = refl
 state-undone w n zero (suc j) f = refl
 state-undone w n (suc k) (suc j) f =
     let x = changeAt w k in
-    let vs = x .before .value ∷ x .before .deps .words in
+    let vs = taggedWords (x .before) in
     let w₁ = stored w (x .location) (x .before) in
-    let f₁ : 1280 ≤ length w₁ = rw (length-sets w (operandBase (x .location)) vs) f in
+    let f₁ : logBase ≤ length w₁ = rw (length-sets w (operandBase (x .location)) vs) f in
     let S = state-stored w n (x .location) (x .before) refl (omega arith) in
-    let G = log-same w₁ w (drop-sets vs w (operandBase (x .location)) 1280 (omega arith)) in
+    let G = log-same w₁ w (drop-sets vs w (operandBase (x .location)) logBase (omega arith)) in
     state-undone w₁ n k j f₁ ∙ (λ t. restored (S t) (lastChanges (G t) k j))
 
 -- ---- a change logged
@@ -124,10 +124,10 @@ changes-agree g g′ (suc k) (suc j) h =
 module _ (w : List ℕ) (n k l : ℕ) (v : Tagged) (hn : n ≤ limit) (hl : l < limit) (hk : changeBase k + 6 ≤ length w) (e : length (v .deps .words) ≡ 4) where
   -- the words once the change is logged
   abbrev logged : List ℕ
-  logged = sets w (changeBase k) (l ∷ taggedAt w l .value ∷ taggedAt w l .deps .words)
+  logged = sets w (changeBase k) (l ∷ taggedWords (taggedAt w l))
 
-  log-past : drop 1280 (changed w k l v) ≡ drop 1280 logged
-  log-past = drop-sets (v .value ∷ v .deps .words) logged (operandBase l) 1280 (omega arith)
+  log-past : drop logBase (changed w k l v) ≡ drop logBase logged
+  log-past = drop-sets (taggedWords v) logged (operandBase l) logBase (omega arith)
 
   the-change : changeAt (changed w k l v) k ≡ record { location = l; before = taggedAt w l }
   the-change = (λ t. log-same (changed w k l v) logged log-past t k) ∙ change-stored w k l (taggedAt w l) hl refl hk
@@ -135,17 +135,17 @@ module _ (w : List ℕ) (n k l : ℕ) (v : Tagged) (hn : n ≤ limit) (hl : l < 
   pub changed-before : (j : ℕ) → j < k → changeAt (changed w k l v) j ≡ changeAt w j
   changed-before j h =
       (λ t. log-same (changed w k l v) logged log-past t j)
-      ∙ change-same j (same-before (l ∷ taggedAt w l .value ∷ taggedAt w l .deps .words) w (changeBase k) (changeBase j) 6 (omega arith))
+      ∙ change-same j (same-before (l ∷ taggedWords (taggedAt w l)) w (changeBase k) (changeBase j) 6 (omega arith))
 
   pub changed-entry : (j : ℕ) → changeBase k + 6 ≤ branchBase j → entryAt (changed w k l v) j ≡ entryAt w j
   changed-entry j h =
-      entry-same j (same-after (v .value ∷ v .deps .words) logged (operandBase l) (branchBase j) 4 (omega arith))
-      ∙ entry-same j (same-after (l ∷ taggedAt w l .value ∷ taggedAt w l .deps .words) w (changeBase k) (branchBase j) 4 (omega arith))
+      entry-same j (same-after (taggedWords v) logged (operandBase l) (branchBase j) 4 (omega arith))
+      ∙ entry-same j (same-after (l ∷ taggedWords (taggedAt w l)) w (changeBase k) (branchBase j) 4 (omega arith))
 
   pub changed-state : stateIn (changed w k l v) n ≡ put (stateIn w n) l v
   changed-state =
-      state-stored logged n l v e (rw (length-sets w (changeBase k) (l ∷ taggedAt w l .value ∷ taggedAt w l .deps .words)) (omega arith))
-      ∙ ap (λ (σ : State). put σ l v) (state-before (l ∷ taggedAt w l .value ∷ taggedAt w l .deps .words) w (changeBase k) 0 n (omega arith))
+      state-stored logged n l v e (rw (length-sets w (changeBase k) (l ∷ taggedWords (taggedAt w l))) (omega arith))
+      ∙ ap (λ (σ : State). put σ l v) (state-before (l ∷ taggedWords (taggedAt w l)) w (changeBase k) 0 n (omega arith))
 
   back : put (put (stateIn w n) l v) l (taggedAt w l) ≡ stateIn w n
   unfolding put

@@ -7,13 +7,19 @@ abbrev pub operandBase : ℕ → ℕ
 operandBase l = 5 * l
 
 -- words 1280 to 2485: the log of changes upwards, 6 words each: the location, then its operand of before
-abbrev pub changeBase : ℕ → ℕ
-changeBase k = 1280 + 6 * k
+abbrev pub logBase : ℕ
+logBase = 1280
 
--- and the open branches downwards, 4 words each: id, target, window, and the length of the log when it was opened. No number
--- of a branch brings it below word 1280.
+abbrev pub changeBase : ℕ → ℕ
+changeBase k = logBase + 6 * k
+
+-- and the open branches downwards, 4 words each: id, target, window, and the length of the log when it was opened. The first one
+-- stands 1202 words past the log's first; no number brings one below that word.
+abbrev pub firstBranch : ℕ
+firstBranch = 1202
+
 abbrev pub branchBase : ℕ → ℕ
-branchBase k = 1280 + (1202 - 4 * k)
+branchBase k = logBase + (firstBranch - 4 * k)
 
 -- words 2486 to 2997: the byte offset of each label; words 2998 to 4095 are free
 abbrev pub labels : ℕ

@@ -17,8 +17,11 @@ taggedIn w i = record {
   deps = record { words = getD w (i + 1) 0 ∷ getD w (i + 2) 0 ∷ getD w (i + 3) 0 ∷ getD w (i + 4) 0 ∷ [] };
 }
 
+abbrev pub taggedWords : Tagged → List ℕ
+taggedWords v = v .value ∷ v .deps .words
+
 abbrev pub storedIn : List ℕ → ℕ → Tagged → List ℕ
-storedIn w i v = sets w i (v .value ∷ v .deps .words)
+storedIn w i v = sets w i (taggedWords v)
 
 abbrev pub taggedAt : List ℕ → ℕ → Tagged
 taggedAt w l = taggedIn w (operandBase l)
@@ -36,7 +39,7 @@ changeAt w k = record { location = getD w (changeBase k) 0 % limit; before = tag
 
 -- location l given v, with its operand of before logged as change number k
 abbrev pub changed : List ℕ → ℕ → ℕ → Tagged → List ℕ
-changed w k l v = stored (sets w (changeBase k) (l ∷ taggedAt w l .value ∷ taggedAt w l .deps .words)) l v
+changed w k l v = stored (sets w (changeBase k) (l ∷ taggedWords (taggedAt w l))) l v
 
 -- the last j of k changes undone, the last one first
 abbrev pub undone : List ℕ → ℕ → ℕ → List ℕ

@@ -12,7 +12,7 @@ ghost use mathlib.Core.List.{_∷_};
 ghost use lib.ListN.{length, getD, set, replicate};
 ghost use lib.Seq.{sets};
 ghost use Rattle.rules.specs.Rules.Calls.{written, workingWords};
-ghost use Rattle.work.specs.Layout.{operandBase, changeBase, branchBase, labelBase};
+ghost use Rattle.work.specs.Layout.{operandBase, changeBase, firstBranch, branchBase, labelBase};
 ghost use Rattle.work.specs.Words.{taggedIn, taggedAt, stored, changed, undone, entryAt, entryStored};
 
 // Location l has its operand from OPERAND * l on: the value, then the words of the set.
@@ -108,7 +108,7 @@ pub fn undo(work: &mut [u64], count: usize, mark: usize)
 
 // What stands as branch number k.
 pub fn load_branch(work: &[u64], k: usize) -> BranchEntry
-    requires { ⌜ 4 * k ≤ 1202 ⌝ }
+    requires { ⌜ 4 * k ≤ firstBranch ⌝ }
     requires { ⌜ branchBase k + 4 ≤ length (now work) ⌝ }
     ensures { λ r. ⌜ r ≡ entryAt (now (work .entry)) k ⌝ }
 {
@@ -122,7 +122,7 @@ pub fn load_branch(work: &[u64], k: usize) -> BranchEntry
 }
 
 pub fn push_branch(work: &mut [u64], k: usize, b: BranchEntry)
-    requires { ⌜ 4 * k ≤ 1202 ⌝ }
+    requires { ⌜ 4 * k ≤ firstBranch ⌝ }
     requires { ⌜ branchBase k + 4 ≤ length (now work) ⌝ }
     ensures { λ _. ⌜ now (work .exit) ≡ entryStored (now (work .entry)) k b ⌝ }
 {
@@ -134,7 +134,7 @@ pub fn push_branch(work: &mut [u64], k: usize, b: BranchEntry)
 }
 
 pub fn set_window(work: &mut [u64], k: usize, window: usize)
-    requires { ⌜ 4 * k ≤ 1202 ⌝ }
+    requires { ⌜ 4 * k ≤ firstBranch ⌝ }
     requires { ⌜ branchBase k + 4 ≤ length (now work) ⌝ }
     ensures { λ _. ⌜ now (work .exit) ≡ set (now (work .entry)) (branchBase k + 2) window ⌝ }
 {

@@ -1,5 +1,4 @@
 -- `carry_out` meets its contract: the move, the observation and the counts are rule 3. Assumes nothing.
-use native.Mathlib.Omega.{arith}
 use Rattle.stepping.proofs.Steps.{carried-out}
 use borrow.Author.Needs.{needs}
 use Rattle.stepping.proofs.carry_out.Statement.{statement}

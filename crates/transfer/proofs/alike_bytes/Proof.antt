@@ -1,8 +1,7 @@
 -- `transfer::alike_bytes` meets its contract. The invariant: the states are alike at the locations passed, so the answer is that of
 -- the locations left. Assumes nothing.
-use mathlib.Core.Path.{_≡_, refl, sym, ap, _∙_}
-use mathlib.Core.Bool.{Bool, _&&_}
-use Prim.Native.Nat.{ℕ, zero-le, _+_, _-_, _*_, _≤_}
+use mathlib.Core.Path.{_≡_, sym, _∙_}
+use Prim.Native.Nat.{zero-le, _+_, _-_, _*_, _≤_}
 use native.Mathlib.Nat.{sub-zero, add-zero}
 use native.Mathlib.Omega.{arith}
 use borrow.Author.Needs.{needs}
@@ -12,8 +11,6 @@ use Rattle.rules.specs.Rules.Pairs.{alikeFrom}
 use Rattle.transfer.proofs.Laws.{alike-step}
 use Rattle.transfer.proofs.alike_bytes.Statement.{statement}
 use Rattle.transfer.proofs.alike_bytes.Tie as tie
-use Rattle.transfer.proofs.alike_bytes.Reads as reads
-use Rattle.transfer.proofs.alike_bytes.Lts as lts
 
 abbrev Inv-loop : tie.InvT-loop
 Inv-loop public first at second n l₀ l =
@@ -26,15 +23,6 @@ abbrev μ-loop : tie.MeasureT-loop
 
 loop-holds : tie.Need-loop-holds Inv-loop μ-loop
 loop-holds c = (zero-le, rw (sub-zero, add-zero))
-
-mul-alike-at : tie.Need-mul-alike-at Inv-loop μ-loop
-mul-alike-at c = omega arith
-
-add-alike-at : tie.Need-add-alike-at Inv-loop μ-loop
-add-alike-at c = omega arith
-
-mul-alike-at-2 : tie.Need-mul-alike-at-2 Inv-loop μ-loop
-mul-alike-at-2 c = omega arith
 
 alike-at-requires : tie.Need-alike-at-requires Inv-loop μ-loop
 alike-at-requires c κs = search needs
@@ -73,9 +61,6 @@ alike-bytes-spec =
     Inv-loop
     μ-loop
     loop-holds
-    mul-alike-at
-    add-alike-at
-    mul-alike-at-2
     alike-at-requires
     returns
     add-l

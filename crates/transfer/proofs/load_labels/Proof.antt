@@ -3,8 +3,6 @@ use borrow.Author.Needs.{needs}
 use Rattle.transfer.proofs.Laws.{labels-loaded}
 use Rattle.transfer.proofs.load_labels.Statement.{statement}
 use Rattle.transfer.proofs.load_labels.Tie as tie
-use Rattle.transfer.proofs.load_labels.Reads as reads
-use Rattle.transfer.proofs.load_labels.Lts as lts
 
 write-offsets-requires : tie.Need-write-offsets-requires
 write-offsets-requires c κs = search needs

@@ -1,18 +1,15 @@
 -- `transfer::same_words` meets its contract. The invariant: the words passed are equal, so the answer is that of the words left.
 -- Assumes nothing.
-use mathlib.Core.Path.{_≡_, refl, sym, ap, _∙_}
-use mathlib.Core.Bool.{Bool, _&&_}
-use Prim.Native.Nat.{ℕ, zero-le, _+_, _-_, _≤_}
+use mathlib.Core.Path.{_≡_, sym, _∙_}
+use Prim.Native.Nat.{zero-le, _-_, _≤_}
 use native.Mathlib.Nat.{sub-zero}
 use native.Mathlib.Omega.{arith}
 use borrow.Author.Tests.{ne-eqb, eq-eqb}
-use lib.ListN.{length, take, drop}
+use lib.ListN.{take, drop}
 use Rattle.rules.specs.Rules.Pairs.{sameWords}
 use Rattle.transfer.proofs.Laws.{same-step}
 use Rattle.transfer.proofs.same_words.Statement.{statement}
 use Rattle.transfer.proofs.same_words.Tie as tie
-use Rattle.transfer.proofs.same_words.Reads as reads
-use Rattle.transfer.proofs.same_words.Lts as lts
 
 abbrev Inv-loop : tie.InvT-loop
 Inv-loop a b n i₀ i = (i ≤ n) × (sameWords (take (n - i) (drop i a)) (take (n - i) (drop i b)) ≡ sameWords (take n a) (take n b))

@@ -1,8 +1,7 @@
 -- `transfer::save_values` meets its contract. The invariant: storing the values left gives what storing all of them gives.
 -- Assumes nothing.
-use mathlib.Core.Path.{_≡_, refl, sym, ap, _∙_}
-use mathlib.Core.List.{List}
-use Prim.Native.Nat.{ℕ, zero-le, _-_, _≤_}
+use mathlib.Core.Path.{_≡_, refl, ap, _∙_}
+use Prim.Native.Nat.{zero-le, _-_, _≤_}
 use native.Mathlib.Nat.{sub-zero}
 use native.Mathlib.Omega.{arith}
 use borrow.Author.Needs.{needs}
@@ -13,15 +12,13 @@ use Rattle.work.specs.Machines.{stateFrom, stateIn}
 use Rattle.transfer.proofs.Laws.{save-more, save-all}
 use Rattle.transfer.proofs.save_values.Statement.{statement}
 use Rattle.transfer.proofs.save_values.Tie as tie
-use Rattle.transfer.proofs.save_values.Reads as reads
-use Rattle.transfer.proofs.save_values.Lts as lts
 
 abbrev Inv-loop : tie.InvT-loop
-Inv-loop work n area₀ l₀ area l =
-    (l ≤ n) × (length area ≡ length area₀) × (sets area l (values (stateFrom work l (n - l))) ≡ sets area₀ 0 (values (stateIn work n)))
+Inv-loop work n area₀ saved₀ area saved =
+    (saved ≤ n) × (length area ≡ length area₀) × (sets area saved (values (stateFrom work saved (n - saved))) ≡ sets area₀ 0 (values (stateIn work n)))
 
 abbrev μ-loop : tie.MeasureT-loop
-μ-loop work n area₀ l₀ area l = n - l
+μ-loop work n area₀ saved₀ area saved = n - saved
 
 loop-holds : tie.Need-loop-holds Inv-loop μ-loop
 loop-holds c = (zero-le, refl, rw sub-zero)
@@ -38,8 +35,8 @@ mul-area c = omega arith
 slice-write-area : tie.Need-slice-write-area Inv-loop μ-loop
 slice-write-area c = omega arith
 
-add-l : tie.Need-add-l Inv-loop μ-loop
-add-l c = omega arith
+add-saved : tie.Need-add-saved Inv-loop μ-loop
+add-saved c = omega arith
 
 loop-less : tie.Need-loop-less Inv-loop μ-loop
 loop-less c = omega arith
@@ -49,7 +46,7 @@ loop-again c =
     let a = c .before .before .before .before .before .before .args in
     let v = c .before .before .before .loop in
     let new = c .before .new in
-    let e = save-more (a .work .now) (v .area) _ (a .n) (v .l) (new .result .0) (c .load .result .value) (omega arith) (new .ensures) (ap (λ t. t .value) (c .load .ensures)) refl in
+    let e = save-more (a .work .now) (v .area) _ (a .n) (v .saved) (new .result .0) (c .load .result .value) (omega arith) (new .ensures) (ap (λ t. t .value) (c .load .ensures)) refl in
     (omega arith, simp length-set (v .inv .1), e ∙ v .inv .2)
 
 same-length : tie.Need-same-length Inv-loop μ-loop
@@ -60,7 +57,7 @@ unfolding values
 returns c =
     let a = c .before .before .before .before .args in
     let v = c .before .loop in
-    let z : a .n - v .l ≡ 0 = omega arith in
+    let z : a .n - v .saved ≡ 0 = omega arith in
     (rw z at (v .inv .2)) ∙ save-all (a .work .now) (a .area .now) (a .n) (omega arith)
 
 pub save-values-spec : {M : Type 1} → statement M
@@ -74,7 +71,7 @@ save-values-spec =
     load-requires
     mul-area
     slice-write-area
-    add-l
+    add-saved
     loop-less
     loop-again
     same-length

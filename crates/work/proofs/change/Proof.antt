@@ -1,7 +1,6 @@
 -- `change` meets its contract: the words after its three stores are those of a change. Assumes nothing.
 use native.Mathlib.Omega.{arith}
 use lib.ListN.{length-set}
-use Rattle.work.specs.Layout.{changeBase}
 use Rattle.work.proofs.Laws.{change-law}
 use borrow.Author.Needs.{needs}
 use Rattle.work.proofs.change.Statement.{statement}
@@ -32,16 +31,10 @@ store-at-requires : tie.Need-store-at-requires
 store-at-requires c κs = simp length-set (omega arith)
 
 store-requires : tie.Need-store-requires
-store-requires c κs =
-    let a = c .before .before .before .before .before .before .before .before .before .before .args in
-    let h = length-set (a .work .now) (changeBase (a .count)) (c .before .before .before .before .before .index .result) in
-    omega (arith, c .before .before .before .store-at .kept .0)
+store-requires c κs = omega (arith, simp length-set at (c .before .before .before .store-at .kept .0))
 
 same-length : tie.Need-same-length
-same-length c =
-    let a = c .before .before .before .before .before .before .before .before .before .before .before .before .before .args in
-    let h = length-set (a .work .now) (changeBase (a .count)) (c .before .before .before .before .before .before .before .before .index .result) in
-    omega (arith, c .before .before .before .before .before .before .store-at .kept .0, c .before .before .store .kept .0)
+same-length c = omega (arith, c .before .before .store .kept .0, simp length-set at (c .before .before .before .before .before .before .store-at .kept .0))
 
 returns : tie.Need-returns
 returns c =

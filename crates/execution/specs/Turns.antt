@@ -1,0 +1,173 @@
+-- What a turn and a run promise.
+-- Assumes nothing.
+use mathlib.Core.Path.{_≡_}
+use mathlib.Core.Bool.{Bool, true, false}
+use mathlib.Core.List.{List, [], _∷_}
+use Prim.Native.Nat.{ℕ, zero, suc, _+_, _-_, _/_, _<_, _≤_}
+use lib.Dec.{leb}
+use lib.ListN.{length, getD, drop}
+use Rattle.location.specs.Sets.{limit, registers}
+use Rattle.rules.specs.declared.Stop.{Stop}
+use Rattle.rules.specs.declared.Stop.the-variants.{Finished, Spent, TraceFull}
+use Rattle.rules.specs.declared.Trailer.{Trailer}
+use Rattle.rules.specs.Rules.Instructions.{Instr, Observation, windowCosts}
+use Rattle.rules.specs.Rules.Plain.{Code, end}
+use Rattle.rules.specs.Rules.Mispredicting.{Branch, Machine, Step, rolling, opening, ordinary, forward, step, plainStep}
+use Rattle.rules.specs.Rules.Loop.{ended}
+use Rattle.rules.specs.Rules.Runs.{Log, Result, fits, over, run}
+use Rattle.rules.specs.Rules.JobFile.{postfix, program}
+use Rattle.rules.specs.Rules.Calls.{written, traceWords}
+use Rattle.rules.specs.Theorems.JobLaws.{Limits}
+use Rattle.token.specs.Meaning.{valueOr}
+use Rattle.program.specs.Offsets.{readable, offsetsFrom}
+use Rattle.instruction.specs.declared.Instruction.{Instruction}
+use Rattle.instruction.specs.Meaning.{meaning}
+use Rattle.work.specs.Layout.{labels}
+use Rattle.work.specs.Words.{windowIn}
+use Rattle.work.specs.Machines.{machineOf, Fit}
+use Rattle.effect.specs.Registers.{RegistersBelow}
+use Rattle.stepping.specs.declared.Progress.{Progress}
+use Rattle.stepping.specs.Progress.{logOf}
+use Rattle.stepping.specs.Steps.{Counted, Made}
+use Rattle.execution.specs.declared.Mode.{Mode}
+use Rattle.execution.specs.declared.Mode.the-variants as modes
+use Rattle.execution.specs.declared.Next.{Next}
+use Rattle.execution.specs.declared.Next.the-variants as next
+
+-- the rules' step of each of the two runs
+abbrev pub stepBy : Mode → Code → Machine → Step
+stepBy modes.Plain code M = plainStep code M
+stepBy modes.Mispredicting code M = step code M
+
+-- what the steps of a job are given, by its program's bytes and its trailer
+unfoldable pub codeOf : List ℕ → Trailer → Code
+codeOf p t = record {
+  prog = valueOr [] (program (t .count) (t .count) 0 p 0);
+  cells = t .cells;
+  window = t .window;
+  costs = windowCosts;
+}
+
+-- how many locations a job has
+abbrev pub locations : Trailer → ℕ
+locations t = registers + t .cells
+
+-- The program was accepted, and the working words hold the byte offset of each of its labels.
+pub record Loaded (p : List ℕ) (t : Trailer) (w : List ℕ) : Type 0 where
+  pub limits : Limits t
+  pub accepted : readable (program (t .count) (t .count) 0 p 0) ≡ true
+  pub table : (i : ℕ) → i < t .count → getD w (labels + i) 0 ≡ getD (offsetsFrom (t .count) p 0) i 0
+
+-- A run can go on from here.
+pub record Ready (p : List ℕ) (t : Trailer) (mode : Mode) (w area : List ℕ) (c : Progress) : Type 0 where
+  pub loaded : Loaded p t w
+  pub fits : Fit w (c .control)
+  pub counted : Counted c area
+  pub budget : c .steps ≤ t .budget
+  pub closed : mode ≡ modes.Plain → c .control .depth ≡ 0
+
+-- ---- one turn
+-- whether a machine with d branches open is at END with nothing open
+abbrev pub closedAt : ℕ → ℕ → ℕ → Bool
+closedAt zero last p = leb last p
+closedAt (suc d) last p = false
+
+-- whether so many observations more fit into an area
+abbrev pub roomFor : List ℕ → Progress → ℕ → Bool
+roomFor area c k = leb (c .observations + k) (length area / 2)
+
+-- nothing has changed
+pub record Unchanged (w w′ area area′ : List ℕ) (c c′ : Progress) : Type 0 where
+  pub work : w′ ≡ w
+  pub trace : area′ ≡ area
+  pub progress : c′ ≡ c
+
+-- the step s of a machine with n locations was made if its observations fit, and else nothing was done
+abbrev pub Tried : ℕ → Step → List ℕ → List ℕ → List ℕ → List ℕ → Progress → Next → Progress → Type 0
+Tried n s w w′ area area′ c next.Go c′ = (roomFor area c (length (s .obs)) ≡ true) × Made n s w w′ area area′ c c′
+Tried n s w w′ area area′ c (next.Halt x) c′ =
+    (roomFor area c (length (s .obs)) ≡ false) × (x ≡ TraceFull) × Unchanged w w′ area area′ c c′
+
+-- rule 1 on the top branch
+pub record RollBackTried (w w′ area area′ : List ℕ) (c : Progress) (x : Next) (c′ : Progress) : Type 0 where
+  pub tried : (n : ℕ) (b : Branch) (bs : List Branch) → n ≤ limit → machineOf w (c .control) n .branches ≡ b ∷ bs
+      → Tried n (rolling (machineOf w (c .control) n) b bs) w w′ area area′ c x c′
+
+-- What rules 2 and 3 ask, beside room for their observations.
+pub record Live (w area : List ℕ) (c : Progress) : Type 0 where
+  pub fits : Fit w (c .control)
+  pub counted : Counted c area
+  pub place : c .control .place < 512
+  pub live : 0 < c .control .depth → 0 < windowIn w (c .control .depth)
+
+-- rule 2 for beqz r, l
+pub record OpeningTried (w w′ area area′ : List ℕ) (r l window : ℕ) (c : Progress) (x : Next) (c′ : Progress) : Type 0 where
+  pub tried : (n : ℕ) (code : Code) → registers ≤ n → n ≤ limit → code .window ≡ window → code .costs ≡ windowCosts
+      → Tried n (opening code (machineOf w (c .control) n) r l) w w′ area area′ c x c′
+
+-- the job's code: what the rules are given, by its trailer
+pub record CodeOf (t : Trailer) (code : Code) : Type 0 where
+  pub last : end code ≡ t .count
+  pub cells : code .cells ≡ t .cells
+  pub window : code .window ≡ t .window
+  pub costs : code .costs ≡ windowCosts
+
+-- rule 3 for the instruction i
+pub record CarryingTried (p : List ℕ) (t : Trailer) (w w′ area area′ : List ℕ) (i : Instruction) (c : Progress) (x : Next) (c′ : Progress) : Type 0 where
+  pub tried : (code : Code) → CodeOf t code
+      → Tried (locations t) (ordinary code (machineOf w (c .control) (locations t)) (meaning p i)) w w′ area area′ c x c′
+
+-- What an instruction that is next asks: rules 2 and 3 can be tried, and its expressions and registers are those of a job.
+pub record Advancing (p : List ℕ) (t : Trailer) (w area : List ℕ) (i : Instruction) (c : Progress) : Type 0 where
+  pub live : Live w area c
+  pub limits : Limits t
+  pub sound : postfix (meaning p i) ≡ true
+  pub below : RegistersBelow registers (meaning p i)
+
+-- an instruction in each of the two runs: rule 2 is for the mispredicting one
+abbrev pub forwardBy : Mode → Code → Machine → Instr → Step
+forwardBy modes.Plain code M x = ordinary code M x
+forwardBy modes.Mispredicting code M x = forward code M x
+
+pub record Advanced (p : List ℕ) (t : Trailer) (mode : Mode) (w w′ area area′ : List ℕ) (i : Instruction) (c : Progress) (x : Next) (c′ : Progress) : Type 0 where
+  pub tried : (code : Code) → CodeOf t code
+      → Tried (locations t) (forwardBy mode code (machineOf w (c .control) (locations t)) (meaning p i)) w w′ area area′ c x c′
+
+-- The run stops here, as x.
+pub record Halts (p : List ℕ) (t : Trailer) (mode : Mode) (w area : List ℕ) (c : Progress) (x : Stop) : Type 0 where
+  pub stops : (os : List Observation) → length os ≡ c .observations
+      → run (stepBy mode (codeOf p t)) (codeOf p t) (length area / 2) (t .budget - c .steps) (machineOf w (c .control) (locations t)) (logOf os c)
+      ≡ ended x (machineOf w (c .control) (locations t)) (logOf os c)
+
+-- The run goes on, by one step.
+pub record GoesOn (p : List ℕ) (t : Trailer) (mode : Mode) (w w′ area area′ : List ℕ) (c c′ : Progress) : Type 0 where
+  pub before : c .steps < t .budget
+  pub on : over (codeOf p t) (machineOf w (c .control) (locations t)) ≡ false
+  pub room : roomFor area c (length (stepBy mode (codeOf p t) (machineOf w (c .control) (locations t)) .obs)) ≡ true
+  pub made : Made (locations t) (stepBy mode (codeOf p t) (machineOf w (c .control) (locations t))) w w′ area area′ c c′
+
+abbrev pub Turned : List ℕ → Trailer → Mode → List ℕ → List ℕ → List ℕ → List ℕ → Progress → Next → Progress → Type 0
+Turned p t mode w w′ area area′ c next.Go c′ = GoesOn p t mode w w′ area area′ c c′
+Turned p t mode w w′ area area′ c (next.Halt x) c′ = Halts p t mode w area c x × Unchanged w w′ area area′ c c′
+
+-- ---- a run
+-- Somewhere in a run R that began with the words w₀ and the trace area a₀: what is left of it from here is the rest of R.
+pub record Running (p : List ℕ) (t : Trailer) (mode : Mode) (w₀ a₀ w area : List ℕ) (c : Progress) (R : Result) : Type 0 where
+  pub ready : Ready p t mode w area c
+  pub observed : List Observation
+  pub count : length observed ≡ c .observations
+  pub trace : area ≡ written (traceWords observed) a₀
+  pub size : length area ≡ length a₀
+  pub frame : drop labels w ≡ drop labels w₀
+  pub rest : run (stepBy mode (codeOf p t)) (codeOf p t) (length a₀ / 2) (t .budget - c .steps) (machineOf w (c .control) (locations t)) (logOf observed c)
+      ≡ R
+
+-- the run R as it has ended
+pub record RanTo (t : Trailer) (w₀ a₀ w area : List ℕ) (x : Stop) (c : Progress) (R : Result) : Type 0 where
+  pub stop : x ≡ R .stop
+  pub log : logOf (R .log .trace) c ≡ R .log
+  pub count : c .observations ≡ length (R .log .trace)
+  pub trace : area ≡ written (traceWords (R .log .trace)) a₀
+  pub state : machineOf w (c .control) (locations t) ≡ R .last
+  pub frame : drop labels w ≡ drop labels w₀
+  pub room : length w ≡ length w₀

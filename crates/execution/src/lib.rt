@@ -1,0 +1,258 @@
+// The plain run and the mispredicting run over the lent areas: one turn after another, until a stop.
+use effect::Observed;
+use instruction::Instruction;
+use location::Label;
+use location::LocationSet;
+use rules::Stop;
+use rules::Trailer;
+use stepping::Progress;
+use work::machine::Control;
+ghost use mathlib.Core.Path.{_≡_};
+ghost use Prim.Native.Nat.{ℕ, _+_, _^_, _<_, _≤_};
+ghost use lib.ListN.{length};
+ghost use Rattle.location.specs.Sets.{registers};
+ghost use Rattle.rules.specs.Rules.Calls.{workingWords};
+ghost use Rattle.work.specs.Machines.{Fit, maxWindow};
+ghost use Rattle.effect.specs.Effects.{observations};
+ghost use Rattle.stepping.specs.Steps.{Counted};
+ghost use Rattle.execution.specs.Starts.{beginning, whole};
+ghost use Rattle.execution.specs.Turns.{roomFor, closedAt, RollBackTried, Live, OpeningTried, CarryingTried, Advancing, Advanced, Ready, Loaded, Turned, RanTo};
+
+// Which of the two runs.
+pub enum Mode {
+    Plain,
+    Mispredicting,
+}
+
+// A run goes on, or stops.
+pub enum Next {
+    Go,
+    Halt(Stop),
+}
+
+// One turn of a run: the step that was made, or the stop that was found.
+pub struct Turn {
+    pub next: Next,
+    pub progress: Progress,
+}
+
+// Whether so many observations more fit into the trace area.
+fn has_room(trace: &[u64], c: Progress, k: usize) -> bool
+    requires { ⌜ c .observations + k < 2 ^ 64 ⌝ }
+    ensures { λ r. ⌜ r ≡ roomFor (now (trace .entry)) c k ⌝ }
+{
+    c.observations + k <= trace.len() / 2
+}
+
+// Rule 1, if its observations fit.
+fn try_roll_back(work: &mut [u64], trace: &mut [u64], c: Progress) -> Turn
+    requires { ⌜ Fit (now work) (c .control) × (0 < c .control .depth) × Counted c (now trace) ⌝ }
+    ensures { λ r. ⌜ RollBackTried (now (work .entry)) (now (work .exit)) (now (trace .entry)) (now (trace .exit)) c (r .next) (r .progress) ⌝ }
+{
+    if has_room(&trace[..], c, 2) {
+        let progress = stepping::roll_back(&mut work[..], &mut trace[..], c);
+        return Turn {
+            next: Next::Go,
+            progress,
+        };
+    }
+    Turn {
+        next: Next::Halt(Stop::TraceFull),
+        progress: c,
+    }
+}
+
+// Rule 2, if its observations fit.
+fn try_open(work: &mut [u64], trace: &mut [u64], c: Progress, r: u8, l: Label, window: usize) -> Turn
+    requires { ⌜ Live (now work) (now trace) c × (r < registers) × (window ≤ maxWindow) ⌝ }
+    ensures { λ x. ⌜ OpeningTried (now (work .entry)) (now (work .exit)) (now (trace .entry)) (now (trace .exit)) r (l .0) window c (x .next) (x .progress) ⌝ }
+{
+    if has_room(&trace[..], c, 2) {
+        let progress = stepping::open_branch(&mut work[..], &mut trace[..], c, r, l, window);
+        return Turn {
+            next: Next::Go,
+            progress,
+        };
+    }
+    Turn {
+        next: Next::Halt(Stop::TraceFull),
+        progress: c,
+    }
+}
+
+// How many observations an instruction makes.
+fn shown(o: Observed) -> usize
+    ensures { λ r. ⌜ r ≡ length (observations o) ⌝ }
+{
+    match o {
+        Observed::Nothing => 0,
+        Observed::Place(_) => 1,
+        Observed::Load(_) => 1,
+        Observed::Store(_) => 1,
+    }
+}
+
+// Rule 3, if its observation fits.
+fn try_carry_out(
+    p: &[u8],
+    t: Trailer,
+    work: &mut [u64],
+    trace: &mut [u64],
+    c: Progress,
+    i: Instruction,
+) -> Turn
+    requires { ⌜ Advancing (now p) t (now work) (now trace) i c ⌝ }
+    ensures { λ r. ⌜ CarryingTried (now (p .entry)) t (now (work .entry)) (now (work .exit)) (now (trace .entry)) (now (trace .exit)) i c (r .next) (r .progress) ⌝ }
+{
+    let control = c.control;
+    let e = effect::effect_of(p, &work[..], t.count, t.cells, control.place, i);
+    let observed = e.observed;
+    if has_room(&trace[..], c, shown(observed)) {
+        let progress = stepping::carry_out(&mut work[..], &mut trace[..], c, i, e);
+        return Turn {
+            next: Next::Go,
+            progress,
+        };
+    }
+    Turn {
+        next: Next::Halt(Stop::TraceFull),
+        progress: c,
+    }
+}
+
+// Rule 2 for a branch, rule 3 for any other instruction.
+fn mispredict(
+    p: &[u8],
+    t: Trailer,
+    work: &mut [u64],
+    trace: &mut [u64],
+    c: Progress,
+    i: Instruction,
+) -> Turn
+    requires { ⌜ Advancing (now p) t (now work) (now trace) i c ⌝ }
+    ensures { λ r. ⌜ Advanced (now (p .entry)) t Mode.Mispredicting (now (work .entry)) (now (work .exit)) (now (trace .entry)) (now (trace .exit)) i c (r .next) (r .progress) ⌝ }
+{
+    match i {
+        Instruction::Skip => try_carry_out(p, t, &mut work[..], &mut trace[..], c, i),
+        Instruction::Assign(_, _) => try_carry_out(p, t, &mut work[..], &mut trace[..], c, i),
+        Instruction::Load(_, _) => try_carry_out(p, t, &mut work[..], &mut trace[..], c, i),
+        Instruction::Store(_, _) => try_carry_out(p, t, &mut work[..], &mut trace[..], c, i),
+        Instruction::Jump(_) => try_carry_out(p, t, &mut work[..], &mut trace[..], c, i),
+        Instruction::BranchZero(r, l) => {
+            try_open(&mut work[..], &mut trace[..], c, r, l, t.window)
+        }
+        Instruction::AssignIf(_, _, _) => {
+            try_carry_out(p, t, &mut work[..], &mut trace[..], c, i)
+        }
+        Instruction::Barrier => try_carry_out(p, t, &mut work[..], &mut trace[..], c, i),
+    }
+}
+
+// The instruction that is next, in one of the two runs.
+fn advance(
+    p: &[u8],
+    t: Trailer,
+    mode: Mode,
+    work: &mut [u64],
+    trace: &mut [u64],
+    c: Progress,
+    i: Instruction,
+) -> Turn
+    requires { ⌜ Advancing (now p) t (now work) (now trace) i c ⌝ }
+    ensures { λ r. ⌜ Advanced (now (p .entry)) t mode (now (work .entry)) (now (work .exit)) (now (trace .entry)) (now (trace .exit)) i c (r .next) (r .progress) ⌝ }
+{
+    match mode {
+        Mode::Plain => try_carry_out(p, t, &mut work[..], &mut trace[..], c, i),
+        Mode::Mispredicting => mispredict(p, t, &mut work[..], &mut trace[..], c, i),
+    }
+}
+
+// Whether the machine is at END with nothing open.
+fn is_over(c: Control, last: usize) -> bool
+    ensures { λ r. ⌜ r ≡ closedAt (c .depth) last (c .place) ⌝ }
+{
+    if c.depth == 0 {
+        return last <= c.place;
+    }
+    false
+}
+
+// One turn: the stops in their order, else the step.
+fn turn(
+    p: &[u8],
+    t: Trailer,
+    mode: Mode,
+    work: &mut [u64],
+    trace: &mut [u64],
+    c: Progress,
+) -> Turn
+    requires { ⌜ Ready (now p) t mode (now work) (now trace) c ⌝ }
+    ensures { λ r. ⌜ Turned (now (p .entry)) t mode (now (work .entry)) (now (work .exit)) (now (trace .entry)) (now (trace .exit)) c (r .next) (r .progress) ⌝ }
+{
+    let control = c.control;
+    if is_over(control, t.count) {
+        return Turn {
+            next: Next::Halt(Stop::Finished),
+            progress: c,
+        };
+    }
+    if t.budget <= c.steps {
+        return Turn {
+            next: Next::Halt(Stop::Spent),
+            progress: c,
+        };
+    }
+    if work::machine::expired(&work[..], control, t.count) {
+        return try_roll_back(&mut work[..], &mut trace[..], c);
+    }
+    let label = Label::new(control.place);
+    let d = program::fetch(p, t.count, &work[..], work::LABELS, label);
+    let i = d.instruction;
+    advance(p, t, mode, &mut work[..], &mut trace[..], c, i)
+}
+
+// Nothing is done yet.
+fn start() -> Progress
+    ensures { λ r. ⌜ r ≡ beginning ⌝ }
+{
+    Progress {
+        control: Control {
+            place: 0,
+            depth: 0,
+            log: 0,
+            opened: 0,
+        },
+        observations: 0,
+        steps: 0,
+        rollbacks: 0,
+        full: LocationSet::empty(),
+        plain: LocationSet::empty(),
+    }
+}
+
+// A run that has ended.
+pub struct Ran {
+    pub stop: Stop,
+    pub progress: Progress,
+}
+
+// A whole run, from the state that the working words hold.
+pub fn run(p: &[u8], t: Trailer, mode: Mode, work: &mut [u64], trace: &mut [u64]) -> Ran
+    requires { ⌜ Loaded (now p) t (now work) × (workingWords ≤ length (now work)) ⌝ }
+    ensures { λ r. ⌜ RanTo t (now (work .entry)) (now (trace .entry)) (now (work .exit)) (now (trace .exit)) (r .stop) (r .progress) (whole (now (p .entry)) t mode (now (work .entry)) (now (trace .entry))) ⌝ }
+{
+    let mut c = start();
+    loop {
+        let x = turn(p, t, mode, &mut work[..], &mut trace[..], c);
+        let next = x.next;
+        let progress = x.progress;
+        match next {
+            Next::Go => {
+                c = progress;
+            }
+            Next::Halt(stop) => {
+                return Ran { stop, progress };
+            }
+        }
+    }
+}
