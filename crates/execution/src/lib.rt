@@ -178,7 +178,7 @@ fn is_over(c: Control, last: usize) -> bool
 }
 
 // One turn: the stops in their order, else the step.
-fn turn(
+fn take_turn(
     p: &[u8],
     t: Trailer,
     mode: Mode,
@@ -243,7 +243,7 @@ pub fn run(p: &[u8], t: Trailer, mode: Mode, work: &mut [u64], trace: &mut [u64]
 {
     let mut c = start();
     loop {
-        let x = turn(p, t, mode, &mut work[..], &mut trace[..], c);
+        let x = take_turn(p, t, mode, &mut work[..], &mut trace[..], c);
         let next = x.next;
         let progress = x.progress;
         match next {

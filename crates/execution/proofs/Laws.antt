@@ -1,0 +1,160 @@
+-- A rule that was tried: from the test of the trace area's room and from what the rule's function promises.
+-- Assumes nothing.
+use mathlib.Core.Path.{_≡_, refl, sym, ap, _∙_}
+use mathlib.Core.Bool.{Bool, true, false, true≢false}
+use mathlib.Core.List.{List, []}
+use Prim.Native.Nat.{ℕ, zero, suc, _+_, _*_, _/_, _<_, _≤_}
+use lib.Dec.{leb}
+use native.Mathlib.Omega.{arith}
+use lib.ListN.{length}
+use borrow.Author.Tests.{leb-true}
+use Rattle.location.specs.Sets.{registers, limit}
+use Rattle.rules.specs.declared.Stop.the-variants.{TraceFull}
+use Rattle.rules.specs.declared.Trailer.{Trailer}
+use Rattle.rules.specs.Rules.Instructions.{Observation}
+use Rattle.rules.specs.Rules.Plain as plain
+use Rattle.rules.specs.Rules.Plain.{Code, end, exec}
+use Rattle.location.specs.declared.Label.{Label}
+use Rattle.rules.specs.Rules.Mispredicting.{Machine, rolling, opening, ordinary, forward}
+use Rattle.rules.specs.Theorems.JobLaws.{Limits}
+use Rattle.instruction.specs.declared.Instruction.{Instruction}
+use Rattle.instruction.specs.declared.Instruction.the-variants.{Skip, Assign, Load, Store, Jump, BranchZero, AssignIf, Barrier}
+use Rattle.instruction.specs.Meaning.{meaning}
+use Rattle.work.specs.declared.machine.Control.{Control}
+use Rattle.work.specs.Machines.{stateIn, machineOf}
+use Rattle.work.specs.Moves.{expiredOn}
+use Rattle.effect.specs.declared.Observed.{Observed}
+use Rattle.effect.specs.declared.Observed.the-variants as shown
+use Rattle.effect.specs.declared.Effect.{Effect}
+use Rattle.effect.specs.Effects.{observations, effectMeaning, Executed}
+use Rattle.stepping.specs.declared.Progress.{Progress}
+use Rattle.stepping.specs.Steps.{Made, RolledBackTo, OpenedTo, CarriedOutTo}
+use Rattle.execution.specs.declared.Mode.{Mode}
+use Rattle.execution.specs.declared.Mode.the-variants as modes
+use Rattle.execution.specs.declared.Next.{Next}
+use Rattle.execution.specs.declared.Next.the-variants as next
+use Rattle.execution.specs.TurnLaws.{closed-false, not-expired}
+use Rattle.execution.specs.Turns.{locations, closedAt, roomFor, Unchanged, RollBackTried, OpeningTried, CodeOf, CarryingTried, Advanced}
+
+-- room for k observations, as a number of words
+pub room-words : (area : List ℕ) (c : Progress) (k : ℕ) {x : Bool} → x ≡ roomFor area c k → x ≡ true → 2 * (c .observations + k) ≤ length area
+room-words area c k e t = let h = leb-true (c .observations + k) (length area / 2) (sym e ∙ t) in omega arith
+
+abbrev same : (w area : List ℕ) (c : Progress) → Unchanged w w area area c c
+same w area c = record { work = refl; trace = refl; progress = refl }
+
+module _ {w w′ area area′ : List ℕ} {c c′ : Progress} {x : Bool} where
+  pub rolled : x ≡ roomFor area c 2 → x ≡ true → RolledBackTo w w′ area area′ c c′ → RollBackTried w w′ area area′ c next.Go c′
+  unfolding rolling
+  rolled e t r = record { tried = λ n b bs h q. (sym e ∙ t, r .made n b bs h q) }
+
+  pub opened : {r l window : ℕ} → x ≡ roomFor area c 2 → x ≡ true → OpenedTo w w′ area area′ r l window c c′
+      → OpeningTried w w′ area area′ r l window c next.Go c′
+  unfolding opening
+  opened e t o = record { tried = λ n code h k q s. (sym e ∙ t, o .made n code h k q s) }
+
+module _ (w : List ℕ) {area : List ℕ} {c : Progress} {x : Bool} where
+  pub not-rolled : x ≡ roomFor area c 2 → x ≡ false → RollBackTried w w area area c (next.Halt TraceFull) c
+  unfolding rolling
+  not-rolled e f = record { tried = λ n b bs h q. (sym e ∙ f, refl, same w area c) }
+
+  pub not-opened : (r l window : ℕ) → x ≡ roomFor area c 2 → x ≡ false → OpeningTried w w area area r l window c (next.Halt TraceFull) c
+  unfolding opening
+  not-opened r l window e f = record { tried = λ n code h k q s. (sym e ∙ f, refl, same w area c) }
+
+-- ---- rule 3: the observations of an instruction are those of its effect
+module _ {p w : List ℕ} {t : Trailer} (c : Progress) {i : Instruction} {e : Effect}
+    (x : Executed p w (t .count) (t .cells) (c .control .place) i e) (limits : Limits t) where
+  observed-same : (code : Code) → CodeOf t code
+      → length (observations (e .observed)) ≡ length (ordinary code (machineOf w (c .control) (locations t)) (meaning p i) .obs)
+  unfolding ordinary
+  observed-same code k = ap (λ (y : plain.Effect). length (y .obs)) (x .exact code (k .last) (k .cells))
+
+  pub carried : {w′ area area′ : List ℕ} {c′ : Progress} {b : Bool} {k : ℕ} → k ≡ length (observations (e .observed))
+      → b ≡ roomFor area c k → b ≡ true → ((q : List ℕ) → CarriedOutTo q w w′ area area′ i e c c′)
+      → CarryingTried p t w w′ area area′ i c next.Go c′
+  carried {area = area} n r y m = record {
+    tried = λ code s.
+        (ap (roomFor area c) (sym (n ∙ observed-same code s)) ∙ sym r ∙ y,
+        m p .made (locations t) code (let h = limits .cells in omega arith) (s .costs) (x .exact code (s .last) (s .cells)));
+  }
+
+  pub not-carried : {area : List ℕ} {b : Bool} {k : ℕ} → k ≡ length (observations (e .observed)) → b ≡ roomFor area c k → b ≡ false
+      → CarryingTried p t w w area area i c (next.Halt TraceFull) c
+  not-carried {area = area} n r f = record {
+    tried = λ code s. (ap (roomFor area c) (sym (n ∙ observed-same code s)) ∙ sym r ∙ f, refl, same w area c);
+  }
+
+pub few-observations : (o : Observed) → length (observations o) ≤ 1
+few-observations shown.Nothing = omega arith
+few-observations (shown.Place q) = omega arith
+few-observations (shown.Load a) = omega arith
+few-observations (shown.Store a) = omega arith
+
+-- ---- an instruction in each of the two runs
+abbrev isBranch : Instruction → Bool
+isBranch Skip = false
+isBranch (Assign r e) = false
+isBranch (Load r e) = false
+isBranch (Store r e) = false
+isBranch (Jump e) = false
+isBranch (BranchZero r l) = true
+isBranch (AssignIf r k e) = false
+isBranch Barrier = false
+
+not-branch : (code : Code) (M : Machine) (p : List ℕ) (i : Instruction) → isBranch i ≡ false
+    → ordinary code M (meaning p i) ≡ forward code M (meaning p i)
+unfolding forward
+not-branch code M p Skip h = refl
+not-branch code M p (Assign r e) h = refl
+not-branch code M p (Load r e) h = refl
+not-branch code M p (Store r e) h = refl
+not-branch code M p (Jump e) h = refl
+not-branch code M p (BranchZero r l) h = absurd (true≢false h)
+not-branch code M p (AssignIf r k e) h = refl
+not-branch code M p Barrier h = refl
+
+module _ {p : List ℕ} {t : Trailer} {w w′ area area′ : List ℕ} {i : Instruction} {c : Progress} {x : Next} {c′ : Progress} where
+  pub other-advanced : (j : Instruction) → i ≡ j → isBranch j ≡ false → CarryingTried p t w w′ area area′ i c x c′
+      → Advanced p t modes.Mispredicting w w′ area area′ i c x c′
+  other-advanced j e h k = record {
+    tried = λ code s.
+        rw (← not-branch code (machineOf w (c .control) (locations t)) p i (ap isBranch e ∙ h)) (k .tried code s);
+  }
+
+  pub branch-advanced : {r : ℕ} {l : Label} → i ≡ BranchZero r l → Limits t → OpeningTried w w′ area area′ r (l .0) (t .window) c x c′
+      → Advanced p t modes.Mispredicting w w′ area area′ i c x c′
+  unfolding forward
+  branch-advanced e limits o = record {
+    tried = λ code s.
+        rw e (o .tried (locations t) code (omega arith) (let h = limits .cells in omega arith) (s .window) (s .costs));
+  }
+
+  pub plain-advanced : {mode : Mode} → mode ≡ modes.Plain → CarryingTried p t w w′ area area′ i c x c′ → Advanced p t mode w w′ area area′ i c x c′
+  plain-advanced e k = rw e (record { tried = k .tried })
+
+  pub mispredict-advanced : {mode : Mode} → mode ≡ modes.Mispredicting → Advanced p t modes.Mispredicting w w′ area area′ i c x c′
+      → Advanced p t mode w w′ area area′ i c x c′
+  mispredict-advanced e k = rw e k
+
+-- ---- the tests of a turn
+pub closed-zero : (d last p : ℕ) → d ≡ 0 → leb last p ≡ closedAt d last p
+closed-zero zero last p e = refl
+closed-zero (suc d) last p e = absurd (omega arith)
+
+pub closed-open : (d last p : ℕ) → (d ≡ 0 → ⊥) → false ≡ closedAt d last p
+closed-open zero last p h = absurd (h refl)
+closed-open (suc d) last p h = refl
+
+-- a machine that is not at END with nothing open, and whose top has not expired, is at a place of the program
+pub inside : (last : ℕ) (w : List ℕ) (c : Control) (n : ℕ) → closedAt (c .depth) last (c .place) ≡ false
+    → expiredOn last (c .place) (machineOf w c n .branches) ≡ false → c .place < last
+inside last w c n h e = go (c .depth) refl
+  where
+    go : (d : ℕ) → c .depth ≡ d → c .place < last
+    go zero z = closed-false (c .depth) last (c .place) h z
+    go (suc d) z = not-expired last w c n e (omega arith) .1
+
+-- nothing was done
+pub unchanged : (w area : List ℕ) (c : Progress) → Unchanged w w area area c c
+unchanged w area c = same w area c
