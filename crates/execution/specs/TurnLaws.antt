@@ -385,3 +385,15 @@ module _ (p : List ℕ) (t : Trailer) (mode : Mode) (w₀ a₀ : List ℕ) (R : 
         frame = g .frame;
         room = same-size w (g .frame) (g .ready .fits .room);
       }
+
+-- ---- by what a turn answers
+pub turned-go : (p : List ℕ) (t : Trailer) (mode : Mode) (w w′ area area′ : List ℕ) (c : Progress) (x : Next) (c′ : Progress) → x ≡ next.Go
+    → Turned p t mode w w′ area area′ c x c′ → GoesOn p t mode w w′ area area′ c c′
+turned-go p t mode w w′ area area′ c x c′ e h = rw e at h
+
+pub turned-halt : (p : List ℕ) (t : Trailer) (mode : Mode) (w₀ a₀ w w′ area area′ : List ℕ) (c : Progress) (x : Next) (c′ : Progress) (s : Stop)
+    (R : Result) → Running p t mode w₀ a₀ w area c R → x ≡ next.Halt s → Turned p t mode w w′ area area′ c x c′
+    → RanTo t w₀ a₀ w′ area′ s c′ R
+turned-halt p t mode w₀ a₀ w w′ area area′ c x c′ s R g e h =
+    let k : Halts p t mode w area c s × Unchanged w w′ area area′ c c′ = rw e at h in
+    rw (k .1 .work, k .1 .trace, k .1 .progress) (running-ends p t mode w₀ a₀ R g (k .0))

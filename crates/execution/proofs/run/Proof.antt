@@ -1,3 +1,13 @@
+-- `run` meets its contract: what is left of the run from each turn is the rest of the whole run. The measure is what is left of
+-- the budget. Assumes nothing.
+use mathlib.Core.Path.{_≡_, refl, sym, _∙_}
+use Prim.Native.Nat.{_-_}
+use native.Mathlib.Omega.{arith}
+use lib.ListN.{length}
+use Rattle.execution.specs.Turns.{Running}
+use Rattle.execution.specs.TurnLaws.{turned-go, turned-halt, running-on}
+use Rattle.execution.specs.Starts.{whole, running-start}
+use borrow.Author.Needs.{needs}
 use Rattle.execution.proofs.run.Statement.{statement}
 use Rattle.execution.proofs.run.Tie as tie
 use Rattle.execution.proofs.run.Reads as reads
@@ -6,50 +16,54 @@ use Rattle.execution.proofs.start.Reads as start-reads
 use Rattle.execution.proofs.take_turn.Reads as take-turn-reads
 
 abbrev Inv-loop : tie.InvT-loop
-Inv-loop p t mode work₀ trace₀ c₀ work trace c = ?
+Inv-loop p t mode work₀ trace₀ c₀ work trace c =
+    (length work ≡ length work₀) × (length trace ≡ length trace₀) × Running p t mode work₀ trace₀ work trace c (whole p t mode work₀ trace₀)
 
 abbrev μ-loop : tie.MeasureT-loop
-μ-loop p t mode work₀ trace₀ c₀ work trace c = ?
+μ-loop p t mode work₀ trace₀ c₀ work trace c = t .budget - c .steps
 
--- src/lib.rt:244:9
 start-requires : tie.Need-start-requires Inv-loop μ-loop
-start-requires c κs = ?
+start-requires c κs = search needs
 
--- src/lib.rt:245:5
 loop-holds : tie.Need-loop-holds Inv-loop μ-loop
-loop-holds c = ?
+loop-holds c =
+    let a = c .before .before .before .before .args in
+    let p = c .before .before .before .before .pre in
+    (refl, refl, rw (c .start .ensures) (running-start (a .p .now) (a .t) (a .mode) (a .work .now) (a .trace .now) (p .0) (p .1)))
 
--- src/lib.rt:246:13
 take-turn-requires : tie.Need-take-turn-requires Inv-loop μ-loop
-take-turn-requires c κs = ?
+take-turn-requires c κs = c .before .before .loop .inv .2 .ready
 
--- src/lib.rt:251:17
 enum-told : tie.Need-enum-told Inv-loop μ-loop
-enum-told c = ?
+enum-told c = search needs
 
--- src/lib.rt:245:5
 loop-less : tie.Need-loop-less Inv-loop μ-loop
-loop-less c = ?
+loop-less c =
+    let o = turned-go _ _ _ _ _ _ _ _ _ _ (c .enum-told .given .1) (c .before .before .before .before .before .before .before .take-turn .ensures) in
+    let h = o .before in
+    let s = o .made .steps in
+    omega arith
 
--- src/lib.rt:245:5
 loop-again : tie.Need-loop-again Inv-loop μ-loop
-loop-again c = ?
+loop-again c =
+    let a = c .before .before .before .before .before .before .before .before .before .before .before .before .before .before .before .args in
+    let v = c .before .before .before .before .before .before .before .before .before .before .loop .inv in
+    let o = turned-go _ _ _ _ _ _ _ _ _ _ (c .enum-told .given .1) (c .before .before .before .before .before .before .before .take-turn .ensures) in
+    (search needs, search needs, running-on (a .p .now) (a .t) (a .mode) (a .work .now) (a .trace .now) (whole (a .p .now) (a .t) (a .mode) (a .work .now) (a .trace .now)) (v .2) o)
 
--- src/lib.rt:253:24
 enum-known-next : tie.Need-enum-known-next Inv-loop μ-loop
-enum-known-next c = ?
+enum-known-next c = search needs
 
--- src/lib.rt:254:17
 same-length : tie.Need-same-length Inv-loop μ-loop
-same-length c = ?
+same-length c = search needs
 
--- src/lib.rt:254:17
 same-length-2 : tie.Need-same-length-2 Inv-loop μ-loop
-same-length-2 c = ?
+same-length-2 c = search needs
 
--- src/lib.rt:254:17
 returns : tie.Need-returns Inv-loop μ-loop
-returns c = ?
+returns c =
+    let v = c .before .before .before .before .before .before .before .before .before .before .before .loop .inv in
+    turned-halt _ _ _ _ _ _ _ _ _ _ _ _ _ _ (v .2) (c .before .next .given .1) (c .before .before .before .before .before .before .before .before .take-turn .ensures)
 
 pub run-spec : {M : Type 1} → statement M
 run-spec =
