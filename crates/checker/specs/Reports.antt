@@ -24,15 +24,11 @@ use Rattle.rules.specs.Rules.Plain.{State, values}
 use Rattle.rules.specs.Rules.Mispredicting.{Machine}
 use Rattle.rules.specs.Rules.Runs.{Log, Result, Job, judge, verdict, mispredictingRun, plainRun}
 use Rattle.rules.specs.Rules.JobFile.{Parsed, accepted, rejected, parse}
-use Rattle.rules.specs.Rules.Calls.{Areas, Called, written, traceWords, workingWords, room, longEnough, areasAfter, counts, runReport, runRefused, runParsed, runCall, plainReport, plainRefused, plainParsed, plainCall}
+use Rattle.rules.specs.Rules.Calls.{Areas, Called, lent, written, traceWords, workingWords, room, longEnough, areasAfter, counts, runReport, runRefused, runParsed, runCall, plainReport, plainRefused, plainParsed, plainCall}
 use Rattle.work.specs.Machines.{stateIn, machineOf}
 use Rattle.stepping.specs.declared.Progress.{Progress}
 use Rattle.stepping.specs.Progress.{logOf}
 use Rattle.execution.specs.Turns.{locations, RanTo}
-
--- the three areas that a run is lent
-abbrev pub lent : List ℕ → List ℕ → List ℕ → Areas
-lent trace ends work = record { trace = trace; end = ends; work = work }
 
 -- ---- what is returned
 abbrev pub countsOf : Stop → Progress → Counts

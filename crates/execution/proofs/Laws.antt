@@ -74,9 +74,10 @@ module _ {p w : List ℕ} {t : Trailer} (c : Progress) {i : Instruction} {e : Ef
       → b ≡ roomFor area c k → b ≡ true → ((q : List ℕ) → CarriedOutTo q w w′ area area′ i e c c′)
       → CarryingTried p t w w′ area area′ i c next.Go c′
   carried {area = area} n r y m = record {
-    tried = λ code s.
-        (ap (roomFor area c) (sym (n ∙ observed-same code s)) ∙ sym r ∙ y,
-        m p .made (locations t) code (let h = limits .cells in omega arith) (s .costs) (x .exact code (s .last) (s .cells)));
+    tried = λ code s. (
+      ap (roomFor area c) (sym (n ∙ observed-same code s)) ∙ sym r ∙ y,
+      m p .made (locations t) code (let h = limits .cells in omega arith) (s .costs) (x .exact code (s .last) (s .cells)),
+    );
   }
 
   pub not-carried : {area : List ℕ} {b : Bool} {k : ℕ} → k ≡ length (observations (e .observed)) → b ≡ roomFor area c k → b ≡ false

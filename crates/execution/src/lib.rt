@@ -63,7 +63,14 @@ fn try_roll_back(work: &mut [u64], trace: &mut [u64], c: Progress) -> Turn
 }
 
 // Rule 2, if its observations fit.
-fn try_open(work: &mut [u64], trace: &mut [u64], c: Progress, r: u8, l: Label, window: usize) -> Turn
+fn try_open(
+    work: &mut [u64],
+    trace: &mut [u64],
+    c: Progress,
+    r: u8,
+    l: Label,
+    window: usize,
+) -> Turn
     requires { ⌜ Live (now work) (now trace) c × (r < registers) × (window ≤ maxWindow) ⌝ }
     ensures { λ x. ⌜ OpeningTried (now (work .entry)) (now (work .exit)) (now (trace .entry)) (now (trace .exit)) r (l .0) window c (x .next) (x .progress) ⌝ }
 {

@@ -42,7 +42,7 @@ try-roll-back-requires c κs =
     let r = c .before .before .before .before .before .before .before .before .before .before .before .before .before .before .pre in
     let w = a .work .now in
     let d = expired-depth (entryAt w) (changeAt w) (stateIn w 0) (a .c .control .log) (a .c .control .depth) (a .t .count) (a .c .control .place)
-        (sym (c .before .before .before .expired .ensures 0) ∙ c .before .before .if3 .taken) in
+    (sym (c .before .before .before .expired .ensures 0) ∙ c .before .before .if3 .taken) in
     (r .fits, d, r .counted)
 
 same-length : tie.Need-same-length
@@ -66,7 +66,7 @@ fetch-requires c κs =
     let a = c .before .before .before .before .before .before .before .before .before .before .before .before .before .before .args in
     let n = locations (a .t) in
     let i = inside (a .t .count) (a .work .now) (a .c .control) n (sym (c .before .before .before .before .before .before .before .before .before .is-over .ensures) ∙ c .before .before .before .before .before .before .before .before .if1 .left)
-        (sym (c .before .before .before .expired .ensures n) ∙ c .before .before .if3 .left) in
+    (sym (c .before .before .before .expired .ensures n) ∙ c .before .before .if3 .left) in
     rw (c .before .new .ensures) (fetchable (a .p .now) (a .t) (a .mode) (a .work .now) (a .trace .now) (a .c) (c .before .before .before .before .before .before .before .before .before .before .before .before .before .before .pre) i)
 
 advance-requires : tie.Need-advance-requires

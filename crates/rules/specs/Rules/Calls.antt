@@ -37,6 +37,10 @@ pub record Areas : Type 0 where
   pub end : List ℕ
   pub work : List ℕ
 
+-- the three areas, by what each holds
+abbrev pub lent : List ℕ → List ℕ → List ℕ → Areas
+lent trace ends work = record { trace = trace; end = ends; work = work }
+
 -- how many observations an area has room for
 unfoldable pub room : List ℕ → ℕ
 room area = length area / 2

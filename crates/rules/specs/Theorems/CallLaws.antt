@@ -13,6 +13,8 @@ use Rattle.rules.specs.declared.Refusal.the-variants as refusals
 use Rattle.rules.specs.declared.Counts.{Counts}
 use Rattle.rules.specs.declared.RunOutcome.the-variants as runs
 use Rattle.rules.specs.declared.RunAnswer.{RunAnswer}
+use Rattle.rules.specs.declared.PlainCounts.{PlainCounts}
+use Rattle.rules.specs.declared.PlainOutcome.the-variants as plains
 use Rattle.rules.specs.Rules.Instructions.{Observation, start, rollback, pc, loaded, stored}
 use Rattle.rules.specs.Rules.Runs.{Job, Result, mispredictingRun, plainRun}
 use Rattle.rules.specs.Rules.JobFile.{Parsed, accepted, rejected, parse}
@@ -123,3 +125,19 @@ refused-unaltered f a {n} e = go (view f a)
     go : View f a → runCall f a .areas ≡ a
     go (ran r) = unfold runReport in refused-ran (sym (rw (call-runs r) at e))
     go (refused m q) = ap (λ (c : Called RunAnswer). c .areas) q
+
+plain-not-refused : {P : Type 0} {n : Refusal} {c : PlainCounts} → plains.Refused n ≡ plains.Ran c → P
+plain-not-refused {P} {n} {c} e = absurd (let z : _≡_ {A = ℕ} 0 1 = cc in omega arith)
+
+pub plain-refused-unaltered : (f : List ℕ) (a : Areas) {n : Refusal} → plainCall f a .answer .outcome ≡ plains.Refused n
+    → plainCall f a .areas ≡ a
+unfolding plainCall plainParsed
+plain-refused-unaltered f a {n} e = go (parse f) refl
+  where
+    fits : (job : Job) → parse f ≡ accepted job → (b : Bool) → longEnough job a ≡ b → plainParsed (parse f) a .areas ≡ a
+    fits job q true l = unfold plainReport in plain-not-refused (sym (rw (q, l, plainParsed) at e))
+    fits job q false l = rw (q, l, plainParsed)
+
+    go : (P : Parsed) → parse f ≡ P → plainParsed (parse f) a .areas ≡ a
+    go (rejected m) q = rw (q, plainParsed)
+    go (accepted job) q = fits job q (longEnough job a) refl

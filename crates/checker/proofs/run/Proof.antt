@@ -1,0 +1,72 @@
+-- `run` meets its contract: the answer and the areas are the rules', and demands 2 and 3 hold of every such call. Assumes nothing.
+use mathlib.Core.Path.{sym, _∙_}
+use Rattle.rules.specs.Rules.Calls.{lent}
+use Rattle.rules.specs.Rules.JobFile.{trailer, parse}
+use Rattle.rules.specs.Theorems.FilePlain.{demand2-call}
+use Rattle.rules.specs.Theorems.FileSecrecy.{demand3-call}
+use Rattle.job.specs.Answers.{read-accepted, read-refused}
+use Rattle.checker.proofs.Laws.{exact-rejected, run-unaltered}
+use borrow.Author.Needs.{needs}
+use Rattle.checker.proofs.run.Statement.{statement}
+use Rattle.checker.proofs.run.Tie as tie
+use Rattle.checker.proofs.run.Reads as reads
+use Rattle.checker.proofs.run.Lts as lts
+use Rattle.checker.proofs.run_accepted.Reads as run-accepted-reads
+use Rattle.checker.proofs.run_refused.Reads as run-refused-reads
+use Rattle.job.proofs.read_job.Reads as read-job-reads
+
+read-job-requires : tie.Need-read-job-requires
+read-job-requires c κs = search needs
+
+enum-known-t : tie.Need-enum-known-t
+enum-known-t c = search needs
+
+run-accepted-requires : tie.Need-run-accepted-requires
+run-accepted-requires c κs = read-accepted (c .before .before .before .before .before .before .before .before .before .before .before .args .job .now) _ (sym (c .before .before .before .before .t .given .1) ∙ c .before .before .before .before .before .before .read-job .ensures)
+
+enum-known-n : tie.Need-enum-known-n
+enum-known-n c = search needs
+
+run-refused-requires : tie.Need-run-refused-requires
+run-refused-requires c κs = search needs
+
+same-length : tie.Need-same-length
+same-length c = search needs
+
+same-length-2 : tie.Need-same-length-2
+same-length-2 c = search needs
+
+same-length-3 : tie.Need-same-length-3
+same-length-3 c = search needs
+
+returns : tie.Need-returns
+returns c =
+    let a = c .before .before .before .before .before .before .before .before .before .before .before .before .before .before .before .before .before .before .args in
+    let x = c .before .before .before .before .before .before .run-accepted .ensures in
+    let f = a .job .now in
+    let l = (lent (a .trace .now) (a .end .now) (a .work .now)) in
+    (x, (run-unaltered f l x, (demand2-call f l, demand3-call f l)))
+
+returns-2 : tie.Need-returns-2
+returns-2 c =
+    let a = c .before .before .before .before .before .before .before .before .before .args in
+    let f = a .job .now in
+    let l = (lent (a .trace .now) (a .end .now) (a .work .now)) in
+    let p = read-refused (trailer f) _ (parse f) (sym (c .before .before .n .given .1) ∙ c .before .before .before .before .read-job .ensures) in
+    let x = exact-rejected f _ p l (c .run-refused .ensures) in
+    (x, (run-unaltered f l x, (demand2-call f l, demand3-call f l)))
+
+pub run-spec : {M : Type 1} → statement M
+run-spec =
+    tie.close
+    (tie.spec
+    read-job-requires
+    enum-known-t
+    run-accepted-requires
+    enum-known-n
+    run-refused-requires
+    same-length
+    same-length-2
+    same-length-3
+    returns
+    returns-2)

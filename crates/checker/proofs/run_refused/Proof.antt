@@ -1,0 +1,27 @@
+-- `run_refused` meets its contract. Assumes nothing.
+use mathlib.Core.Path.{ap₂}
+use Rattle.location.specs.declared.LocationSet.{LocationSet}
+use Rattle.rules.specs.declared.RunOutcome.the-variants as runs
+use Rattle.rules.specs.declared.RunAnswer.{RunAnswer}
+use Rattle.rules.specs.Rules.Calls.{runRefused}
+use borrow.Author.Needs.{needs}
+use Rattle.checker.proofs.run_refused.Statement.{statement}
+use Rattle.checker.proofs.run_refused.Tie as tie
+use Rattle.checker.proofs.run_refused.Reads as reads
+use Rattle.checker.proofs.run_refused.Lts as lts
+use Rattle.location.proofs.LocationSet.empty.Reads as empty-reads
+
+empty-requires : tie.Need-empty-requires
+empty-requires c κs = search needs
+
+empty-requires-2 : tie.Need-empty-requires-2
+empty-requires-2 c κs = search needs
+
+returns : tie.Need-returns
+unfolding runRefused
+returns c =
+    ap₂ {C = RunAnswer} (λ (f g : LocationSet). record { outcome = runs.Refused (c .before .before .args .n); depends = f; plain = g })
+    (c .before .empty .ensures) (c .empty2 .ensures)
+
+pub run-refused-spec : {M : Type 1} → statement M
+run-refused-spec = tie.close (tie.spec empty-requires empty-requires-2 returns)
