@@ -26,13 +26,17 @@ use Rattle.effect.specs.declared.Effect.{Effect}
 use Rattle.effect.specs.States.{state-at, state-value}
 use Rattle.effect.specs.Effects.{Denotes, Executed}
 
+-- the state in the words, with so many cells
+abbrev stateOf : List ℕ → ℕ → State
+stateOf w cells = stateIn w (registers + cells)
+
 -- a rule that gives the same
 pub denotes-as : {w : List ℕ} {cells : ℕ} {rule rule′ : Code → State → plain.Effect} {x : Effect} → Denotes w cells rule x
-    → ((code : Code) → code .cells ≡ cells → rule code (stateIn w (registers + cells)) ≡ rule′ code (stateIn w (registers + cells)))
+    → ((code : Code) → code .cells ≡ cells → rule code (stateOf w cells) ≡ rule′ code (stateOf w cells))
     → Denotes w cells rule′ x
 denotes-as d h = record { exact = λ code e. d .exact code e ∙ h code e; location = d .location }
 
--- ---- a conditional assignment: of the register r, of the new value
+-- ---- a conditional assignment: not taken, where register number l is r and holds t; and taken
 pub chosen-old : (w : List ℕ) (r : ℕ) (c new : Tagged) {l : ℕ} {t x : Tagged} → c .value ≡ 0 → l ≡ r → t ≡ taggedAt w l
     → x ≡ joined t (c .deps) → x ≡ chosen c new (taggedAt w r)
 unfolding chosen
@@ -41,10 +45,6 @@ chosen-old w r c new h el et ex = rw (eq-eqb _ _ h) (ex ∙ ap (λ (y : Tagged).
 pub chosen-new : (c old : Tagged) {t v x : Tagged} → (c .value ≡ 0 → ⊥) → t ≡ v → x ≡ joined t (c .deps) → x ≡ chosen c v old
 unfolding chosen
 chosen-new c old h et ex = rw (ne-eqb _ _ h) (ex ∙ ap (λ (y : Tagged). joined y (c .deps)) et)
-
--- the state in the words, with so many cells
-abbrev stateOf : List ℕ → ℕ → State
-stateOf w cells = stateIn w (registers + cells)
 
 -- ---- a register and an expression in the state
 register-at : (w : List ℕ) (cells : ℕ) {r l : ℕ} {t : Tagged} → r < registers → l ≡ r → t ≡ taggedAt w l → t ≡ at (stateOf w cells) r
@@ -90,7 +90,7 @@ both-sound p {c = c} {e = e} ei h =
     (and-left (sound (tokensOf p c)) (sound (tokensOf p e)) s, and-right (sound (tokensOf p c)) (sound (tokensOf p e)) s)
 
 -- ---- the instructions: x is the effect of what its callee was given
-module _ (p w : List ℕ) (last cells place : ℕ) (x : Effect) where
+module _ {p w : List ℕ} {last cells place : ℕ} {x : Effect} where
   executed : (i : Instruction) {rule : Code → State → plain.Effect} → Denotes w cells rule x
       → ((code : Code) → end code ≡ last → rule code (stateOf w cells) ≡ exec code (stateOf w cells) place (meaning p i))
       → Executed p w last cells place i x

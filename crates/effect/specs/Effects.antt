@@ -1,10 +1,11 @@
 -- What the code's effect of an instruction means: the rules' effect on a state.
 -- Assumes nothing.
 use mathlib.Core.Path.{_≡_}
-use mathlib.Core.Bool.{Bool, true, false, cond}
+use mathlib.Core.Bool.{true, cond}
 use mathlib.Core.List.{List, [], _∷_}
 use Prim.Native.Nat.{ℕ, _+_, _^_, _≤_, _<_}
 use lib.ListN.{length}
+use Rattle.location.specs.declared.LocationSet.{LocationSet}
 use Rattle.location.specs.Sets.{registers}
 use Rattle.rules.specs.Rules.Instructions.{Observation, pc, loaded, stored}
 use Rattle.rules.specs.Rules.JobFile.{postfix}
@@ -32,6 +33,10 @@ stateAfter σ e = cond (e .writes) (put σ (e .location .0) (e .value)) σ
 
 abbrev pub effectMeaning : State → Effect → plain.Effect
 effectMeaning σ e = record { state = stateAfter σ e; place = e .place; obs = observations (e .observed); seen = e .seen }
+
+-- the rules' effect where no location takes a word
+abbrev pub kept : State → ℕ → Observed → LocationSet → plain.Effect
+kept σ p o s = record { state = σ; place = p; obs = observations o; seen = s }
 
 -- On the state in the words, e means what a rule gives, whatever the program with so many cells; its location is one of the state's.
 pub record Denotes (w : List ℕ) (cells : ℕ) (rule : Code → State → plain.Effect) (e : Effect) : Type 0 where

@@ -14,12 +14,12 @@ ghost use Prim.Native.Nat.{ℕ, _+_, _^_, _<_, _≤_, min};
 ghost use lib.ListN.{length};
 ghost use Rattle.location.specs.Sets.{registers};
 ghost use Rattle.rules.specs.Rules.Expressions.{sound, eval};
-ghost use Rattle.rules.specs.Rules.Plain.{Code, State, put, joined, loadedFrom, chosen, branchTo, silent, loadEffect, storeEffect, goEffect};
+ghost use Rattle.rules.specs.Rules.Plain.{Code, put, joined, loadedFrom, chosen, branchTo, silent, loadEffect, storeEffect, goEffect};
 ghost use Rattle.token.specs.Meaning.{tokensOf};
 ghost use Rattle.work.specs.Layout.{operandBase};
 ghost use Rattle.work.specs.Words.{taggedAt};
 ghost use Rattle.work.specs.Machines.{stateIn};
-ghost use Rattle.effect.specs.Effects.{observations, Denotes, Executable, Executed};
+ghost use Rattle.effect.specs.Effects.{kept, Denotes, Executable, Executed};
 
 // What an observer sees of one instruction.
 pub enum Observed {
@@ -41,7 +41,7 @@ pub struct Effect {
 
 // No location takes a word.
 fn keeps(place: usize, observed: Observed, seen: LocationSet) -> Effect
-    ensures { λ x. ⌜ ((w : List ℕ) (cells : ℕ) → Denotes w cells (λ code σ. record { state = σ; place = place; obs = observations observed; seen = seen }) x) ⌝ }
+    ensures { λ x. ⌜ ((w : List ℕ) (cells : ℕ) → Denotes w cells (λ code σ. kept σ place observed seen) x) ⌝ }
 {
     Effect {
         place,
@@ -104,8 +104,9 @@ fn loaded_from(work: &[u64], cells: usize, a: Tagged) -> Tagged
     ensures { λ r. ⌜ ((code : Code) → code .cells ≡ cells → r ≡ loadedFrom code (stateIn (now (work .entry)) (registers + cells)) a) ⌝ }
 {
     let deps = a.deps;
-    if a.value < cells as u64 {
-        let cell = Location::cell(Address::new(a.value));
+    let value = a.value;
+    if value < cells as u64 {
+        let cell = Location::cell(Address::new(value));
         return joined(work::load(work, cell), deps);
     }
     Tagged { value: 0, deps }
@@ -137,21 +138,22 @@ fn store_effect(work: &[u64], cells: usize, place: usize, r: u8, a: Tagged) -> E
     ensures { λ x. ⌜ Denotes (now (work .entry)) cells (λ code σ. storeEffect code σ place r a) x ⌝ }
 {
     let seen = a.deps;
-    let address = Address::new(a.value);
+    let value = a.value;
+    let address = Address::new(value);
     let observed = Observed::Store(address);
     let next = place + 1;
-    if a.value < cells as u64 {
-        let stored = work::load(work, Location::register(r));
-        return Effect {
-            place: next,
-            writes: true,
-            location: Location::cell(address),
-            value: joined(stored, seen),
-            observed,
-            seen,
-        };
+    if cells as u64 <= value {
+        return keeps(next, observed, seen);
     }
-    keeps(next, observed, seen)
+    let stored = work::load(work, Location::register(r));
+    Effect {
+        place: next,
+        writes: true,
+        location: Location::cell(address),
+        value: joined(stored, seen),
+        observed,
+        seen,
+    }
 }
 
 // What register r holds after a conditional assignment on c: the expression is evaluated only where it is assigned.
@@ -172,10 +174,10 @@ fn chosen(p: &[u8], work: &[u64], r: u8, c: Tagged, e: Expression) -> Tagged
 fn jump_to(value: u64, last: usize) -> usize
     ensures { λ r. ⌜ r ≡ min value last ⌝ }
 {
-    if value < last as u64 {
-        return value as usize;
+    if last as u64 <= value {
+        return last;
     }
-    last
+    value as usize
 }
 
 pub fn branch_to(t: Tagged, label: Label, next: usize) -> usize

@@ -1,5 +1,4 @@
 -- `effect::branch_to` meets its contract: the test is the rules'. Assumes nothing.
-use mathlib.Core.Path.{refl}
 use borrow.Author.Tests.{eq-eqb, ne-eqb}
 use Rattle.rules.specs.Rules.Plain.{branchTo}
 use borrow.Author.Needs.{needs}

@@ -93,37 +93,37 @@ silent-effect-requires-2 : tie.Need-silent-effect-requires-2
 silent-effect-requires-2 c κs = search needs
 
 returns : tie.Need-returns
-returns c = skip-executed _ _ _ _ _ _ (c .before .enum-told .given .1) (c .silent-effect .ensures _ _)
+returns c = skip-executed (c .before .enum-told .given .1) (c .silent-effect .ensures _ _)
 
 returns-2 : tie.Need-returns-2
-returns-2 c = let b = c .before in assign-executed _ _ _ _ _ _ (b .before .before .i .given .1) (b .evaluate .ensures) (c .assigns .ensures _ _)
+returns-2 c = let b = c .before in assign-executed (b .before .before .i .given .1) (b .evaluate .ensures) (c .assigns .ensures _ _)
 
 returns-3 : tie.Need-returns-3
-returns-3 c = let b = c .before in load-executed _ _ _ _ _ _ (b .before .before .i2 .given .1) (b .evaluate2 .ensures) (c .load-effect .ensures)
+returns-3 c = let b = c .before in load-executed (b .before .before .i2 .given .1) (b .evaluate2 .ensures) (c .load-effect .ensures)
 
 returns-4 : tie.Need-returns-4
-returns-4 c = let b = c .before in store-executed _ _ _ _ _ _ (b .before .before .i3 .given .1) (b .evaluate3 .ensures) (c .store-effect .ensures)
+returns-4 c = let b = c .before in store-executed (b .before .before .i3 .given .1) (b .evaluate3 .ensures) (c .store-effect .ensures)
 
 returns-5 : tie.Need-returns-5
 returns-5 c =
     let b = c .before .before in
-    jump-executed _ _ _ _ _ _ (b .before .before .i4 .given .1) (b .evaluate4 .ensures) (c .before .jump-to .ensures) (c .goes-to .ensures _ _)
+    jump-executed (b .before .before .i4 .given .1) (b .evaluate4 .ensures) (c .before .jump-to .ensures) (c .goes-to .ensures _ _)
 
 returns-6 : tie.Need-returns-6
 returns-6 c =
     let b = c .before .before .before in
     let x = rw (b .before .before .i5 .given .1) at (b .before .before .before .before .before .before .pre) in
-    branch-executed _ _ _ _ _ _ (b .before .before .i5 .given .1) (x .below) (b .register .ensures) (c .before .before .load .ensures) (c .before .branch-to .ensures)
+    branch-executed (b .before .before .i5 .given .1) (x .below) (b .register .ensures) (c .before .before .load .ensures) (c .before .branch-to .ensures)
     (c .goes-to2 .ensures _ _)
 
 returns-7 : tie.Need-returns-7
 returns-7 c =
     let b = c .before .before in
     let x = rw (b .before .before .i6 .given .1) at (b .before .before .before .before .before .before .pre) in
-    assign-if-executed _ _ _ _ _ _ (b .before .before .i6 .given .1) (x .below) (b .evaluate5 .ensures) (c .before .chosen .ensures) (c .assigns2 .ensures _ _)
+    assign-if-executed (b .before .before .i6 .given .1) (x .below) (b .evaluate5 .ensures) (c .before .chosen .ensures) (c .assigns2 .ensures _ _)
 
 returns-8 : tie.Need-returns-8
-returns-8 c = barrier-executed _ _ _ _ _ _ (c .before .enum-told2 .given .1) (c .silent-effect2 .ensures _ _)
+returns-8 c = barrier-executed (c .before .enum-told2 .given .1) (c .silent-effect2 .ensures _ _)
 
 pub effect-of-spec : {M : Type 1} → statement M
 effect-of-spec =

@@ -19,13 +19,13 @@ joined-requires c κs = search needs
 returns : tie.Need-returns
 returns c code e =
     let b = c .before .before .before in
-    let a = b .before .before .before .before .before .args in
+    let a = b .before .before .before .before .args in
     load-inside (a .work .now) (a .cells) (a .a) code e (b .before .if1 .taken) (b .new .ensures) (c .before .before .cell .ensures)
     (c .before .load .ensures) (c .joined .ensures)
 
 returns-2 : tie.Need-returns-2
 returns-2 c code e =
-    let a = c .before .before .before .before .args in
+    let a = c .before .before .before .args in
     load-outside (a .work .now) (a .cells) (a .a) code e (c .if1 .left)
 
 pub loaded-from-spec : {M : Type 1} → statement M

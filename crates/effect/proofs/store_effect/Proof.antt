@@ -1,4 +1,4 @@
--- `effect::store_effect` meets its contract: the test is the rules'. Assumes nothing.
+-- `effect::store_effect` meets its contract: the test is the rules', and with a cell the fields are. Assumes nothing.
 use mathlib.Core.List.{[], _∷_}
 use Prim.Native.Nat.{_+_}
 use native.Mathlib.Numerals.{add-one}
@@ -18,6 +18,23 @@ new-requires c κs = search needs
 add-next : tie.Need-add-next
 add-next c = search needs
 
+keeps-requires : tie.Need-keeps-requires
+keeps-requires c κs = search needs
+
+returns : tie.Need-returns
+returns c =
+    let b = c .before in
+    let n = b .before .new .ensures in
+    let a = b .before .before .before .before .args in
+    let w = a .work .now in
+    denotes-as (c .keeps .ensures w (a .cells))
+    (λ code e t. record {
+      state = store-outside w (a .cells) (a .a) code e (at (stateIn w (registers + a .cells)) (a .r)) (b .if1 .taken) t;
+      place = add-one (a .place) t;
+      obs = stored (n t) ∷ [];
+      seen = a .a .deps;
+    })
+
 register-requires : tie.Need-register-requires
 register-requires c κs = search needs
 
@@ -30,14 +47,14 @@ cell-requires c κs = search needs
 joined-requires : tie.Need-joined-requires
 joined-requires c κs = search needs
 
-returns : tie.Need-returns
-returns c =
+returns-2 : tie.Need-returns-2
+returns-2 c =
     let b = c .before .before .before .before in
-    let s = b .before .before .before .before .before in
+    let n = b .before .new .ensures in
+    let s = b .before .before .before .before in
     let a = s .args in
-    let h = b .if1 .taken in
+    let h = b .if1 .left in
     let l = c .before .cell .ensures in
-    let n = b .before .before .new .ensures in
     record {
       exact = λ code e t. record {
         state =
@@ -50,32 +67,16 @@ returns c =
       location = omega arith;
     }
 
-keeps-requires : tie.Need-keeps-requires
-keeps-requires c κs = search needs
-
-returns-2 : tie.Need-returns-2
-returns-2 c =
-    let b = c .before in
-    let a = b .before .before .before .before .before .args in
-    let σ = stateIn (a .work .now) (registers + a .cells) in
-    denotes-as (c .keeps .ensures (a .work .now) (a .cells))
-    (λ code e t. record {
-      state = store-outside (a .work .now) (a .cells) (a .a) code e (at σ (a .r)) (b .if1 .left) t;
-      place = add-one (a .place) t;
-      obs = stored (b .before .before .new .ensures t) ∷ [];
-      seen = a .a .deps;
-    })
-
 pub store-effect-spec : {M : Type 1} → statement M
 store-effect-spec =
     tie.close
     (tie.spec
     new-requires
     add-next
+    keeps-requires
+    returns
     register-requires
     load-requires
     cell-requires
     joined-requires
-    returns
-    keeps-requires
     returns-2)
