@@ -23,8 +23,8 @@ use Rattle.rules.specs.Rules.Listing.{decimal, line, numberLine, placeText, obs
 use Rattle.listing.specs.Lines.{observationOf, observed, memberText, count, printed}
 
 -- ---- places
-pub place-end : (n p : ℕ) → p ≡ n → observationLine n (pc p) ≡ line (text "pc") (text " end")
-unfolding observationLine placeText text
+pub place-end : (n p : ℕ) → p ≡ n → observationLine n (pc p) ≡ text "pc end\n"
+unfolding observationLine placeText line text
 place-end n p e = rw (eq-eqb p n e)
 
 pub place-number : (n p : ℕ) → (p ≡ n → ⊥) → observationLine n (pc p) ≡ numberLine (text "pc") p

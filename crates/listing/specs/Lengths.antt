@@ -38,7 +38,7 @@ decimal-length : (n : ℕ) → length (decimal n) ≤ 20
 unfolding decimal
 decimal-length n = digits-length 20 n []
 
-pub line-length : (word rest : List ℕ) → length (line word rest) ≡ length word + length rest + 1
+line-length : (word rest : List ℕ) → length (line word rest) ≡ length word + length rest + 1
 unfolding line
 line-length word rest = omega (arith, length-append (word ++ rest) (10 ∷ []), length-append word rest)
 

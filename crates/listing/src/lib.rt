@@ -16,7 +16,7 @@ ghost use lib.ListN.{length, drop};
 ghost use Rattle.location.specs.Sets.{limit};
 ghost use Rattle.rules.specs.Rules.Answers.{text, stopWord, verdictWord, refusalNumber};
 ghost use Rattle.rules.specs.Rules.Instructions.{pc};
-ghost use Rattle.rules.specs.Rules.Listing.{decimal, line, numberLine, placeText, observationLine, traceLines, locationText, members, setLine, summary};
+ghost use Rattle.rules.specs.Rules.Listing.{decimal, line, numberLine, observationLine, traceLines, locationText, members, setLine, summary};
 ghost use Rattle.listing.specs.Lines.{Put, observationOf, observed, memberText, printed};
 
 // A number of 64 bits has at most 20 decimal digits; this is the place of the last.
@@ -73,15 +73,6 @@ fn put_decimal(out: &mut [u8], at: usize, n: u64) -> usize
     put_text(out, at, &buffer[first..])
 }
 
-fn put_line(out: &mut [u8], at: usize, word: &[u8], rest: &[u8]) -> usize
-    requires { ⌜ at + length (line (now word) (now rest)) < 2 ^ 64 ⌝ }
-    ensures { λ r. ⌜ Put (now (out .entry)) at (line (now (word .entry)) (now (rest .entry))) (now (out .exit)) r ⌝ }
-{
-    let after = put_text(out, at, word);
-    let end = put_text(out, after, rest);
-    put_text(out, end, b"\n")
-}
-
 fn put_number_line(out: &mut [u8], at: usize, word: &[u8], n: u64) -> usize
     requires { ⌜ at + length (numberLine (now word) n) < 2 ^ 64 ⌝ }
     ensures { λ r. ⌜ Put (now (out .entry)) at (numberLine (now (word .entry)) n) (now (out .exit)) r ⌝ }
@@ -92,13 +83,13 @@ fn put_number_line(out: &mut [u8], at: usize, word: &[u8], n: u64) -> usize
     put_text(out, end, b"\n")
 }
 
-// The place that a jump or a branch goes to; the number of instructions is the place END.
+// The place that was gone to; the number of instructions is the place END.
 fn put_place_line(out: &mut [u8], at: usize, n: u64, place: u64) -> usize
     requires { ⌜ at + length (observationLine n (pc place)) < 2 ^ 64 ⌝ }
     ensures { λ r. ⌜ Put (now (out .entry)) at (observationLine n (pc place)) (now (out .exit)) r ⌝ }
 {
     if place == n {
-        return put_line(out, at, b"pc", b" end");
+        return put_text(out, at, b"pc end\n");
     }
     put_number_line(out, at, b"pc", place)
 }
@@ -192,9 +183,9 @@ fn put_stop(out: &mut [u8], at: usize, stop: Stop) -> usize
     ensures { λ r. ⌜ Put (now (out .entry)) at (line (text "stop ") (stopWord stop)) (now (out .exit)) r ⌝ }
 {
     match stop {
-        Stop::Finished => put_line(out, at, b"stop ", b"finished"),
-        Stop::Spent => put_line(out, at, b"stop ", b"spent"),
-        Stop::TraceFull => put_line(out, at, b"stop ", b"trace full"),
+        Stop::Finished => put_text(out, at, b"stop finished\n"),
+        Stop::Spent => put_text(out, at, b"stop spent\n"),
+        Stop::TraceFull => put_text(out, at, b"stop trace full\n"),
     }
 }
 
@@ -203,10 +194,10 @@ fn put_verdict(out: &mut [u8], at: usize, verdict: Verdict) -> usize
     ensures { λ r. ⌜ Put (now (out .entry)) at (line (text "verdict ") (verdictWord verdict)) (now (out .exit)) r ⌝ }
 {
     match verdict {
-        Verdict::Undecided => put_line(out, at, b"verdict ", b"undecided"),
-        Verdict::Clean => put_line(out, at, b"verdict ", b"clean"),
-        Verdict::Speculative => put_line(out, at, b"verdict ", b"speculative"),
-        Verdict::Plain => put_line(out, at, b"verdict ", b"plain"),
+        Verdict::Undecided => put_text(out, at, b"verdict undecided\n"),
+        Verdict::Clean => put_text(out, at, b"verdict clean\n"),
+        Verdict::Speculative => put_text(out, at, b"verdict speculative\n"),
+        Verdict::Plain => put_text(out, at, b"verdict plain\n"),
     }
 }
 

@@ -8,17 +8,14 @@ use borrow.Author.Needs.{needs}
 use Rattle.listing.proofs.put_place_line.Statement.{statement}
 use Rattle.listing.proofs.put_place_line.Tie as tie
 
-slice-aggregate-put-line : tie.Need-slice-aggregate-put-line
-slice-aggregate-put-line c = search needs
+slice-aggregate-put-text : tie.Need-slice-aggregate-put-text
+slice-aggregate-put-text c = search needs
 
-slice-aggregate-put-line-2 : tie.Need-slice-aggregate-put-line-2
-slice-aggregate-put-line-2 c = search needs
-
-put-line-requires : tie.Need-put-line-requires
+put-text-requires : tie.Need-put-text-requires
 unfolding text
-put-line-requires c κs =
-    let a = c .before .before .before .before .before .args in
-    omega (arith, ap length (place-end (a .n) (a .place) (c .before .before .before .if1 .taken)))
+put-text-requires c κs =
+    let a = c .before .before .before .before .args in
+    omega (arith, ap length (place-end (a .n) (a .place) (c .before .before .if1 .taken)))
 
 same-length : tie.Need-same-length
 same-length c = search needs
@@ -26,8 +23,8 @@ same-length c = search needs
 returns : tie.Need-returns
 unfolding text
 returns c =
-    let a = c .before .before .before .before .before .before .before .before .args in
-    rw (place-end (a .n) (a .place) (c .before .before .before .before .before .before .if1 .taken)) (c .before .before .put-line .ensures)
+    let a = c .before .before .before .before .before .before .before .args in
+    rw (place-end (a .n) (a .place) (c .before .before .before .before .before .if1 .taken)) (c .before .before .put-text .ensures)
 
 slice-aggregate-put-number-line : tie.Need-slice-aggregate-put-number-line
 slice-aggregate-put-number-line c = search needs
@@ -51,9 +48,8 @@ pub put-place-line-spec : {M : Type 1} → statement M
 put-place-line-spec =
     tie.close
     (tie.spec
-    slice-aggregate-put-line
-    slice-aggregate-put-line-2
-    put-line-requires
+    slice-aggregate-put-text
+    put-text-requires
     same-length
     returns
     slice-aggregate-put-number-line
