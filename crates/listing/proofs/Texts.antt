@@ -17,7 +17,7 @@ use Rattle.rules.specs.declared.Refusal.{Refusal}
 use Rattle.rules.specs.declared.RunOutcome.{RunOutcome}
 use Rattle.rules.specs.declared.RunOutcome.the-variants as runs
 use Rattle.rules.specs.declared.RunAnswer.{RunAnswer}
-use Rattle.rules.specs.Rules.Instructions.{Observation, start, rollback, pc, loaded, stored}
+use Rattle.rules.specs.Rules.Instructions.{start, rollback, pc, loaded, stored}
 use Rattle.rules.specs.Rules.Answers.{text, refusalNumber}
 use Rattle.rules.specs.Rules.Listing.{decimal, line, numberLine, placeText, observationLine, traceLines, locationText, members, summary, outcomeLines, answerLines}
 use Rattle.listing.specs.Lines.{observationOf, observed, memberText, count, printed}

@@ -1,6 +1,6 @@
 -- How long a printed run can be: at most 30 bytes a line of the trace, and 11,372 bytes after them.
 -- Assumes nothing.
-use mathlib.Core.Path.{_≡_, refl}
+use mathlib.Core.Path.{_≡_}
 use mathlib.Core.Bool.{Bool, true, false, cond}
 use mathlib.Core.List.{List, [], _∷_, _++_}
 use Prim.Native.Nat.{ℕ, zero, suc, _+_, _-_, _*_, _/_, _%_, _≤_}
@@ -20,7 +20,7 @@ use Rattle.rules.specs.declared.RunAnswer.{RunAnswer}
 use Rattle.rules.specs.Rules.Instructions.{Observation, start, rollback, pc, loaded, stored}
 use Rattle.rules.specs.Rules.Answers.{text, stopWord, verdictWord, refusalNumber}
 use Rattle.rules.specs.Rules.Listing.{digits, decimal, line, numberLine, placeText, observationLine, traceLines, locationText, members, setLine, summary, outcomeLines, answerLines}
-use Rattle.listing.specs.Lines.{observationOf, observed}
+use Rattle.listing.specs.Lines.{observed}
 
 -- one of two texts
 either-length : (b : Bool) (x y : List ℕ) (m : ℕ) → length x ≤ m → length y ≤ m → length (cond b x y) ≤ m

@@ -3,12 +3,12 @@
 use mathlib.Core.Path.{_≡_, refl, ap, _∙_}
 use mathlib.Core.List.{List, [], _∷_, _++_}
 use Prim.Native.Nat.{ℕ}
-use lib.ListN.{length, getD, drop}
+use lib.ListN.{length, drop}
 use Rattle.rules.specs.declared.Refusal.{Refusal}
 use Rattle.rules.specs.declared.RunAnswer.{RunAnswer}
 use Rattle.rules.specs.Rules.Instructions.{Observation, start, rollback, pc, loaded, stored}
 use Rattle.rules.specs.Rules.Runs.{Job, Result}
-use Rattle.rules.specs.Rules.Calls.{observationWords, traceWords, written, counts, runReport, runRefused}
+use Rattle.rules.specs.Rules.Calls.{traceWords, written, counts, runReport, runRefused}
 use Rattle.rules.specs.Rules.Listing.{answerLines}
 use Rattle.listing.specs.Lines.{observationOf, observed, count, printed}
 

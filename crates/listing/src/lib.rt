@@ -77,10 +77,10 @@ fn put_number_line(out: &mut [u8], at: usize, word: &[u8], n: u64) -> usize
     requires { ⌜ at + length (numberLine (now word) n) < 2 ^ 64 ⌝ }
     ensures { λ r. ⌜ Put (now (out .entry)) at (numberLine (now (word .entry)) n) (now (out .exit)) r ⌝ }
 {
-    let after = put_text(out, at, word);
-    let start = put_text(out, after, b" ");
-    let end = put_decimal(out, start, n);
-    put_text(out, end, b"\n")
+    let after_word = put_text(out, at, word);
+    let after_blank = put_text(out, after_word, b" ");
+    let after_digits = put_decimal(out, after_blank, n);
+    put_text(out, after_digits, b"\n")
 }
 
 // The place that was gone to; the number of instructions is the place END.
@@ -138,12 +138,12 @@ fn put_location(out: &mut [u8], at: usize, l: usize) -> usize
     ensures { λ r. ⌜ Put (now (out .entry)) at (locationText l) (now (out .exit)) r ⌝ }
 {
     if l < REGISTERS {
-        let after = put_text(out, at, b" r");
-        return put_decimal(out, after, l as u64);
+        let after_r = put_text(out, at, b" r");
+        return put_decimal(out, after_r, l as u64);
     }
     let cell = l - REGISTERS;
-    let after = put_text(out, at, b" m");
-    put_decimal(out, after, cell as u64)
+    let after_m = put_text(out, at, b" m");
+    put_decimal(out, after_m, cell as u64)
 }
 
 fn put_member(out: &mut [u8], at: usize, s: LocationSet, l: usize) -> usize
@@ -173,9 +173,9 @@ fn put_set(out: &mut [u8], at: usize, word: &[u8], s: LocationSet) -> usize
     requires { ⌜ at + length (setLine (now word) s) < 2 ^ 64 ⌝ }
     ensures { λ r. ⌜ Put (now (out .entry)) at (setLine (now (word .entry)) s) (now (out .exit)) r ⌝ }
 {
-    let after = put_text(out, at, word);
-    let end = put_members(out, after, s);
-    put_text(out, end, b"\n")
+    let after_word = put_text(out, at, word);
+    let after_members = put_members(out, after_word, s);
+    put_text(out, after_members, b"\n")
 }
 
 fn put_stop(out: &mut [u8], at: usize, stop: Stop) -> usize

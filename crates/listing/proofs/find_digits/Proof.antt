@@ -1,9 +1,7 @@
 -- `find_digits` meets its contract. The invariant: the number's digits are those of what is left of it and then those written.
 -- Assumes nothing.
 use mathlib.Core.Path.{_≡_, sym, _∙_}
-use Prim.Native.Nat.{ℕ, _+_, _-_, _^_, _≤_, _<_}
 use native.Mathlib.Omega.{arith}
-use borrow.Author.Needs.{needs}
 use lib.ListN.{length, length-set}
 use Rattle.rules.specs.Rules.Listing.{decimal, digits}
 use Rattle.listing.proofs.Digits.{Found, found-none, found-positive, found-more, found-all}

@@ -1,7 +1,6 @@
 -- `put_byte` meets its contract: past the end the store of the contract changes nothing. Assumes nothing.
-use mathlib.Core.Path.{_≡_, ap, _∙_}
+use mathlib.Core.Path.{ap, _∙_}
 use mathlib.Core.Logic.{⊎-elim}
-use native.Mathlib.Omega.{arith}
 use borrow.Author.Needs.{needs}
 use lib.ListN.{length, length-set}
 use Rattle.listing.proofs.Laws.{put-stored, put-past}

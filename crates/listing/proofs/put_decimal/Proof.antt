@@ -1,5 +1,5 @@
 -- `put_decimal` meets its contract: the digits stand at the end of the buffer. Assumes nothing.
-use mathlib.Core.Path.{_≡_, ap}
+use mathlib.Core.Path.{ap}
 use native.Mathlib.Omega.{arith}
 use lib.ListN.{length}
 use Rattle.rules.specs.Rules.Listing.{decimal}

@@ -1,5 +1,5 @@
 -- `put_location` meets its contract: registers come first, cells are numbered from 0 after them. Assumes nothing.
-use mathlib.Core.Path.{_≡_, ap}
+use mathlib.Core.Path.{ap}
 use native.Mathlib.Omega.{arith}
 use lib.ListN.{length}
 use Rattle.rules.specs.Rules.Answers.{text}
@@ -14,36 +14,52 @@ slice-aggregate-put-text c = search needs
 
 put-text-requires : tie.Need-put-text-requires
 unfolding text
-put-text-requires c κs = omega (arith, ap length (register-text (c .before .before .before .before .args .l) (c .before .before .if1 .taken)))
+put-text-requires c κs =
+    let test = c .before .before in
+    omega (arith, ap length (register-text (test .before .before .args .l) (test .if1 .taken)))
 
 put-decimal-requires : tie.Need-put-decimal-requires
 unfolding text
-put-decimal-requires c κs = omega (arith, ap length (register-text (c .before .before .before .before .before .before .before .before .args .l) (c .before .before .before .before .before .before .if1 .taken)))
+put-decimal-requires c κs =
+    let test = c .before .before .before .before .before .before in
+    omega (arith, ap length (register-text (test .before .before .args .l) (test .if1 .taken)))
 
 same-length : tie.Need-same-length
 same-length c = search needs
 
 returns : tie.Need-returns
 unfolding text
-returns c = rw (register-text (c .before .before .before .before .before .before .before .before .before .before .before .args .l) (c .before .before .before .before .before .before .before .before .before .if1 .taken)) (put-append (c .before .before .before .before .before .before .put-text .ensures) (c .before .before .put-decimal .ensures))
+returns c =
+    let digits = c .before .before in
+    let letter = digits .before .before .before .before in
+    let test = letter .before .before .before in
+    rw (register-text (test .before .before .args .l) (test .if1 .taken)) (put-append (letter .put-text .ensures) (digits .put-decimal .ensures))
 
 slice-aggregate-put-text-2 : tie.Need-slice-aggregate-put-text-2
 slice-aggregate-put-text-2 c = search needs
 
 put-text-requires-2 : tie.Need-put-text-requires-2
 unfolding text
-put-text-requires-2 c κs = omega (arith, ap length (cell-text (c .before .before .before .before .args .l) (c .before .before .if1 .left)))
+put-text-requires-2 c κs =
+    let test = c .before .before in
+    omega (arith, ap length (cell-text (test .before .before .args .l) (test .if1 .left)))
 
 put-decimal-requires-2 : tie.Need-put-decimal-requires-2
 unfolding text
-put-decimal-requires-2 c κs = omega (arith, ap length (cell-text (c .before .before .before .before .before .before .before .before .args .l) (c .before .before .before .before .before .before .if1 .left)))
+put-decimal-requires-2 c κs =
+    let test = c .before .before .before .before .before .before in
+    omega (arith, ap length (cell-text (test .before .before .args .l) (test .if1 .left)))
 
 same-length-2 : tie.Need-same-length-2
 same-length-2 c = search needs
 
 returns-2 : tie.Need-returns-2
 unfolding text
-returns-2 c = rw (cell-text (c .before .before .before .before .before .before .before .before .before .before .before .args .l) (c .before .before .before .before .before .before .before .before .before .if1 .left)) (put-append (c .before .before .before .before .before .before .put-text2 .ensures) (c .before .before .put-decimal2 .ensures))
+returns-2 c =
+    let digits = c .before .before in
+    let letter = digits .before .before .before .before in
+    let test = letter .before .before .before in
+    rw (cell-text (test .before .before .args .l) (test .if1 .left)) (put-append (letter .put-text2 .ensures) (digits .put-decimal2 .ensures))
 
 pub put-location-spec : {M : Type 1} → statement M
 put-location-spec =

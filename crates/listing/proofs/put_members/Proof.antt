@@ -1,6 +1,6 @@
 -- `put_members` meets its contract. The invariant: what is left of the locations ends where all of them end. Assumes nothing.
 use mathlib.Core.Path.{_≡_, refl}
-use Prim.Native.Nat.{ℕ, _-_, _^_, _≤_}
+use Prim.Native.Nat.{_-_, _^_, _≤_}
 use native.Mathlib.Omega.{arith}
 use Rattle.location.specs.Sets.{limit}
 use Rattle.rules.specs.Rules.Listing.{members}

@@ -39,8 +39,13 @@ same-length c = search needs
 returns : tie.Need-returns
 unfolding numberLine line
 returns c =
-    put-append (put-append (c .before .before .before .before .before .before .before .before .before .before .before .before .before .before .before .before .put-text .ensures) (put-append (c .before .before .before .before .before .before .before .before .before .before .before .put-text2 .ensures) (c .before .before .before .before .before .before .before .put-decimal .ensures)))
-    (c .before .before .put-text3 .ensures)
+    let newline = c .before .before in
+    let digits = newline .before .before .before .before .before in
+    let blank = digits .before .before .before .before in
+    let word = blank .before .before .before .before .before in
+    put-append
+    (put-append (word .put-text .ensures) (put-append (blank .put-text2 .ensures) (digits .put-decimal .ensures)))
+    (newline .put-text3 .ensures)
 
 pub put-number-line-spec : {M : Type 1} → statement M
 put-number-line-spec =

@@ -30,7 +30,11 @@ same-length c = search needs
 
 returns : tie.Need-returns
 unfolding setLine line
-returns c = put-append (put-append (c .before .before .before .before .before .before .before .before .before .before .before .put-text .ensures) (c .before .before .before .before .before .before .before .put-members .ensures)) (c .before .before .put-text2 .ensures)
+returns c =
+    let newline = c .before .before in
+    let inner = newline .before .before .before .before .before in
+    let word = inner .before .before .before .before in
+    put-append (put-append (word .put-text .ensures) (inner .put-members .ensures)) (newline .put-text2 .ensures)
 
 pub put-set-spec : {M : Type 1} → statement M
 put-set-spec =

@@ -1,6 +1,5 @@
 -- `write_answer` meets its contract, for each outcome. Its lines fit a number of 64 bits, since the trace's words do in memory.
 -- Assumes nothing.
-use mathlib.Core.Path.{_≡_, sym, ap, _∙_}
 use native.Mathlib.Omega.{arith}
 use Rattle.rules.specs.Rules.Answers.{text}
 use Rattle.listing.specs.Lines.{observed}
@@ -30,17 +29,21 @@ enum-known-outcome-2 c = search needs
 put-trace-requires : tie.Need-put-trace-requires
 put-trace-requires c κs =
     let a = c .before .before .before .before .before .before .before .before .args in
-    let os = observed (c .before .before .before .before .outcome2 .given .0 .0 .observations) (a .trace .now) in
-    omega (arith, trace-length (a .n) os, observed-length (c .before .before .before .before .outcome2 .given .0 .0 .observations) (a .trace .now), c .before .before .before .before .before .before .before .before .good)
+    let k = c .before .before .before .before .outcome2 .given .0 .0 .observations in
+    omega (
+      arith,
+      trace-length (a .n) (observed k (a .trace .now)),
+      observed-length k (a .trace .now),
+      c .before .before .before .before .before .before .before .before .good,
+    )
 
 put-summary-requires : tie.Need-put-summary-requires
 put-summary-requires c κs =
     let a = c .before .before .before .before .before .before .before .before .before .before .before .before .args in
     let o = c .before .before .before .before .before .before .before .before .outcome2 .given .0 in
-    let os = observed (o .0 .observations) (a .trace .now) in
     omega (
       arith,
-      trace-length (a .n) os,
+      trace-length (a .n) (observed (o .0 .observations) (a .trace .now)),
       observed-length (o .0 .observations) (a .trace .now),
       summary-bound (o .0) (a .answer .depends) (a .answer .plain) (o .1 .0),
       c .before .before .before .before .before .before .before .before .before .before .before .before .good,
@@ -56,8 +59,7 @@ returns c =
     let a = c .before .before .before .before .before .before .before .before .before .before .before .args in
     let o = c .before .before .before .before .before .before .before .outcome .given in
     let n = c .before .before .before .before .before .refusal-number in
-    let e : _ = printed-refusal (a .n) (a .answer) (a .trace .now) (o .0 .0) (o .1) in
-    rw (e, ← (n .ensures)) (c .before .before .put-number-line .ensures)
+    rw (printed-refusal (a .n) (a .answer) (a .trace .now) (o .0 .0) (o .1), ← (n .ensures)) (c .before .before .put-number-line .ensures)
 
 same-length-2 : tie.Need-same-length-2
 same-length-2 c = search needs
