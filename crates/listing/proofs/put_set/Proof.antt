@@ -1,0 +1,48 @@
+-- `put_set` meets its contract: the word, the members and the newline one after the other. Assumes nothing.
+use native.Mathlib.Omega.{arith}
+use Rattle.rules.specs.Rules.Listing.{line, setLine}
+use Rattle.listing.specs.Lengths.{set-line-length}
+use Rattle.listing.proofs.Laws.{put-append}
+use borrow.Author.Needs.{needs}
+use Rattle.listing.proofs.put_set.Statement.{statement}
+use Rattle.listing.proofs.put_set.Tie as tie
+
+put-text-requires : tie.Need-put-text-requires
+put-text-requires c κs =
+    let a = c .before .before .before .args in
+    omega (arith, set-line-length (a .word .now) (a .s))
+
+put-members-requires : tie.Need-put-members-requires
+put-members-requires c κs =
+    let a = c .before .before .before .before .before .before .before .args in
+    omega (arith, set-line-length (a .word .now) (a .s))
+
+slice-aggregate-put-text : tie.Need-slice-aggregate-put-text
+slice-aggregate-put-text c = search needs
+
+put-text-requires-2 : tie.Need-put-text-requires-2
+put-text-requires-2 c κs =
+    let a = c .before .before .before .before .before .before .before .before .before .before .before .before .args in
+    omega (arith, set-line-length (a .word .now) (a .s))
+
+same-length : tie.Need-same-length
+same-length c = search needs
+
+returns : tie.Need-returns
+unfolding setLine line
+returns c =
+    let newline = c .before .before in
+    let inner = newline .before .before .before .before .before in
+    let word = inner .before .before .before .before in
+    put-append (put-append (word .put-text .ensures) (inner .put-members .ensures)) (newline .put-text2 .ensures)
+
+pub put-set-spec : {M : Type 1} → statement M
+put-set-spec =
+    tie.close
+    (tie.spec
+    put-text-requires
+    put-members-requires
+    slice-aggregate-put-text
+    put-text-requires-2
+    same-length
+    returns)

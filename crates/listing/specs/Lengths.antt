@@ -1,0 +1,150 @@
+-- How long a printed run can be: at most 30 bytes a line of the trace, and 11,372 bytes after them.
+-- Assumes nothing.
+use mathlib.Core.Path.{_≡_}
+use mathlib.Core.Bool.{Bool, true, false, cond}
+use mathlib.Core.List.{List, [], _∷_, _++_}
+use Prim.Native.Nat.{ℕ, zero, suc, _+_, _-_, _*_, _/_, _%_, _≤_}
+use native.Mathlib.Omega.{arith}
+use lib.Dec.{eqb, ltb}
+use lib.ListN.{length, length-append}
+use Rattle.location.specs.declared.LocationSet.{LocationSet}
+use Rattle.location.specs.Sets.{registers, limit, member}
+use Rattle.rules.specs.declared.Stop.{Stop}
+use Rattle.rules.specs.declared.Stop.the-variants.{Finished, Spent, TraceFull}
+use Rattle.rules.specs.declared.Verdict.{Verdict}
+use Rattle.rules.specs.declared.Verdict.the-variants as verdicts
+use Rattle.rules.specs.declared.Counts.{Counts}
+use Rattle.rules.specs.declared.RunOutcome.{RunOutcome}
+use Rattle.rules.specs.declared.RunOutcome.the-variants as runs
+use Rattle.rules.specs.declared.RunAnswer.{RunAnswer}
+use Rattle.rules.specs.Rules.Instructions.{Observation, start, rollback, pc, loaded, stored}
+use Rattle.rules.specs.Rules.Answers.{text, stopWord, verdictWord, refusalNumber}
+use Rattle.rules.specs.Rules.Listing.{digits, decimal, line, numberLine, placeText, observationLine, traceLines, locationText, members, setLine, summary, outcomeLines, answerLines}
+use Rattle.listing.specs.Lines.{observed}
+
+-- one of two texts
+either-length : (b : Bool) (x y : List ℕ) (m : ℕ) → length x ≤ m → length y ≤ m → length (cond b x y) ≤ m
+either-length true x y m p q = p
+either-length false x y m p q = q
+
+digits-length : (k n : ℕ) (rest : List ℕ) → length (digits k n rest) ≤ k + length rest
+unfolding digits
+digits-length zero n rest = omega arith
+digits-length (suc k) n rest =
+    either-length (ltb n 10) ((48 + n) ∷ rest) (digits k (n / 10) ((48 + n % 10) ∷ rest)) (suc k + length rest) (omega arith)
+    (omega (arith, digits-length k (n / 10) ((48 + n % 10) ∷ rest)))
+
+decimal-length : (n : ℕ) → length (decimal n) ≤ 20
+unfolding decimal
+decimal-length n = digits-length 20 n []
+
+line-length : (word rest : List ℕ) → length (line word rest) ≡ length word + length rest + 1
+unfolding line
+line-length word rest = omega (arith, length-append (word ++ rest) (10 ∷ []), length-append word rest)
+
+pub number-line-length : (word : List ℕ) (n : ℕ) → length (numberLine word n) ≡ length word + 1 + length (decimal n) + 1
+unfolding numberLine
+number-line-length word n = omega (arith, line-length word (32 ∷ decimal n))
+
+pub number-line-bound : (word : List ℕ) (n : ℕ) → length (numberLine word n) ≤ length word + 22
+number-line-bound word n = omega (arith, number-line-length word n, decimal-length n)
+
+-- ---- the trace
+observation-length : (n : ℕ) (o : Observation) → length (observationLine n o) ≤ 30
+unfolding observationLine text placeText
+observation-length n (start i) = omega (arith, number-line-bound (text "start") i)
+observation-length n (rollback i) = omega (arith, number-line-bound (text "rollback") i)
+observation-length n (pc p) =
+    omega (arith, line-length (text "pc") (32 ∷ placeText n p), either-length (eqb p n) (text "end") (decimal p) 20 (omega arith) (decimal-length p))
+observation-length n (loaded a) = omega (arith, number-line-bound (text "load") a)
+observation-length n (stored a) = omega (arith, number-line-bound (text "store") a)
+
+pub trace-length : (n : ℕ) (os : List Observation) → length (traceLines n os) ≤ 30 * length os
+unfolding traceLines
+trace-length n [] = omega arith
+trace-length n (o ∷ os) = omega (arith, length-append (observationLine n o) (traceLines n os), observation-length n o, trace-length n os)
+
+-- two words an observation
+pub observed-length : (k : ℕ) (ws : List ℕ) → 2 * length (observed k ws) ≤ length ws
+unfolding observed
+observed-length zero ws = omega arith
+observed-length (suc k) [] = omega arith
+observed-length (suc k) (x ∷ []) = omega arith
+observed-length (suc k) (x ∷ v ∷ ws) = omega (arith, observed-length k ws)
+
+-- ---- the sets
+location-length : (l : ℕ) → length (locationText l) ≤ 22
+unfolding locationText text
+location-length l =
+    either-length (ltb l registers) (text " r" ++ decimal l) (text " m" ++ decimal (l - registers)) 22 (omega (arith, decimal-length l))
+    (omega (arith, decimal-length (l - registers)))
+
+members-length : (s : LocationSet) (l k : ℕ) → length (members s l k) ≤ 22 * k
+unfolding members
+members-length s l zero = omega arith
+members-length s l (suc k) =
+    omega (
+      arith,
+      length-append (cond (member s l) (locationText l) []) (members s (l + 1) k),
+      either-length (member s l) (locationText l) [] 22 (location-length l) (omega arith),
+      members-length s (l + 1) k,
+    )
+
+pub set-line-length : (word : List ℕ) (s : LocationSet) → length (setLine word s) ≡ length word + length (members s 0 limit) + 1
+unfolding setLine
+set-line-length word s = line-length word (members s 0 limit)
+
+-- ---- the summary
+stop-length : (s : Stop) → length (stopWord s) ≤ 10
+unfolding text
+stop-length Finished = omega arith
+stop-length Spent = omega arith
+stop-length TraceFull = omega arith
+
+verdict-length : (v : Verdict) → length (verdictWord v) ≤ 11
+unfolding text
+verdict-length verdicts.Undecided = omega arith
+verdict-length verdicts.Clean = omega arith
+verdict-length verdicts.Speculative = omega arith
+verdict-length verdicts.Plain = omega arith
+
+pub summary-length : (c : Counts) (full plain : LocationSet) (v : Verdict)
+    → length (summary c full plain v)
+    ≡ length (line (text "stop ") (stopWord (c .stop)))
+    + length (numberLine (text "steps") (c .steps))
+    + length (numberLine (text "rollbacks") (c .rollbacks))
+    + length (setLine (text "depends") full)
+    + length (setLine (text "plain") plain)
+    + length (line (text "verdict ") (verdictWord v))
+unfolding summary
+summary-length c full plain v = simp length-append
+
+pub summary-bound : (c : Counts) (full plain : LocationSet) (v : Verdict) → length (summary c full plain v) ≤ 11372
+unfolding text
+summary-bound c full plain v =
+    omega (
+      arith,
+      summary-length c full plain v,
+      line-length (text "stop ") (stopWord (c .stop)),
+      stop-length (c .stop),
+      number-line-bound (text "steps") (c .steps),
+      number-line-bound (text "rollbacks") (c .rollbacks),
+      set-line-length (text "depends") full,
+      members-length full 0 limit,
+      set-line-length (text "plain") plain,
+      members-length plain 0 limit,
+      line-length (text "verdict ") (verdictWord v),
+      verdict-length v,
+    )
+
+-- ---- the whole
+outcome-bound : (n : ℕ) (os : List Observation) (full plain : LocationSet) (o : RunOutcome)
+    → length (outcomeLines n os full plain o) ≤ 30 * length os + 11372
+unfolding text
+outcome-bound n os full plain (runs.Refused r) = omega (arith, number-line-bound (text "refused") (refusalNumber r))
+outcome-bound n os full plain (runs.Ran c v) =
+    omega (arith, length-append (traceLines n os) (summary c full plain v), trace-length n os, summary-bound c full plain v)
+
+pub answer-bound : (n : ℕ) (os : List Observation) (a : RunAnswer) → length (answerLines n os a) ≤ 30 * length os + 11372
+unfolding answerLines
+answer-bound n os a = outcome-bound n os (a .depends) (a .plain) (a .outcome)

@@ -1,0 +1,4 @@
+pub mod Lines
+pub mod Areas
+pub mod Traces
+pub mod Lengths

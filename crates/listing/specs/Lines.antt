@@ -1,0 +1,45 @@
+-- What writing bytes into a lent area does, and the observations that the words of a trace stand for.
+-- Assumes nothing.
+use mathlib.Core.Path.{_≡_}
+use mathlib.Core.Bool.{cond}
+use mathlib.Core.List.{List, [], _∷_}
+use Prim.Native.Nat.{ℕ, zero, suc, _+_}
+use lib.ListN.{length, getD}
+use lib.Seq.{sets}
+use Rattle.location.specs.declared.LocationSet.{LocationSet}
+use Rattle.location.specs.Sets.{member}
+use Rattle.rules.specs.declared.RunOutcome.{RunOutcome}
+use Rattle.rules.specs.declared.RunOutcome.the-variants as runs
+use Rattle.rules.specs.declared.RunAnswer.{RunAnswer}
+use Rattle.rules.specs.Rules.Instructions.{Observation, start, rollback, pc, loaded, stored}
+use Rattle.rules.specs.Rules.Listing.{locationText, answerLines}
+
+-- The bytes are written from a place of an area on, as far as the area goes; all its other bytes keep their contents. The next
+-- place is the one after them, also where they do not fit.
+pub record Put (before : List ℕ) (at : ℕ) (bytes after : List ℕ) (next : ℕ) : Type 0 where
+  pub area : after ≡ sets before at bytes
+  pub place : next ≡ at + length bytes
+
+-- an observation by its two words; a kind over 4 stands in no trace
+unfoldable pub observationOf : ℕ → ℕ → Observation
+observationOf k v = getD (start ∷ rollback ∷ pc ∷ loaded ∷ []) k stored v
+
+-- the first k observations of these words, or as many as there are
+unfoldable pub observed : ℕ → List ℕ → List Observation
+observed zero ws = []
+observed (suc k) [] = []
+observed (suc k) (x ∷ []) = []
+observed (suc k) (x ∷ v ∷ ws) = observationOf x v ∷ observed k ws
+
+-- what is printed of a location in the line of a set
+abbrev pub memberText : LocationSet → ℕ → List ℕ
+memberText s l = cond (member s l) (locationText l) []
+
+-- how many observations an outcome counts
+abbrev pub count : RunOutcome → ℕ
+count (runs.Refused r) = 0
+count (runs.Ran c v) = c .observations
+
+-- the lines of an answer whose trace stands at the front of these words
+unfoldable pub printed : ℕ → RunAnswer → List ℕ → List ℕ
+printed n a trace = answerLines n (observed (count (a .outcome)) trace) a

@@ -1,0 +1,42 @@
+-- Printed from the words that a run leaves in its trace area, an answer's lines are those of the rules.
+-- Assumes nothing.
+use mathlib.Core.Path.{_≡_, refl, ap, _∙_}
+use mathlib.Core.List.{List, [], _∷_, _++_}
+use Prim.Native.Nat.{ℕ}
+use lib.ListN.{length, drop}
+use Rattle.rules.specs.declared.Refusal.{Refusal}
+use Rattle.rules.specs.declared.RunAnswer.{RunAnswer}
+use Rattle.rules.specs.Rules.Instructions.{Observation, start, rollback, pc, loaded, stored}
+use Rattle.rules.specs.Rules.Runs.{Job, Result}
+use Rattle.rules.specs.Rules.Calls.{traceWords, written, counts, runReport, runRefused}
+use Rattle.rules.specs.Rules.Listing.{answerLines}
+use Rattle.listing.specs.Lines.{observationOf, observed, count, printed}
+
+-- the words of a trace stand for the trace
+pub observed-words : (os : List Observation) (rest : List ℕ) → observed (length os) (traceWords os ++ rest) ≡ os
+unfolding observationOf observed traceWords
+observed-words [] rest = refl
+observed-words (start i ∷ os) rest = ap (λ (later : List Observation). start i ∷ later) (observed-words os rest)
+observed-words (rollback i ∷ os) rest = ap (λ (later : List Observation). rollback i ∷ later) (observed-words os rest)
+observed-words (pc p ∷ os) rest = ap (λ (later : List Observation). pc p ∷ later) (observed-words os rest)
+observed-words (loaded a ∷ os) rest = ap (λ (later : List Observation). loaded a ∷ later) (observed-words os rest)
+observed-words (stored a ∷ os) rest = ap (λ (later : List Observation). stored a ∷ later) (observed-words os rest)
+
+-- an answer that counts the observations whose words stand at the front
+pub printed-words : (n : ℕ) (os : List Observation) (rest : List ℕ) (a : RunAnswer) → count (a .outcome) ≡ length os
+    → printed n a (traceWords os ++ rest) ≡ answerLines n os a
+unfolding printed
+printed-words n os rest a e =
+    ap (λ (trace : List Observation). answerLines n trace a) (ap (λ (k : ℕ). observed k (traceWords os ++ rest)) e ∙ observed-words os rest)
+
+-- what a run reports, with its trace area after the call
+pub printed-report : (n : ℕ) (job : Job) (r : Result) (area : List ℕ)
+    → printed n (runReport job r) (written (traceWords (r .log .trace)) area) ≡ answerLines n (r .log .trace) (runReport job r)
+unfolding written runReport counts
+printed-report n job r area =
+    printed-words n (r .log .trace) (drop (length (traceWords (r .log .trace))) area) (runReport job r) refl
+
+-- a refused job, whatever stands in the area
+pub printed-refused : (n : ℕ) (cause : Refusal) (trace : List ℕ) → printed n (runRefused cause) trace ≡ answerLines 0 [] (runRefused cause)
+unfolding printed answerLines runRefused
+printed-refused n cause trace = refl

@@ -1,0 +1,259 @@
+// The printed run: the lines of an answer and its trace, written into an area of bytes that the caller lends.
+// Each function writes from a place on, as far as the area goes, and returns the next place.
+use location::Address;
+use location::Location;
+use location::LocationSet;
+use rules::Counts;
+use rules::Refusal;
+use rules::RunAnswer;
+use rules::RunOutcome;
+use rules::Stop;
+use rules::Verdict;
+ghost use mathlib.Core.Path.{_≡_};
+ghost use mathlib.Core.List.{_∷_, []};
+ghost use Prim.Native.Nat.{_+_, _^_, _<_};
+ghost use lib.ListN.{length, drop};
+ghost use Rattle.location.specs.Sets.{limit};
+ghost use Rattle.rules.specs.Rules.Answers.{text, stopWord, verdictWord, refusalNumber};
+ghost use Rattle.rules.specs.Rules.Instructions.{pc};
+ghost use Rattle.rules.specs.Rules.Listing.{decimal, line, numberLine, observationLine, traceLines, locationText, members, setLine, summary};
+ghost use Rattle.listing.specs.Lines.{Put, observationOf, observed, memberText, printed};
+
+// A number of 64 bits has at most 20 decimal digits; this is the place of the last.
+const LAST: usize = 19;
+
+// Cells are numbered after the registers.
+const REGISTERS: usize = Location::REGISTERS as usize;
+
+fn put_byte(out: &mut [u8], at: usize, byte: u8) -> usize
+    requires { ⌜ at + 1 < 2 ^ 64 ⌝ }
+    ensures { λ r. ⌜ Put (now (out .entry)) at (byte ∷ []) (now (out .exit)) r ⌝ }
+{
+    if at < out.len() {
+        out[at] = byte;
+    }
+    at + 1
+}
+
+fn put_text(out: &mut [u8], at: usize, bytes: &[u8]) -> usize
+    requires { ⌜ at + length (now bytes) < 2 ^ 64 ⌝ }
+    ensures { λ r. ⌜ Put (now (out .entry)) at (now (bytes .entry)) (now (out .exit)) r ⌝ }
+{
+    let mut next = at;
+    let mut i = 0;
+    while i < bytes.len() {
+        next = put_byte(&mut out[..], next, bytes[i]);
+        i += 1;
+    }
+    next
+}
+
+// The decimal digits of a number, lowest last, at the end of the buffer; the result is where they start.
+fn find_digits(buffer: &mut [u8], n: u64) -> usize
+    requires { ⌜ length (now buffer) ≡ 20 ⌝ }
+    ensures { λ r. ⌜ (r < 20) × (drop r (now (buffer .exit)) ≡ decimal n) ⌝ }
+{
+    let mut rest = n;
+    let mut i = LAST;
+    while 10 <= rest {
+        buffer[i] = b'0' + (rest % 10) as u8;
+        rest /= 10;
+        i -= 1;
+    }
+    buffer[i] = b'0' + rest as u8;
+    i
+}
+
+fn put_decimal(out: &mut [u8], at: usize, n: u64) -> usize
+    requires { ⌜ at + length (decimal n) < 2 ^ 64 ⌝ }
+    ensures { λ r. ⌜ Put (now (out .entry)) at (decimal n) (now (out .exit)) r ⌝ }
+{
+    let mut buffer = [0u8; 20];
+    let first = find_digits(&mut buffer, n);
+    put_text(out, at, &buffer[first..])
+}
+
+fn put_number_line(out: &mut [u8], at: usize, word: &[u8], n: u64) -> usize
+    requires { ⌜ at + length (numberLine (now word) n) < 2 ^ 64 ⌝ }
+    ensures { λ r. ⌜ Put (now (out .entry)) at (numberLine (now (word .entry)) n) (now (out .exit)) r ⌝ }
+{
+    let after_word = put_text(out, at, word);
+    let after_blank = put_text(out, after_word, b" ");
+    let after_digits = put_decimal(out, after_blank, n);
+    put_text(out, after_digits, b"\n")
+}
+
+// The place that was gone to; the number of instructions is the place END.
+fn put_place_line(out: &mut [u8], at: usize, n: u64, place: u64) -> usize
+    requires { ⌜ at + length (observationLine n (pc place)) < 2 ^ 64 ⌝ }
+    ensures { λ r. ⌜ Put (now (out .entry)) at (observationLine n (pc place)) (now (out .exit)) r ⌝ }
+{
+    if place == n {
+        return put_text(out, at, b"pc end\n");
+    }
+    put_number_line(out, at, b"pc", place)
+}
+
+fn put_observation(out: &mut [u8], at: usize, n: u64, kind: u64, value: u64) -> usize
+    requires { ⌜ at + length (observationLine n (observationOf kind value)) < 2 ^ 64 ⌝ }
+    ensures { λ r. ⌜ Put (now (out .entry)) at (observationLine n (observationOf kind value)) (now (out .exit)) r ⌝ }
+{
+    match kind {
+        0 => put_number_line(out, at, b"start", value),
+        1 => put_number_line(out, at, b"rollback", value),
+        2 => put_place_line(out, at, n, value),
+        3 => put_number_line(out, at, b"load", value),
+        _ => put_number_line(out, at, b"store", value),
+    }
+}
+
+// The first count observations of the trace, or as many as it has, two words each.
+fn put_trace(out: &mut [u8], at: usize, n: u64, count: usize, trace: &[u64]) -> usize
+    requires { ⌜ at + length (traceLines n (observed count (now trace))) < 2 ^ 64 ⌝ }
+    ensures { λ r. ⌜ Put (now (out .entry)) at (traceLines n (observed count (now (trace .entry)))) (now (out .exit)) r ⌝ }
+{
+    let mut next = at;
+    let mut left = count;
+    let mut i = 0;
+    while 0 < left && i + 1 < trace.len() {
+        next = put_observation(&mut out[..], next, n, trace[i], trace[i + 1]);
+        left -= 1;
+        i += 2;
+    }
+    next
+}
+
+// The register or cell that stands at a place of the numbering.
+fn location_of(l: usize) -> Location
+    ensures { λ r. ⌜ r .0 ≡ l ⌝ }
+{
+    if l < REGISTERS {
+        return Location::register(l as u8);
+    }
+    Location::cell(Address::new((l - REGISTERS) as u64))
+}
+
+fn put_location(out: &mut [u8], at: usize, l: usize) -> usize
+    requires { ⌜ at + length (locationText l) < 2 ^ 64 ⌝ }
+    ensures { λ r. ⌜ Put (now (out .entry)) at (locationText l) (now (out .exit)) r ⌝ }
+{
+    if l < REGISTERS {
+        let after_r = put_text(out, at, b" r");
+        return put_decimal(out, after_r, l as u64);
+    }
+    let cell = l - REGISTERS;
+    let after_m = put_text(out, at, b" m");
+    put_decimal(out, after_m, cell as u64)
+}
+
+fn put_member(out: &mut [u8], at: usize, s: LocationSet, l: usize) -> usize
+    requires { ⌜ at + length (memberText s l) < 2 ^ 64 ⌝ }
+    ensures { λ r. ⌜ Put (now (out .entry)) at (memberText s l) (now (out .exit)) r ⌝ }
+{
+    if s.member(location_of(l)) {
+        return put_location(out, at, l);
+    }
+    at
+}
+
+fn put_members(out: &mut [u8], at: usize, s: LocationSet) -> usize
+    requires { ⌜ at + length (members s 0 limit) < 2 ^ 64 ⌝ }
+    ensures { λ r. ⌜ Put (now (out .entry)) at (members s 0 limit) (now (out .exit)) r ⌝ }
+{
+    let mut next = at;
+    let mut left = LocationSet::LIMIT;
+    while 0 < left {
+        next = put_member(&mut out[..], next, s, LocationSet::LIMIT - left);
+        left -= 1;
+    }
+    next
+}
+
+fn put_set(out: &mut [u8], at: usize, word: &[u8], s: LocationSet) -> usize
+    requires { ⌜ at + length (setLine (now word) s) < 2 ^ 64 ⌝ }
+    ensures { λ r. ⌜ Put (now (out .entry)) at (setLine (now (word .entry)) s) (now (out .exit)) r ⌝ }
+{
+    let after_word = put_text(out, at, word);
+    let after_members = put_members(out, after_word, s);
+    put_text(out, after_members, b"\n")
+}
+
+fn put_stop(out: &mut [u8], at: usize, stop: Stop) -> usize
+    requires { ⌜ at + length (line (text "stop ") (stopWord stop)) < 2 ^ 64 ⌝ }
+    ensures { λ r. ⌜ Put (now (out .entry)) at (line (text "stop ") (stopWord stop)) (now (out .exit)) r ⌝ }
+{
+    match stop {
+        Stop::Finished => put_text(out, at, b"stop finished\n"),
+        Stop::Spent => put_text(out, at, b"stop spent\n"),
+        Stop::TraceFull => put_text(out, at, b"stop trace full\n"),
+    }
+}
+
+fn put_verdict(out: &mut [u8], at: usize, verdict: Verdict) -> usize
+    requires { ⌜ at + length (line (text "verdict ") (verdictWord verdict)) < 2 ^ 64 ⌝ }
+    ensures { λ r. ⌜ Put (now (out .entry)) at (line (text "verdict ") (verdictWord verdict)) (now (out .exit)) r ⌝ }
+{
+    match verdict {
+        Verdict::Undecided => put_text(out, at, b"verdict undecided\n"),
+        Verdict::Clean => put_text(out, at, b"verdict clean\n"),
+        Verdict::Speculative => put_text(out, at, b"verdict speculative\n"),
+        Verdict::Plain => put_text(out, at, b"verdict plain\n"),
+    }
+}
+
+fn refusal_number(cause: Refusal) -> u64
+    ensures { λ r. ⌜ r ≡ refusalNumber cause ⌝ }
+{
+    match cause {
+        Refusal::Length => 1,
+        Refusal::Trailer => 2,
+        Refusal::Offsets => 3,
+        Refusal::Encoding => 4,
+        Refusal::Postfix => 5,
+        Refusal::BranchLabel => 6,
+        Refusal::Surplus => 7,
+        Refusal::PublicList => 8,
+        Refusal::SecondState => 9,
+        Refusal::Areas => 10,
+    }
+}
+
+fn put_summary(
+    out: &mut [u8],
+    at: usize,
+    counts: Counts,
+    full: LocationSet,
+    plain: LocationSet,
+    verdict: Verdict,
+) -> usize
+    requires { ⌜ at + length (summary counts full plain verdict) < 2 ^ 64 ⌝ }
+    ensures { λ r. ⌜ Put (now (out .entry)) at (summary counts full plain verdict) (now (out .exit)) r ⌝ }
+{
+    let stop = counts.stop;
+    let after_stop = put_stop(out, at, stop);
+    let after_steps = put_number_line(out, after_stop, b"steps", counts.steps as u64);
+    let after_rollbacks = put_number_line(out, after_steps, b"rollbacks", counts.rollbacks as u64);
+    let after_full = put_set(out, after_rollbacks, b"depends", full);
+    let after_plain = put_set(out, after_full, b"plain", plain);
+    put_verdict(out, after_plain, verdict)
+}
+
+// The lines of an answer of a program with n instructions, whose trace stands at the front of `trace`. The result is their
+// length; the area holds them from its front as far as they fit, and all its other bytes keep their contents.
+pub fn write_answer(n: usize, answer: RunAnswer, trace: &[u64], out: &mut [u8]) -> usize
+    ensures { λ r. ⌜ Put (now (out .entry)) 0 (printed n answer (now (trace .entry))) (now (out .exit)) r ⌝ }
+{
+    let outcome = answer.outcome;
+    match outcome {
+        RunOutcome::Refused(cause) => {
+            let number = refusal_number(cause);
+            put_number_line(out, 0, b"refused", number)
+        }
+        RunOutcome::Ran(counts, verdict) => {
+            let full = answer.depends;
+            let plain = answer.plain;
+            let next = put_trace(out, 0, n as u64, counts.observations, trace);
+            put_summary(out, next, counts, full, plain, verdict)
+        }
+    }
+}
