@@ -53,6 +53,29 @@
  *
  * Limits: n 1 to 512, m 0 to 240, w 0 to 200, b 0 to 1,000,000.
  *
+ * An instruction is a kind byte, then its fields:
+ *
+ *   0 skip
+ *   1 assign              register, expression
+ *   2 load                register, address expression
+ *   3 store               register, address expression
+ *   4 jmp                 expression
+ *   5 beqz                register, label of 2 bytes
+ *   6 conditional assign  register, condition expression, expression
+ *   7 spbarr
+ *
+ * A register is one byte, 0 to 15. Instructions have the labels 0 to n - 1 in
+ * order; n is the end of the routine. An expression is a byte with its token
+ * count, 1 to 16, then the tokens in postfix, the left operand first:
+ *
+ *   0 to 15 a register; 16 a constant, 8 bytes after it; 17 neg, 18 not;
+ *   19 add, 20 sub, 21 mul, 22 and, 23 or, 24 xor, 25 shl, 26 shr, 27 eq,
+ *   28 ult (unsigned less)
+ *
+ * All words are unsigned and wrap modulo 2^64. A shift by 64 or more gives 0.
+ * eq and ult give 1 or 0. A load outside memory reads 0, a store there changes
+ * nothing; both are observed.
+ *
  * A location is a register or a memory cell: register r is location r, memory
  * cell a is location 16 + a. There are 16 + m of them, at most 256.
  *
