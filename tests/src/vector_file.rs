@@ -178,8 +178,7 @@ impl Vector {
 
     fn check_call(&self, operation: Operation) -> Result<(), String> {
         let job = self.bytes("job")?;
-        let second =
-            if operation == Operation::Pair { self.bytes("second")? } else { Vec::new() };
+        let second = if operation == Operation::Pair { self.bytes("second")? } else { Vec::new() };
         let lengths = self.lengths(operation)?;
         let call = Call { operation, job: &job, second: &second, lengths, fill: FILL };
         match call.by_library().difference(&self.expected(operation)?) {
