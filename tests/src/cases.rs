@@ -90,7 +90,12 @@ fn treat(case: &mut Case, parts: Parts, random: &mut Random) {
         Treatment::BudgetCut => cut_budget(case, random),
         Treatment::TraceCut => cut_trace(case, random),
         Treatment::AreaLengths => case.lengths = any_lengths(parts.state.len(), random),
-        Treatment::SecondLength => change_length(&mut case.second, random),
+        Treatment::SecondLength => {
+            change_length(&mut case.second, random);
+            if random.one_in(3) {
+                case.lengths = any_lengths(parts.state.len(), random);
+            }
+        }
         Treatment::OneRefusal => {
             case.job = refused_with(random.between(1, 8) as u32, parts, random)
         }

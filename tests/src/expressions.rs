@@ -81,7 +81,8 @@ impl Pool {
         let register = Token::Register(self.register(random));
         match random.below(8) {
             0 => vec![Token::Constant(random.below(self.cells + 2))],
-            1 | 2 => vec![register],
+            1 => vec![Token::Constant(self.cells.saturating_sub(random.below(2)))],
+            2 => vec![register],
             3 => vec![register, Token::Constant(random.below(4)), ADD],
             4 | 5 => vec![register, Token::Constant(self.cells.next_power_of_two() - 1), AND],
             6 => vec![Token::Constant(u64::MAX - random.below(18))],

@@ -6,7 +6,7 @@ use crate::cases::{Case, Treatment, WORKING_WORDS};
 use crate::examples::{barrier, nested, printed, r0_zero};
 use crate::fixed_files;
 use crate::fixed_runs;
-use crate::job_file::{state_bytes, Parts};
+use crate::job_file::{beqz, set_field, skip, state_bytes, Field, Parts};
 
 pub type Cases = Vec<Case>;
 
@@ -19,6 +19,7 @@ pub fn all() -> Cases {
     lengths_around_bounds(&mut cases);
     cuts_of_runs(&mut cases);
     second_states(&mut cases);
+    refusals_together(&mut cases);
     fixed_files::add(&mut cases);
     fixed_runs::add(&mut cases);
     for (number, case) in cases.iter_mut().enumerate() {
@@ -93,6 +94,44 @@ fn second_states(cases: &mut Cases) {
             let mut second = parts.state.clone();
             second[location] ^= 1;
             cases.push(raw_case(parts.bytes(), state_bytes(&second), ROOMY));
+        }
+    }
+}
+
+/// A file for each refusal from 1 to 8, and one that is accepted.
+fn file_of_each_refusal() -> [Vec<u8>; 9] {
+    let whole = printed().bytes();
+    let changed = |field, number| {
+        let mut job = printed().bytes();
+        set_field(&mut job, field, number);
+        job
+    };
+    let of_program = |program| Parts { program, ..printed() }.bytes();
+    let mut public = printed();
+    public.public.push(20);
+    [
+        whole[..15].to_vec(),
+        changed(Field::Window, 201),
+        changed(Field::ListOffset, 187),
+        of_program(vec![vec![8]]),
+        of_program(vec![vec![4, 1, 19]]),
+        of_program(vec![beqz(0, 1)]),
+        of_program(vec![skip(), vec![0, 0]]),
+        public.bytes(),
+        whole,
+    ]
+}
+
+/// Each refusal of a file together with a second state and areas that would be refused as well.
+fn refusals_together(cases: &mut Cases) {
+    for job in file_of_each_refusal() {
+        for second in [159, 160, 161] {
+            for (work, end) in [(4_096, 20), (4_095, 20), (4_096, 19), (0, 0)] {
+                for second_trace in [40, 41] {
+                    let lengths = Lengths { trace: 40, second_trace, end, work };
+                    cases.push(raw_case(job.clone(), vec![0; second], lengths));
+                }
+            }
         }
     }
 }

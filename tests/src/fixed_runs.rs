@@ -37,25 +37,28 @@ fn operators(cases: &mut Cases) {
     }
 }
 
-/// Addresses on both sides of m, around 16 less than 2^64, and at the very top; on a wrong path too.
+/// Addresses on both sides of m, around 16 less than 2^64, and at the very top. Where r1 is 0 the
+/// stores are made on a wrong path only, and the loads after them show what was restored.
 fn memory_edges(cases: &mut Cases) {
+    let [address, value, loaded] = [0, 2, 3].map(Token::Register);
+    let program = vec![
+        beqz(1, 3),
+        store(2, &[address]),
+        load(3, &[address, value, XOR, value, XOR]),
+        load(3, &[address]),
+        load(4, &[loaded]),
+    ];
     for cells in [0, 1, 5, 239, 240] {
         let near = (0..6).chain(cells.max(3) - 3..cells + 20);
         let top = (0..20).map(|below| u64::MAX - below);
         for address in near.chain([255, 256, 1 << 32, 1 << 63]).chain(top) {
-            let program = vec![
-                assign(5, &[Token::Register(0)]),
-                beqz(1, 4),
-                store(2, &[Token::Register(5)]),
-                load(3, &[Token::Register(5)]),
-                store(4, &[Token::Register(5)]),
-                load(6, &[Token::Register(5), Token::Register(3), XOR]),
-            ];
-            let mut parts = Parts::new(program, cells as usize, 6, 100);
-            parts.state[0] = address;
-            parts.state[2] = 77;
-            parts.state[4] = 78;
-            cases.push(case_of(&parts, ROOMY));
+            for taken in [0, 1] {
+                let mut parts = Parts::new(program.clone(), cells as usize, 6, 100);
+                parts.state[0] = address;
+                parts.state[1] = taken;
+                parts.state[2] = 77;
+                cases.push(case_of(&parts, ROOMY));
+            }
         }
     }
 }
