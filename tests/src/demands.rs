@@ -3,7 +3,7 @@
 
 use check_box_reference::strike_out;
 
-use crate::calls::{pairs, Call, Operation, Outcome};
+use crate::calls::{pairs, Call, Lengths, Operation, Outcome};
 use crate::cases::Case;
 use crate::job_file::{field, Field, LIST_BYTES, TRAILER_BYTES};
 use crate::lend::Fill;
@@ -54,6 +54,7 @@ pub fn states_alike(
         let changed = changed_outside(&case.job, public_of(&case.job), 1, random);
         tally.clean_states_changed += u64::from(changed != state_of(&case.job));
         same_run(case, run, &changed, margin, random)?;
+        same_pair(case, run, &changed, margin, random)?;
     }
     Ok(())
 }
@@ -81,11 +82,20 @@ fn changed_outside(job: &[u8], kept: [u64; 4], one_in: u64, random: &mut Random)
     let mut state = state_of(job).to_vec();
     for (location, bytes) in state.chunks_exact_mut(8).enumerate() {
         if !has(kept, location) && random.one_in(one_in) {
-            let word = if random.one_in(3) { random.word() } else { random.below(9) };
-            bytes.copy_from_slice(&word.to_le_bytes());
+            let old = u64::from_le_bytes((&*bytes).try_into().expect("eight bytes"));
+            bytes.copy_from_slice(&other_word(old, random).to_le_bytes());
         }
     }
     state
+}
+
+fn other_word(old: u64, random: &mut Random) -> u64 {
+    let word = if random.one_in(3) { random.word() } else { random.below(9) };
+    if word == old {
+        old ^ 1
+    } else {
+        word
+    }
 }
 
 /// The job with other bytes as its state.
@@ -127,7 +137,7 @@ fn same_pair(
     random: &mut Random,
 ) -> Result<(), String> {
     let fill = Fill { salt: random.word(), margin };
-    let lengths = crate::calls::Lengths { second_trace: case.lengths.trace, ..case.lengths };
+    let lengths = Lengths { second_trace: case.lengths.trace, ..case.lengths };
     let call = Call { operation: Operation::Pair, job: &case.job, second: state, lengths, fill };
     let pair = call.by_library();
     let answer = pair.answer();

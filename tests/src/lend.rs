@@ -54,7 +54,7 @@ impl Area {
             pairs.enumerate().filter(|(_, (got, want))| got != want).map(|(at, _)| at).collect();
         let &first = differing.first()?;
         Some(format!(
-            "{} words differ, the first at {}: {} instead of {}",
+            "words that differ: {}; the first, at {}, is {} instead of {}",
             differing.len(),
             first as i64 - self.margin as i64,
             self.words[first],
