@@ -39,7 +39,15 @@ fn main() -> ExitCode {
     measure_all(rounds.unwrap_or(DEFAULT_ROUNDS))
 }
 
+/// The processor's name as Linux gives it.
+fn processor() -> String {
+    let text = std::fs::read_to_string("/proc/cpuinfo").unwrap_or_default();
+    let name = text.lines().find_map(|line| line.strip_prefix("model name"));
+    name.map_or("unknown", |rest| rest.trim_start_matches([' ', '\t', ':'])).to_string()
+}
+
 fn measure_all(rounds: usize) -> ExitCode {
+    println!("processor: {}", processor());
     println!("best of {rounds} rounds; each round runs the three one after the other");
     println!(
         "areas: the same for all calls, written once before the first round (warm), not cleared"
