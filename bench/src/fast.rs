@@ -1,0 +1,87 @@
+//! An optimised Rust implementation of document 01's mispredicting run, written to be fast.
+//!
+//! - The program is decoded once into instructions of fixed size; short expressions have shapes of
+//!   their own, and in long ones an operand is joined to the operator that follows it.
+//! - The set of an expression is the union of the sets of its registers, so sets are not carried
+//!   along token by token.
+//! - Sets have as many words as the job's locations need, not always four.
+//! - A wrong path keeps an undo log instead of copies of the state.
+//! - The state, the log and the open branches stand in the lent working area. Nothing is allocated
+//!   in a run; the buffers of the decoded program are kept from one job to the next.
+
+mod decode;
+mod expression;
+mod machine;
+
+use decode::{Decoded, Header};
+use machine::{Machine, Outcome};
+
+pub const ANSWER_WORDS: usize = 13;
+const WORKING_WORDS: usize = 4_096;
+const AREAS: u32 = 10;
+
+/// The decoded program's buffers, used again by each run.
+#[derive(Default)]
+pub struct Checker {
+    decoded: Decoded,
+}
+
+impl Checker {
+    /// As `checker_run`: 0 or the refusal number; the answer is untouched by a refusal.
+    pub fn run(
+        &mut self,
+        job: &[u8],
+        trace: &mut [u64],
+        end: &mut [u64],
+        work: &mut [u64],
+        answer: &mut [u64; ANSWER_WORDS],
+    ) -> u32 {
+        match self.try_run(job, trace, end, work, answer) {
+            Ok(()) => 0,
+            Err(number) => number,
+        }
+    }
+
+    fn try_run(
+        &mut self,
+        job: &[u8],
+        trace: &mut [u64],
+        end: &mut [u64],
+        work: &mut [u64],
+        answer: &mut [u64; ANSWER_WORDS],
+    ) -> Result<(), u32> {
+        let header = Header::read(job)?;
+        self.decoded.read(&job[..header.state], header.instructions)?;
+        let public = header.public(job)?;
+        if work.len() < WORKING_WORDS || end.len() < header.locations {
+            return Err(AREAS);
+        }
+        let work = &mut work[..WORKING_WORDS];
+        let end = &mut end[..header.locations];
+        let outcome = match header.locations.div_ceil(64) {
+            1 => self.run_with::<1>(job, &header, trace, end, work),
+            2 => self.run_with::<2>(job, &header, trace, end, work),
+            3 => self.run_with::<3>(job, &header, trace, end, work),
+            _ => self.run_with::<4>(job, &header, trace, end, work),
+        };
+        work.fill(0);
+        outcome.write(&public, answer);
+        Ok(())
+    }
+
+    /// The run with sets of so many words.
+    fn run_with<const WORDS: usize>(
+        &self,
+        job: &[u8],
+        header: &Header,
+        trace: &mut [u64],
+        end: &mut [u64],
+        work: &mut [u64],
+    ) -> Outcome {
+        let state = &job[header.state..header.list];
+        let mut machine = Machine::<WORDS>::new(&self.decoded, header, state, trace, work);
+        let stop = machine.run();
+        end.copy_from_slice(machine.values(header.locations));
+        machine.outcome(stop, header.budget)
+    }
+}

@@ -1,0 +1,472 @@
+//! The mispredicting run on a decoded program.
+
+use super::decode::{Decoded, Header, Instruction};
+use super::expression::{evaluate, register, Expression, Step, Values};
+use super::ANSWER_WORDS;
+
+const START: u64 = 0;
+const ROLLBACK: u64 = 1;
+const PC: u64 = 2;
+const LOAD: u64 = 3;
+const STORE: u64 = 4;
+
+const REGISTERS: usize = 16;
+
+/// A set of locations in as many words as the job needs.
+type Set<const WORDS: usize> = [u64; WORDS];
+
+#[derive(Clone, Copy, PartialEq, Eq)]
+pub enum Stop {
+    Finished,
+    Spent,
+    TraceFull,
+}
+
+/// The answer of a run, with sets of four words, but for the verdict.
+pub struct Outcome {
+    stop: Stop,
+    observations: u64,
+    steps: u64,
+    rollbacks: u64,
+    depends: [u64; 4],
+    plain: [u64; 4],
+}
+
+/// A run in progress. All tables have 256 entries, so that a byte is always a valid index.
+pub struct Machine<'a, const WORDS: usize> {
+    instructions: &'a [Instruction],
+    steps: &'a [Step],
+    values: &'a mut Values,
+    sets: &'a mut [Set<WORDS>; 256],
+    /// The undo log: location, old value and old set of each change on the open paths.
+    logged: &'a mut [u64; 256],
+    old_values: &'a mut [u64; 256],
+    old_sets: &'a mut [Set<WORDS>; 256],
+    /// The open branches, packed as by `frame`.
+    frames: &'a mut [u64; 256],
+    trace: &'a mut [[u64; 2]],
+    count: usize,
+    cells: u64,
+    first_window: u8,
+    left: u32,
+    place: usize,
+    opened: u64,
+    rollbacks: u64,
+    depth: u8,
+    /// The top's window, while a branch is open.
+    window: u8,
+    log_length: u8,
+    /// Observed with nothing open, and with a branch open.
+    plain: Set<WORDS>,
+    wrong: Set<WORDS>,
+}
+
+/// An open branch in one word: id, true target, the window left to the branch below, and the length
+/// of the log when it was opened.
+fn frame(id: u64, target: usize, window: u8, log_length: u8) -> u64 {
+    id << 32 | (target as u64) << 16 | u64::from(window) << 8 | u64::from(log_length)
+}
+
+#[inline(always)]
+fn union<const WORDS: usize>(one: &Set<WORDS>, other: &Set<WORDS>) -> Set<WORDS> {
+    let mut result = *one;
+    join(&mut result, other);
+    result
+}
+
+#[inline(always)]
+fn join<const WORDS: usize>(set: &mut Set<WORDS>, other: &Set<WORDS>) {
+    for (word, more) in set.iter_mut().zip(other) {
+        *word |= more;
+    }
+}
+
+/// The union of the sets of the registers whose bits are set.
+fn set_of<const WORDS: usize>(registers: u16, sets: &[Set<WORDS>; 256]) -> Set<WORDS> {
+    let mut result = [0; WORDS];
+    let mut left = registers;
+    while left != 0 {
+        join(&mut result, &sets[left.trailing_zeros() as usize]);
+        left &= left - 1;
+    }
+    result
+}
+
+/// A table of 256 sets at the front of the words, and the words behind it.
+fn set_table<const WORDS: usize>(words: &mut [u64]) -> (&mut [Set<WORDS>; 256], &mut [u64]) {
+    let (front, rest) = words.split_at_mut(256 * WORDS);
+    let (sets, _) = front.as_chunks_mut::<WORDS>();
+    (sets.try_into().expect("256 sets"), rest)
+}
+
+/// Each location has its word of the job's state, and depends on itself alone.
+fn start_state<const WORDS: usize>(
+    state: &[u8],
+    values: &mut Values,
+    sets: &mut [Set<WORDS>; 256],
+) {
+    let (initial, _) = state.as_chunks::<8>();
+    for (location, bytes) in initial.iter().enumerate().take(256) {
+        values[location] = u64::from_le_bytes(*bytes);
+        sets[location] = [0; WORDS];
+        sets[location][location / 64 % WORDS] = 1 << (location % 64);
+    }
+}
+
+fn word_table(words: &mut [u64]) -> (&mut [u64; 256], &mut [u64]) {
+    words.split_first_chunk_mut().expect("the working area is long enough")
+}
+
+impl<'a, const WORDS: usize> Machine<'a, WORDS> {
+    /// The start of a run; the tables stand in the working area.
+    #[inline(always)]
+    pub fn new(
+        decoded: &'a Decoded,
+        header: &Header,
+        state: &[u8],
+        trace: &'a mut [u64],
+        work: &'a mut [u64],
+    ) -> Machine<'a, WORDS> {
+        let (values, rest) = word_table(work);
+        let (logged, rest) = word_table(rest);
+        let (old_values, rest) = word_table(rest);
+        let (frames, rest) = word_table(rest);
+        let (sets, rest) = set_table(rest);
+        let (old_sets, _) = set_table(rest);
+        start_state(state, values, sets);
+        Machine {
+            instructions: &decoded.instructions,
+            steps: &decoded.steps,
+            values,
+            sets,
+            logged,
+            old_values,
+            old_sets,
+            frames,
+            trace: trace.as_chunks_mut().0,
+            count: 0,
+            cells: (header.locations - REGISTERS) as u64,
+            first_window: header.window,
+            left: header.budget,
+            place: 0,
+            opened: 0,
+            rollbacks: 0,
+            depth: 0,
+            window: 0,
+            log_length: 0,
+            plain: [0; WORDS],
+            wrong: [0; WORDS],
+        }
+    }
+
+    #[inline(always)]
+    pub fn values(&self, locations: usize) -> &[u64] {
+        &self.values[..locations]
+    }
+
+    #[inline(always)]
+    pub fn outcome(&self, stop: Stop, budget: u32) -> Outcome {
+        let widened = |set: &Set<WORDS>| {
+            let mut words = [0; 4];
+            words[..WORDS].copy_from_slice(set);
+            words
+        };
+        Outcome {
+            stop,
+            observations: self.count as u64,
+            steps: u64::from(budget - self.left),
+            rollbacks: self.rollbacks,
+            depends: widened(&union(&self.plain, &self.wrong)),
+            plain: widened(&self.plain),
+        }
+    }
+
+    /// Plain steps until a branch opens, then wrong paths until none is open, and again.
+    #[inline(always)]
+    pub fn run(&mut self) -> Stop {
+        loop {
+            if let Some(stop) = self.plain_path() {
+                return stop;
+            }
+            if let Some(stop) = self.wrong_paths() {
+                return stop;
+            }
+        }
+    }
+
+    /// Steps with nothing open; none if a branch was opened.
+    #[inline(always)]
+    fn plain_path(&mut self) -> Option<Stop> {
+        loop {
+            let instruction = &self.instructions[self.place];
+            if let Instruction::End = instruction {
+                return Some(Stop::Finished);
+            }
+            if self.left == 0 {
+                return Some(Stop::Spent);
+            }
+            if !self.carry_out::<false>(instruction) {
+                return Some(Stop::TraceFull);
+            }
+            self.left -= 1;
+            if self.depth != 0 {
+                return None;
+            }
+        }
+    }
+
+    /// Steps with a branch open; none if the last one was rolled back.
+    #[inline(always)]
+    fn wrong_paths(&mut self) -> Option<Stop> {
+        loop {
+            let instruction = &self.instructions[self.place];
+            if self.left == 0 {
+                return Some(Stop::Spent);
+            }
+            let made = if self.window == 0 || matches!(instruction, Instruction::End) {
+                self.roll_back()
+            } else {
+                self.carry_out::<true>(instruction)
+            };
+            if !made {
+                return Some(Stop::TraceFull);
+            }
+            self.left -= 1;
+            if self.depth == 0 {
+                return None;
+            }
+        }
+    }
+
+    /// Rules 2 and 3; false if the observations do not fit. Every window cost is 1.
+    #[inline(always)]
+    fn carry_out<const OPEN: bool>(&mut self, instruction: &Instruction) -> bool {
+        match *instruction {
+            Instruction::Skip | Instruction::End => {}
+            // Going on lowers the window, so 1 becomes 0.
+            Instruction::Barrier => self.window = 1,
+            Instruction::Assign { register, value } => {
+                let (value, set) = self.evaluate(value);
+                self.change::<OPEN>(register, value, set);
+            }
+            Instruction::Conditional { register, condition, value } => {
+                self.assign_if::<OPEN>(register, condition, value);
+            }
+            Instruction::Load { register, address } => return self.load::<OPEN>(register, address),
+            Instruction::Store { register, address } => {
+                return self.store::<OPEN>(register, address)
+            }
+            Instruction::Jump { target } => return self.jump::<OPEN>(target),
+            Instruction::Branch { register, label } => return self.open::<OPEN>(register, label),
+        }
+        self.go_on::<OPEN>(self.place + 1);
+        true
+    }
+
+    #[inline(always)]
+    fn go_on<const OPEN: bool>(&mut self, place: usize) {
+        self.place = place;
+        if OPEN {
+            self.window -= 1;
+        }
+    }
+
+    /// The value and the set of an expression.
+    #[inline(always)]
+    fn evaluate(&self, expression: Expression) -> (u64, Set<WORDS>) {
+        let value = |index| register(self.values, index);
+        let set = |index: u8| self.sets[usize::from(index)];
+        match expression {
+            Expression::Register(index) => (value(index), set(index)),
+            Expression::Constant(value) => (value, [0; WORDS]),
+            Expression::TwoRegisters(operator, left, right) => {
+                (operator.apply(value(left), value(right)), union(&set(left), &set(right)))
+            }
+            Expression::RegisterConstant(operator, left, right) => {
+                (operator.apply(value(left), right), set(left))
+            }
+            Expression::Steps { start, count, registers } => {
+                let start = usize::from(start);
+                let steps = &self.steps[start..start + usize::from(count)];
+                (evaluate(steps, self.values), set_of(registers, self.sets))
+            }
+        }
+    }
+
+    #[inline(always)]
+    fn gather<const OPEN: bool>(&mut self, set: &Set<WORDS>) {
+        join(if OPEN { &mut self.wrong } else { &mut self.plain }, set);
+    }
+
+    /// Changes a location; on a wrong path the old contents are logged first.
+    #[inline(always)]
+    fn change<const OPEN: bool>(&mut self, location: u8, value: u64, set: Set<WORDS>) {
+        let at = usize::from(location);
+        if OPEN {
+            let log = usize::from(self.log_length);
+            self.logged[log] = u64::from(location);
+            self.old_values[log] = self.values[at];
+            self.old_sets[log] = self.sets[at];
+            self.log_length = self.log_length.wrapping_add(1);
+        }
+        self.values[at] = value;
+        self.sets[at] = set;
+    }
+
+    #[inline(always)]
+    fn assign_if<const OPEN: bool>(&mut self, to: u8, condition: Expression, value: Expression) {
+        let (condition, mut set) = self.evaluate(condition);
+        if condition != 0 {
+            let (value, more) = self.evaluate(value);
+            join(&mut set, &more);
+            self.change::<OPEN>(to, value, set);
+        } else {
+            join(&mut set, &self.sets[usize::from(to)]);
+            self.change::<OPEN>(to, register(self.values, to), set);
+        }
+    }
+
+    /// Writes one observation; false if it does not fit.
+    #[inline(always)]
+    fn observe(&mut self, kind: u64, value: u64) -> bool {
+        match self.trace.get_mut(self.count) {
+            Some(slot) => {
+                *slot = [kind, value];
+                self.count += 1;
+                true
+            }
+            None => false,
+        }
+    }
+
+    /// Writes two observations; false if they do not both fit.
+    #[inline(always)]
+    fn observe_two(&mut self, first: [u64; 2], second: [u64; 2]) -> bool {
+        match self.trace.get_mut(self.count..self.count + 2) {
+            Some(slots) => {
+                slots[0] = first;
+                slots[1] = second;
+                self.count += 2;
+                true
+            }
+            None => false,
+        }
+    }
+
+    #[inline(always)]
+    fn load<const OPEN: bool>(&mut self, to: u8, address: Expression) -> bool {
+        let (address, mut set) = self.evaluate(address);
+        if !self.observe(LOAD, address) {
+            return false;
+        }
+        self.gather::<OPEN>(&set);
+        let mut value = 0;
+        if address < self.cells {
+            let cell = usize::from(address as u8 + REGISTERS as u8);
+            value = self.values[cell];
+            join(&mut set, &self.sets[cell]);
+        }
+        self.change::<OPEN>(to, value, set);
+        self.go_on::<OPEN>(self.place + 1);
+        true
+    }
+
+    #[inline(always)]
+    fn store<const OPEN: bool>(&mut self, from: u8, address: Expression) -> bool {
+        let (address, mut set) = self.evaluate(address);
+        if !self.observe(STORE, address) {
+            return false;
+        }
+        self.gather::<OPEN>(&set);
+        if address < self.cells {
+            join(&mut set, &self.sets[usize::from(from)]);
+            let value = register(self.values, from);
+            self.change::<OPEN>(address as u8 + REGISTERS as u8, value, set);
+        }
+        self.go_on::<OPEN>(self.place + 1);
+        true
+    }
+
+    #[inline(always)]
+    fn jump<const OPEN: bool>(&mut self, target: Expression) -> bool {
+        let (target, set) = self.evaluate(target);
+        let place = target.min(self.instructions.len() as u64 - 1);
+        if !self.observe(PC, place) {
+            return false;
+        }
+        self.gather::<OPEN>(&set);
+        self.go_on::<OPEN>(place as usize);
+        true
+    }
+
+    /// Rule 2.
+    #[inline(always)]
+    fn open<const OPEN: bool>(&mut self, tested: u8, label: u16) -> bool {
+        let next = self.place + 1;
+        let label = usize::from(label);
+        let zero = register(self.values, tested) == 0;
+        let (target, wrong) = if zero { (label, next) } else { (next, label) };
+        if !self.observe_two([START, self.opened], [PC, wrong as u64]) {
+            return false;
+        }
+        let set = self.sets[usize::from(tested)];
+        self.gather::<OPEN>(&set);
+        self.window = if OPEN { self.window - 1 } else { self.first_window };
+        let packed = frame(self.opened, target, self.window, self.log_length);
+        self.frames[usize::from(self.depth)] = packed;
+        self.depth = self.depth.wrapping_add(1);
+        self.opened += 1;
+        self.place = wrong;
+        true
+    }
+
+    /// Rule 1. The window that a branch opened with is what it left to the branch below it.
+    #[inline(always)]
+    fn roll_back(&mut self) -> bool {
+        let packed = self.frames[usize::from(self.depth.wrapping_sub(1))];
+        let target = packed >> 16 & 0xFFFF;
+        if !self.observe_two([ROLLBACK, packed >> 32], [PC, target]) {
+            return false;
+        }
+        self.depth = self.depth.wrapping_sub(1);
+        self.undo_to(packed as u8);
+        self.window = (packed >> 8) as u8;
+        self.place = target as usize;
+        self.rollbacks += 1;
+        true
+    }
+
+    #[inline(always)]
+    fn undo_to(&mut self, length: u8) {
+        while self.log_length > length {
+            self.log_length -= 1;
+            let log = usize::from(self.log_length);
+            let at = usize::from(self.logged[log] as u8);
+            self.values[at] = self.old_values[log];
+            self.sets[at] = self.old_sets[log];
+        }
+    }
+}
+
+impl Outcome {
+    /// Writes the answer with its verdict.
+    pub fn write(&self, public: &[u64; 4], answer: &mut [u64; ANSWER_WORDS]) {
+        let outside = |set: &[u64; 4], kept: &[u64; 4]| (0..4).any(|at| set[at] & !kept[at] != 0);
+        let verdict = if self.stop != Stop::Finished {
+            0
+        } else if !outside(&self.depends, public) {
+            1
+        } else if outside(&self.depends, &union(public, &self.plain)) {
+            2
+        } else {
+            3
+        };
+        answer[0] = self.stop as u64;
+        answer[1] = self.observations;
+        answer[2] = self.steps;
+        answer[3] = self.rollbacks;
+        answer[4..8].copy_from_slice(&self.depends);
+        answer[8..12].copy_from_slice(&self.plain);
+        answer[12] = verdict;
+    }
+}

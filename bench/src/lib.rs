@@ -1,0 +1,6 @@
+//! Benchmarks of the checker: an optimised Rust implementation to measure the library against, and
+//! the jobs that are measured.
+
+pub mod fast;
+pub mod jobs;
+pub mod verify;

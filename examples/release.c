@@ -1,0 +1,111 @@
+/*
+ * release.c: decides by a job file whether a routine may be released.
+ *
+ *   release JOB.mua
+ *
+ * Prints the verdict, the counts and the first observations of the mispredicting
+ * run. The exit status is 0 if the verdict is clean, 1 if it is another one, and
+ * 2 if the job is refused or its file cannot be read.
+ *
+ * It takes no memory at run time: everything that the checker needs is lent to
+ * it from the static areas below.
+ */
+#include <inttypes.h>
+#include <stdio.h>
+
+#include "checker.h"
+
+enum {
+    OBSERVATIONS_LENT = 65536,
+    OBSERVATIONS_SHOWN = 20,
+    EXIT_CLEAN = 0,
+    EXIT_NOT_CLEAN = 1,
+    EXIT_NO_ANSWER = 2
+};
+
+/* One byte more than the longest job, so that a longer file is seen as such. */
+static uint8_t job[CHECKER_JOB_BYTES_MAX + 1];
+static uint64_t trace[2 * OBSERVATIONS_LENT];
+static uint64_t end[CHECKER_END_WORDS_MAX];
+static uint64_t work[CHECKER_WORK_WORDS];
+
+static const char *const stops[] = {"finished", "spent", "trace full"};
+static const char *const verdicts[] = {"undecided", "clean", "speculative", "plain"};
+static const char *const kinds[] = {"start", "rollback", "pc", "load", "store"};
+
+/* Reads the file into the job area; 1 if it could be read. */
+static int read_job(const char *path, size_t *length)
+{
+    FILE *file = fopen(path, "rb");
+    if (file == NULL) {
+        return 0;
+    }
+    *length = fread(job, 1, sizeof job, file);
+    int readable = ferror(file) == 0;
+    fclose(file);
+    return readable;
+}
+
+static void print_set(const char *name, const uint64_t set[4])
+{
+    printf("%s", name);
+    for (unsigned location = 0; location < 256; location++) {
+        if (!checker_set_has(set, location)) {
+            continue;
+        }
+        if (location < 16) {
+            printf(" r%u", location);
+        } else {
+            printf(" m%u", location - 16);
+        }
+    }
+    printf("\n");
+}
+
+static void print_observations(uint64_t count)
+{
+    uint64_t shown = count < OBSERVATIONS_SHOWN ? count : OBSERVATIONS_SHOWN;
+    for (uint64_t i = 0; i < shown; i++) {
+        printf("  %s %" PRIu64 "\n", kinds[trace[2 * i]], trace[2 * i + 1]);
+    }
+    if (shown < count) {
+        printf("  and %" PRIu64 " more\n", count - shown);
+    }
+}
+
+static void print_answer(const uint64_t answer[CHECKER_RUN_ANSWER_WORDS])
+{
+    printf("verdict %s\n", verdicts[answer[CHECKER_RUN_VERDICT]]);
+    printf("stop %s\n", stops[answer[CHECKER_RUN_STOP]]);
+    printf("steps %" PRIu64 "\n", answer[CHECKER_RUN_STEPS]);
+    printf("rollbacks %" PRIu64 "\n", answer[CHECKER_RUN_ROLLBACKS]);
+    print_set("depends", answer + CHECKER_RUN_DEPENDS);
+    print_set("plain", answer + CHECKER_RUN_PLAIN);
+    printf("observations %" PRIu64 "\n", answer[CHECKER_RUN_OBSERVATIONS]);
+    print_observations(answer[CHECKER_RUN_OBSERVATIONS]);
+}
+
+int main(int argc, char **argv)
+{
+    uint64_t answer[CHECKER_RUN_ANSWER_WORDS];
+    size_t length = 0;
+    if (argc != 2) {
+        fprintf(stderr, "usage: release JOB.mua\n");
+        return EXIT_NO_ANSWER;
+    }
+    if (!read_job(argv[1], &length)) {
+        fprintf(stderr, "cannot read %s\n", argv[1]);
+        return EXIT_NO_ANSWER;
+    }
+    uint32_t refused = checker_run(job, length,
+                                   trace, sizeof trace / sizeof trace[0],
+                                   end, sizeof end / sizeof end[0],
+                                   work, sizeof work / sizeof work[0],
+                                   answer);
+    if (refused != CHECKER_DONE) {
+        printf("refused %" PRIu32 "\n", refused);
+        return EXIT_NO_ANSWER;
+    }
+    print_answer(answer);
+    return answer[CHECKER_RUN_VERDICT] == CHECKER_VERDICT_CLEAN ? EXIT_CLEAN : EXIT_NOT_CLEAN;
+}

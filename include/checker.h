@@ -1,0 +1,325 @@
+/*
+ * checker.h: the C interface of the checker.
+ *
+ * The checker reads a job (a routine, a state, a list of public registers and
+ * cells, a speculation window and a step budget), runs the routine as if every
+ * branch were guessed wrongly, and reports every address and every jump that
+ * could be observed, the registers and cells that these depend on, and a
+ * verdict.
+ *
+ * Link with libchecker_c.a. There are three functions:
+ *
+ *   checker_run        the mispredicting run of a job, with its verdict
+ *   checker_plain_run  the same routine without any misprediction
+ *   checker_compare    the mispredicting runs of a job with two states
+ *
+ *
+ * WHAT HOLDS FOR ALL THREE
+ *
+ * The caller lends every byte that is used. A call keeps nothing for the next
+ * one: its result depends on its arguments alone.
+ *
+ * A function returns 0 if it carried the job out, or else the number of the
+ * refusal, 1 to 10. After a refusal every area, and the answer too, is exactly
+ * as it was before the call.
+ *
+ * Any bytes may be given as a job, and areas of any length may be lent: what
+ * does not fit is refused. What the caller has to see to is what C cannot
+ * check:
+ *   - each pointer is valid for the length given with it, and is not null even
+ *     where that length is 0;
+ *   - pointers to 64-bit words are aligned for them; the bytes of a job or a
+ *     state may start anywhere;
+ *   - the areas and the answer do not overlap each other, the job or the
+ *     second state;
+ *   - the answer has the number of words named at the function.
+ *
+ * Lengths of a job and of a state are counted in bytes, lengths of areas in
+ * 64-bit words.
+ *
+ * What the areas hold before a call has no influence on the result. Every word
+ * that is not named below as written keeps its contents.
+ *
+ *
+ * THE JOB
+ *
+ * The job is a file as a block of bytes, little-endian, 16 to 16,384 bytes:
+ *
+ *   offset 0      the program: n instructions, one after the other
+ *   offset S      the state: 16 registers, then m memory cells, 8 bytes each
+ *   offset Q      the public list: 32 bytes; bit k of byte j is location 8j + k
+ *   offset Q + 32 the trailer, 16 bytes: S, Q, n, m, the window w, a zero
+ *                 (2 bytes each), the step budget b (4 bytes)
+ *
+ * Limits: n 1 to 512, m 0 to 240, w 0 to 200, b 0 to 1,000,000.
+ *
+ * An instruction is a kind byte, then its fields:
+ *
+ *   0 skip
+ *   1 assign              register, expression
+ *   2 load                register, address expression
+ *   3 store               register, address expression
+ *   4 jmp                 expression
+ *   5 beqz                register, label of 2 bytes
+ *   6 conditional assign  register, condition expression, expression
+ *   7 spbarr
+ *
+ * A register is one byte, 0 to 15. Instructions have the labels 0 to n - 1 in
+ * order; n is the end of the routine. An expression is a byte with its token
+ * count, 1 to 16, then the tokens in postfix, the left operand first:
+ *
+ *   0 to 15 a register; 16 a constant, 8 bytes after it; 17 neg, 18 not;
+ *   19 add, 20 sub, 21 mul, 22 and, 23 or, 24 xor, 25 shl, 26 shr, 27 eq,
+ *   28 ult (unsigned less)
+ *
+ * All words are unsigned and wrap modulo 2^64. A shift by 64 or more gives 0.
+ * eq and ult give 1 or 0. A load outside memory reads 0, a store there changes
+ * nothing; both are observed.
+ *
+ * A location is a register or a memory cell: register r is location r, memory
+ * cell a is location 16 + a. There are 16 + m of them, at most 256.
+ *
+ *
+ * THE AREAS
+ *
+ * trace  Any length, also 0. It takes observations from the front, two words
+ *        each: the kind (CHECKER_START and following), then the value. A length
+ *        of L words holds L / 2 observations; an odd last word is never
+ *        written. If the run needs more room it stops as "trace full".
+ *        Words behind the last observation keep their contents.
+ *
+ * end    At least 16 + m words (256 are enough for every job). After the call
+ *        its first 16 + m words are the registers and the cells as they are at
+ *        the moment of the stop. If the run did not finish, that may be inside
+ *        a wrongly guessed path. Further words keep their contents.
+ *
+ * work   At least 4,096 words. After the call its first 4,096 words are 0, so
+ *        that nothing of the job stays behind there. Further words keep their
+ *        contents.
+ *
+ *
+ * THE SETS
+ *
+ * A set of locations is four words: location k is in the set if bit k % 64 of
+ * word k / 64 is 1; see checker_set_has.
+ */
+#ifndef CHECKER_H
+#define CHECKER_H
+
+#include <stddef.h>
+#include <stdint.h>
+
+#ifdef __cplusplus
+extern "C" {
+#endif
+
+/* The longest job, in bytes. */
+#define CHECKER_JOB_BYTES_MAX 16384
+
+/* Words of the working area that every call needs. */
+#define CHECKER_WORK_WORDS 4096
+
+/* Words of an end area that is long enough for every job: 16 + 240. */
+#define CHECKER_END_WORDS_MAX 256
+
+/* Words of the answers of the three functions. */
+#define CHECKER_RUN_ANSWER_WORDS 13
+#define CHECKER_PLAIN_ANSWER_WORDS 7
+#define CHECKER_COMPARE_ANSWER_WORDS 9
+
+/* Why a call was refused; 0 is no refusal. The tests are made in this order and
+ * the first that fails gives the number, except that 4, 5 and 6 are all tried
+ * on one instruction before the next instruction is read. */
+enum checker_refusal {
+    CHECKER_DONE = 0,
+    /* The job is shorter than 16 bytes or longer than 16,384. */
+    CHECKER_REFUSED_LENGTH = 1,
+    /* n, m, w or b is outside its limits, or the trailer's zero is not 0. */
+    CHECKER_REFUSED_TRAILER = 2,
+    /* S > Q, or Q - S is not 128 + 8m, or Q + 48 is not the job's length. */
+    CHECKER_REFUSED_OFFSETS = 3,
+    /* Unknown instruction kind or token, register over 15, token count not 1 to
+     * 16, or a kind byte or field that does not end before S. */
+    CHECKER_REFUSED_INSTRUCTION = 4,
+    /* An expression lacks an operand, holds more than 8 values, or does not end
+     * with exactly one. */
+    CHECKER_REFUSED_EXPRESSION = 5,
+    /* The label of a beqz is over n, or is the label of the next instruction. */
+    CHECKER_REFUSED_LABEL = 6,
+    /* Bytes are left between the last instruction and S. */
+    CHECKER_REFUSED_BYTES_LEFT = 7,
+    /* The public list has a bit at location 16 + m or above. */
+    CHECKER_REFUSED_PUBLIC = 8,
+    /* The second state is not 128 + 8m bytes long (checker_compare only). */
+    CHECKER_REFUSED_SECOND_STATE = 9,
+    /* The working area is shorter than 4,096 words, the end area is shorter
+     * than 16 + m words, or the trace areas of checker_compare have different
+     * lengths. */
+    CHECKER_REFUSED_AREAS = 10
+};
+
+/* Why a run stopped. Finished is tested first, then spent, then trace full. */
+enum checker_stop {
+    /* The routine reached its end, and no wrongly guessed branch was open. */
+    CHECKER_FINISHED = 0,
+    /* b steps were made. */
+    CHECKER_SPENT = 1,
+    /* The next step's observations did not all fit the trace area; that step
+     * was not made. */
+    CHECKER_TRACE_FULL = 2
+};
+
+/* What a mispredicting run shows. D is the set of all locations that an
+ * observation depended on; the plain set is the part of them that was observed
+ * outside every wrongly guessed path. */
+enum checker_verdict {
+    /* The run did not finish. */
+    CHECKER_VERDICT_UNDECIDED = 0,
+    /* Every location of D is public. This is the one verdict of no finding. */
+    CHECKER_VERDICT_CLEAN = 1,
+    /* Some location of D is neither public nor in the plain set. */
+    CHECKER_VERDICT_SPECULATIVE = 2,
+    /* Some location of D is not public, and all such are in the plain set. */
+    CHECKER_VERDICT_PLAIN = 3
+};
+
+/* The result of checker_compare: the first of these that fits. */
+enum checker_pair_word {
+    /* The two states differ at a public location. */
+    CHECKER_PAIR_NOT_COMPARABLE = 0,
+    /* One of the two mispredicting runs did not finish. */
+    CHECKER_PAIR_UNDECIDED = 1,
+    /* The traces of the two plain runs differ. */
+    CHECKER_PAIR_PLAIN_DIFFERS = 2,
+    /* The traces of the two mispredicting runs differ. */
+    CHECKER_PAIR_LEAK_SHOWN = 3,
+    /* The two traces are the same. */
+    CHECKER_PAIR_EQUAL = 4
+};
+
+/* The kinds of observation, and what the second word of each is. */
+enum checker_observation {
+    /* A wrongly guessed branch opens; its id, counted from 0. */
+    CHECKER_START = 0,
+    /* The branch with this id is rolled back. */
+    CHECKER_ROLLBACK = 1,
+    /* Execution goes on at this label; n is the end of the routine. */
+    CHECKER_PC = 2,
+    /* A load from this address, which may lie outside memory. */
+    CHECKER_LOAD = 3,
+    /* A store to this address, which may lie outside memory. */
+    CHECKER_STORE = 4
+};
+
+/* Which word of checker_run's answer is what. */
+enum checker_run_answer {
+    CHECKER_RUN_STOP = 0,         /* enum checker_stop */
+    CHECKER_RUN_OBSERVATIONS = 1, /* observations written to the trace area */
+    CHECKER_RUN_STEPS = 2,        /* steps made, rollbacks among them */
+    CHECKER_RUN_ROLLBACKS = 3,    /* rollbacks made */
+    CHECKER_RUN_DEPENDS = 4,      /* four words: D */
+    CHECKER_RUN_PLAIN = 8,        /* four words: the plain set */
+    CHECKER_RUN_VERDICT = 12      /* enum checker_verdict */
+};
+
+/* Which word of checker_plain_run's answer is what. */
+enum checker_plain_answer {
+    CHECKER_PLAIN_STOP = 0,         /* enum checker_stop */
+    CHECKER_PLAIN_OBSERVATIONS = 1, /* observations written */
+    CHECKER_PLAIN_STEPS = 2,        /* steps made */
+    CHECKER_PLAIN_SET = 3           /* four words: the plain set */
+};
+
+/* Which word of checker_compare's answer is what. */
+enum checker_compare_answer {
+    CHECKER_COMPARE_WORD = 0,                /* enum checker_pair_word */
+    CHECKER_COMPARE_FIRST_STOP = 1,          /* the run of the job's state: */
+    CHECKER_COMPARE_FIRST_OBSERVATIONS = 2,  /* as in checker_run's answer */
+    CHECKER_COMPARE_FIRST_STEPS = 3,
+    CHECKER_COMPARE_FIRST_ROLLBACKS = 4,
+    CHECKER_COMPARE_SECOND_STOP = 5,         /* the run of the second state */
+    CHECKER_COMPARE_SECOND_OBSERVATIONS = 6,
+    CHECKER_COMPARE_SECOND_STEPS = 7,
+    CHECKER_COMPARE_SECOND_ROLLBACKS = 8
+};
+
+/*
+ * The mispredicting run of a job.
+ *
+ * job, job_len      the job, in bytes
+ * trace, trace_len  the trace area, in words
+ * end, end_len      the end area, in words, at least 16 + m
+ * work, work_len    the working area, in words, at least 4,096
+ * answer            13 words: stop, observations, steps, rollbacks, four words
+ *                   of D, four words of the plain set, verdict
+ *
+ * Returns 0 or a refusal number (1 to 8, or 10).
+ *
+ * Two states that hold the same words at the locations of D give the same
+ * answer and the same observations, with the same program, public list and
+ * trailer. So after the verdict "clean" no observation tells anything about a
+ * location that is not public.
+ */
+uint32_t checker_run(const uint8_t *job, size_t job_len,
+                     uint64_t *trace, size_t trace_len,
+                     uint64_t *end, size_t end_len,
+                     uint64_t *work, size_t work_len,
+                     uint64_t answer[13]);
+
+/*
+ * The plain run of a job: no branch is guessed. It is lent the same areas as
+ * checker_run, counts its steps against b and stops in the same way. Its
+ * observations are pc, load and store only.
+ *
+ * answer            7 words: stop, observations, steps, four words of the
+ *                   plain set
+ *
+ * Returns 0 or a refusal number (1 to 8, or 10).
+ *
+ * If checker_run finishes, this run finishes in areas of the same lengths,
+ * with the same end state and the same plain set; and its trace is that of
+ * checker_run without all that stands between each outermost start and its
+ * rollback, both of them left out too.
+ */
+uint32_t checker_plain_run(const uint8_t *job, size_t job_len,
+                           uint64_t *trace, size_t trace_len,
+                           uint64_t *end, size_t end_len,
+                           uint64_t *work, size_t work_len,
+                           uint64_t answer[7]);
+
+/*
+ * The mispredicting runs of a job with its own state and with a second state.
+ *
+ * job, job_len         the job, in bytes
+ * second, second_len   the second state, laid out as in a job: 16 registers,
+ *                      then m cells, 8 bytes each, little-endian
+ * trace1, trace1_len   the trace area of the run with the job's state
+ * trace2, trace2_len   the trace area of the run with the second state; as many
+ *                      words as trace1
+ * work, work_len       the working area, in words, at least 4,096
+ * answer               9 words: the pair word; stop, observations, steps and
+ *                      rollbacks of the first run; the same of the second run
+ *
+ * Both runs are made and both traces written whatever the word is. There is no
+ * end area.
+ *
+ * Returns 0 or a refusal number (1 to 10).
+ */
+uint32_t checker_compare(const uint8_t *job, size_t job_len,
+                         const uint8_t *second, size_t second_len,
+                         uint64_t *trace1, size_t trace1_len,
+                         uint64_t *trace2, size_t trace2_len,
+                         uint64_t *work, size_t work_len,
+                         uint64_t answer[9]);
+
+/* 1 if the location is in the set of four words, else 0. */
+static inline int checker_set_has(const uint64_t set[4], unsigned location)
+{
+    return location < 256 && ((set[location / 64] >> (location % 64)) & 1) != 0;
+}
+
+#ifdef __cplusplus
+}
+#endif
+
+#endif

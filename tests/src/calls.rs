@@ -1,0 +1,187 @@
+//! One call, made of the library or of the reference, with everything it left behind.
+
+use check_box_reference as reference;
+use reference::{PairAnswer, PlainAnswer, RunAnswer, RunCounts};
+
+use crate::lend::{Area, Bytes, Fill};
+use crate::library::{self, PAIR_ANSWER, PLAIN_ANSWER, RUN_ANSWER};
+
+#[derive(Clone, Copy, PartialEq, Eq, Debug)]
+pub enum Operation {
+    Run,
+    Plain,
+    Pair,
+}
+
+/// The lengths of the areas in words. A run and a plain run use the first trace and the end,
+/// a pair uses both traces.
+#[derive(Clone, Copy, Debug)]
+pub struct Lengths {
+    pub trace: usize,
+    pub second_trace: usize,
+    pub end: usize,
+    pub work: usize,
+}
+
+#[derive(Clone, Copy)]
+pub struct Call<'a> {
+    pub operation: Operation,
+    pub job: &'a [u8],
+    pub second: &'a [u8],
+    pub lengths: Lengths,
+    pub fill: Fill,
+}
+
+/// What a call returned and left: the areas are trace, end and work, or both traces and work.
+#[derive(PartialEq, Eq)]
+pub struct Outcome {
+    pub operation: Operation,
+    pub number: u32,
+    pub answer: Area,
+    pub areas: [Area; 3],
+    pub inputs_kept: bool,
+}
+
+impl Operation {
+    pub fn name(self) -> &'static str {
+        match self {
+            Operation::Run => "checker_run",
+            Operation::Plain => "checker_plain_run",
+            Operation::Pair => "checker_compare",
+        }
+    }
+
+    pub fn answer_words(self) -> usize {
+        match self {
+            Operation::Run => RUN_ANSWER,
+            Operation::Plain => PLAIN_ANSWER,
+            Operation::Pair => PAIR_ANSWER,
+        }
+    }
+
+    pub fn area_names(self) -> [&'static str; 3] {
+        match self {
+            Operation::Run | Operation::Plain => ["trace", "end", "work"],
+            Operation::Pair => ["trace1", "trace2", "work"],
+        }
+    }
+
+    fn area_lengths(self, lengths: Lengths) -> [usize; 3] {
+        match self {
+            Operation::Run | Operation::Plain => [lengths.trace, lengths.end, lengths.work],
+            Operation::Pair => [lengths.trace, lengths.second_trace, lengths.work],
+        }
+    }
+}
+
+impl Call<'_> {
+    /// Everything as it stands before the call.
+    fn prepared(&self) -> Outcome {
+        let area = |length| Area::filled(length, self.fill);
+        Outcome {
+            operation: self.operation,
+            number: 0,
+            answer: area(self.operation.answer_words()),
+            areas: self.operation.area_lengths(self.lengths).map(area),
+            inputs_kept: true,
+        }
+    }
+
+    pub fn by_library(&self) -> Outcome {
+        let mut outcome = self.prepared();
+        let job = Bytes::copied(self.job, self.fill);
+        let second = Bytes::copied(self.second, self.fill);
+        let [a, b, work] = outcome.areas.each_mut().map(Area::lent);
+        let answer = outcome.answer.lent();
+        outcome.number = match self.operation {
+            Operation::Run => library::run(job.lent(), a, b, work, exactly(answer)),
+            Operation::Plain => library::plain_run(job.lent(), a, b, work, exactly(answer)),
+            Operation::Pair => {
+                library::compare(job.lent(), second.lent(), a, b, work, exactly(answer))
+            }
+        };
+        outcome.inputs_kept = job.is_unchanged(self.job) && second.is_unchanged(self.second);
+        outcome
+    }
+
+    pub fn by_reference(&self) -> Outcome {
+        let mut outcome = self.prepared();
+        let [a, b, work] = outcome.areas.each_mut().map(Area::lent);
+        let answered: Result<Vec<u64>, u32> = match self.operation {
+            Operation::Run => reference::run(self.job, a, b, work).map(run_words),
+            Operation::Plain => reference::plain_run(self.job, a, b, work).map(plain_words),
+            Operation::Pair => {
+                reference::compare(self.job, self.second, a, b, work).map(pair_words)
+            }
+        };
+        match answered {
+            Ok(words) => outcome.answer.lent().copy_from_slice(&words),
+            Err(number) => outcome.number = number,
+        }
+        outcome
+    }
+}
+
+fn exactly<const N: usize>(words: &mut [u64]) -> &mut [u64; N] {
+    words.try_into().expect("the answer has the length of its operation")
+}
+
+fn run_words(answer: RunAnswer) -> Vec<u64> {
+    let RunAnswer { stop, observations, steps, rollbacks, depends, plain, verdict } = answer;
+    let mut words = vec![stop.number(), observations, steps, rollbacks];
+    words.extend(depends);
+    words.extend(plain);
+    words.push(verdict.number());
+    words
+}
+
+fn plain_words(answer: PlainAnswer) -> Vec<u64> {
+    let PlainAnswer { stop, observations, steps, plain } = answer;
+    let mut words = vec![stop.number(), observations, steps];
+    words.extend(plain);
+    words
+}
+
+fn pair_words(answer: PairAnswer) -> Vec<u64> {
+    let counts = |run: RunCounts| [run.stop.number(), run.observations, run.steps, run.rollbacks];
+    let mut words = vec![answer.word.number()];
+    words.extend(counts(answer.first));
+    words.extend(counts(answer.second));
+    words
+}
+
+impl Outcome {
+    pub fn answer(&self) -> &[u64] {
+        self.answer.words()
+    }
+
+    pub fn is_finished(&self) -> bool {
+        self.number == 0 && self.answer()[0] == 0
+    }
+
+    /// The observations of a run or plain run that was not refused.
+    pub fn observations(&self) -> Vec<(u64, u64)> {
+        pairs(self.areas[0].words(), self.answer()[1])
+    }
+
+    /// Says what differs from the expected outcome; none if they are equal.
+    pub fn difference(&self, expected: &Outcome) -> Option<String> {
+        let name = self.operation.name();
+        if self.number != expected.number {
+            return Some(format!("{name} returned {}, not {}", self.number, expected.number));
+        }
+        if !self.inputs_kept {
+            return Some(format!("{name} changed the bytes of the job or the second state"));
+        }
+        let areas = self.areas.iter().zip(&expected.areas).zip(self.operation.area_names());
+        let answer = ((&self.answer, &expected.answer), "answer");
+        std::iter::once(answer).chain(areas).find_map(|((got, want), area)| {
+            got.difference(want).map(|text| format!("{name}, {area}: {text}"))
+        })
+    }
+}
+
+/// The first observations of a trace area, each as kind and value.
+pub fn pairs(words: &[u64], count: u64) -> Vec<(u64, u64)> {
+    words.chunks_exact(2).take(count as usize).map(|pair| (pair[0], pair[1])).collect()
+}

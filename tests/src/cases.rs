@@ -1,0 +1,212 @@
+//! Random cases: a job in some style, a treatment of it, a second state and lengths of areas.
+//! The seed alone decides the whole case.
+
+use check_box_reference::run;
+
+use crate::calls::Lengths;
+use crate::damage::{damaged_twice, flip_bits, overwrite, refused_with, truncate};
+use crate::generate::{random_job, random_style, Style};
+use crate::job_file::{budget, set_budget, state_bytes, Parts};
+use crate::random::Random;
+
+pub const WORKING_WORDS: usize = 4_096;
+
+/// What is done to a valid job and to its areas.
+#[derive(Clone, Copy, PartialEq, Eq, Debug)]
+pub enum Treatment {
+    Whole,
+    BudgetCut,
+    TraceCut,
+    AreaLengths,
+    SecondLength,
+    OneRefusal,
+    TwoDamages,
+    BitFlips,
+    Truncated,
+    Overwritten,
+    Fixed,
+}
+
+pub const TREATMENTS: [Treatment; 11] = [
+    Treatment::Whole,
+    Treatment::BudgetCut,
+    Treatment::TraceCut,
+    Treatment::AreaLengths,
+    Treatment::SecondLength,
+    Treatment::OneRefusal,
+    Treatment::TwoDamages,
+    Treatment::BitFlips,
+    Treatment::Truncated,
+    Treatment::Overwritten,
+    Treatment::Fixed,
+];
+
+/// One case; each of the three calls is made on it. A fixed case has no style.
+pub struct Case {
+    pub name: String,
+    pub style: Option<Style>,
+    pub treatment: Treatment,
+    pub job: Vec<u8>,
+    pub second: Vec<u8>,
+    pub lengths: Lengths,
+    pub salt: u64,
+}
+
+pub fn random_case(seed: u64) -> Case {
+    let mut random = Random::new(seed);
+    let style = random_style(&mut random);
+    let parts = random_job(style, &mut random);
+    let mut case = Case {
+        name: format!("{seed}"),
+        style: Some(style),
+        treatment: random_treatment(&mut random),
+        job: parts.bytes(),
+        second: state_bytes(&second_state(&parts, &mut random)),
+        lengths: fitting_lengths(&parts, style, &mut random),
+        salt: random.word(),
+    };
+    treat(&mut case, parts, &mut random);
+    case
+}
+
+fn random_treatment(random: &mut Random) -> Treatment {
+    match random.below(100) {
+        0..=33 => Treatment::Whole,
+        34..=47 => Treatment::BudgetCut,
+        48..=61 => Treatment::TraceCut,
+        62..=71 => Treatment::AreaLengths,
+        72..=74 => Treatment::SecondLength,
+        75..=84 => Treatment::OneRefusal,
+        85..=88 => Treatment::TwoDamages,
+        89..=93 => Treatment::BitFlips,
+        94..=96 => Treatment::Truncated,
+        _ => Treatment::Overwritten,
+    }
+}
+
+fn treat(case: &mut Case, parts: Parts, random: &mut Random) {
+    match case.treatment {
+        Treatment::Whole | Treatment::Fixed => {}
+        Treatment::BudgetCut => cut_budget(case, random),
+        Treatment::TraceCut => cut_trace(case, random),
+        Treatment::AreaLengths => case.lengths = any_lengths(parts.state.len(), random),
+        Treatment::SecondLength => {
+            change_length(&mut case.second, random);
+            if random.one_in(3) {
+                case.lengths = any_lengths(parts.state.len(), random);
+            }
+        }
+        Treatment::OneRefusal => {
+            case.job = refused_with(random.between(1, 8) as u32, parts, random)
+        }
+        Treatment::TwoDamages => {
+            case.job = damaged_twice(parts, random);
+            if random.one_in(3) {
+                case.lengths = any_lengths(16, random);
+            }
+            if random.one_in(3) {
+                change_length(&mut case.second, random);
+            }
+        }
+        Treatment::BitFlips => flip_bits(&mut case.job, random),
+        Treatment::Truncated => truncate(&mut case.job, random),
+        Treatment::Overwritten => overwrite(&mut case.job, random),
+    }
+}
+
+/// A second state: the same one, or changed at one place, off the public list, or anywhere.
+fn second_state(parts: &Parts, random: &mut Random) -> Vec<u64> {
+    let mut state = parts.state.clone();
+    let count = state.len();
+    let one = random.index(count);
+    let manner = random.below(8);
+    for (location, word) in state.iter_mut().enumerate() {
+        let changed = match manner {
+            0 => false,
+            1 | 2 => location == one,
+            3..=6 => !parts.public.contains(&location) && random.one_in(2),
+            _ => random.one_in(4),
+        };
+        if changed {
+            *word = if random.one_in(4) { random.word() } else { random.below(8) };
+        }
+    }
+    state
+}
+
+/// A step makes at most two observations of two words each. Only long runs get room for more than
+/// about 1,500 steps, so that a job with the largest budget ends soon as "trace full".
+fn fitting_lengths(parts: &Parts, style: Style, random: &mut Random) -> Lengths {
+    let needed = 4 * parts.budget as usize + 4;
+    let trace = if style == Style::Long { needed } else { needed.min(6_004) };
+    let trace = trace + random.index(2);
+    let end = parts.state.len() + random.index(3);
+    Lengths { trace, second_trace: trace, end, work: WORKING_WORDS + random.index(3) }
+}
+
+/// Observations and steps of the job in its areas, or none if it is refused.
+fn extent(case: &Case) -> Option<(u64, u64)> {
+    let Lengths { trace, end, work, .. } = case.lengths;
+    let (mut trace, mut end, mut work) = (vec![0; trace], vec![0; end], vec![0; work]);
+    let answer = run(&case.job, &mut trace, &mut end, &mut work).ok()?;
+    Some((answer.observations, answer.steps))
+}
+
+/// A budget at which the run stops anywhere between its first step and one after its last.
+fn cut_budget(case: &mut Case, random: &mut Random) {
+    if let Some((_, steps)) = extent(case) {
+        let cut = random.below(steps + 2) as u32;
+        let allowed = budget(&case.job);
+        set_budget(&mut case.job, cut.min(allowed));
+    }
+}
+
+/// Trace areas that run out anywhere between the first observation and one after the last.
+fn cut_trace(case: &mut Case, random: &mut Random) {
+    if let Some((observations, _)) = extent(case) {
+        let trace = random.below(2 * observations + 4) as usize;
+        case.lengths.trace = trace;
+        case.lengths.second_trace = trace;
+    }
+}
+
+/// Lengths on both sides of each bound; traces of a pair that are unequal at times.
+fn any_lengths(locations: usize, random: &mut Random) -> Lengths {
+    let trace = random.index(40);
+    let second_trace = match random.below(4) {
+        0 => random.index(40),
+        1 => trace + 1,
+        _ => trace,
+    };
+    Lengths {
+        trace,
+        second_trace,
+        end: around(locations, random),
+        work: around(WORKING_WORDS, random),
+    }
+}
+
+fn around(bound: usize, random: &mut Random) -> usize {
+    match random.below(8) {
+        0 => random.index(bound),
+        1 => bound - 1,
+        2..=4 => bound,
+        5 => bound + 1,
+        6 => bound + 2 + random.index(40),
+        _ => random.index(3),
+    }
+}
+
+/// A second state with bytes too many or too few.
+fn change_length(second: &mut Vec<u8>, random: &mut Random) {
+    let length = second.len();
+    let changed = match random.below(6) {
+        0 => 0,
+        1 => length - 1,
+        2 => length + 1,
+        3 => length - 8,
+        4 => length + 8,
+        _ => random.index(2_100),
+    };
+    second.resize(changed, 0x5A);
+}

@@ -1,0 +1,54 @@
+//! The jobs of document 01's section "A run printed whole".
+
+use crate::job_file::{assign, beqz, load, skip, spbarr, Parts, Token, ADD, REGISTERS, ULT};
+
+/// The job that is printed whole: 236 bytes, verdict speculative.
+pub fn printed() -> Parts {
+    let [r0, r1, r3] = [0, 1, 3].map(Token::Register);
+    let program = vec![
+        assign(2, &[r0, r1, ULT]),
+        beqz(2, 4),
+        load(3, &[r0]),
+        load(4, &[r3, Token::Constant(2), ADD]),
+    ];
+    let mut parts = Parts::new(program, 4, 10, 100);
+    parts.state[0] = 1;
+    parts.state[1] = 1;
+    parts.state[REGISTERS + 1] = 1;
+    parts.public = vec![0, 1];
+    parts
+}
+
+/// The same with r0 = 0: verdict plain.
+pub fn r0_zero() -> Parts {
+    let mut parts = printed();
+    parts.state[0] = 0;
+    parts
+}
+
+/// The same with spbarr put in as instruction 2: verdict clean.
+pub fn barrier() -> Parts {
+    let mut parts = printed();
+    parts.program[1] = beqz(2, 5);
+    parts.program.insert(2, spbarr());
+    parts
+}
+
+/// Two nested branches, registers 0 and w 2; all else as in the printed job.
+pub fn nested() -> Parts {
+    let mut parts = printed();
+    parts.program = vec![beqz(0, 3), beqz(1, 3), skip()];
+    parts.state[..REGISTERS].fill(0);
+    parts.window = 2;
+    parts
+}
+
+/// Each example with the name of its file.
+pub fn files() -> [(&'static str, Vec<u8>); 4] {
+    [
+        ("printed.mua", printed().bytes()),
+        ("barrier.mua", barrier().bytes()),
+        ("nested.mua", nested().bytes()),
+        ("r0-zero.mua", r0_zero().bytes()),
+    ]
+}

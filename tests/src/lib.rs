@@ -1,0 +1,22 @@
+//! Outside tests of the checker: its static library is called through its C interface and compared
+//! with the second implementation, with vectors, and with statements about its own answers.
+
+pub mod calls;
+pub mod cases;
+pub mod check;
+pub mod damage;
+pub mod demands;
+pub mod examples;
+pub mod expressions;
+pub mod fixed;
+pub mod fixed_files;
+pub mod fixed_runs;
+pub mod gadgets;
+pub mod generate;
+pub mod job_file;
+pub mod lend;
+pub mod library;
+pub mod random;
+pub mod report;
+pub mod tally;
+pub mod vector_file;

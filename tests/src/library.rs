@@ -1,0 +1,121 @@
+//! The library under test: a safe call for each of its C functions.
+
+/// Words of the answers of a run, a plain run and a pair.
+pub const RUN_ANSWER: usize = 13;
+pub const PLAIN_ANSWER: usize = 7;
+pub const PAIR_ANSWER: usize = 9;
+
+unsafe extern "C" {
+    fn checker_run(
+        job: *const u8,
+        job_len: usize,
+        trace: *mut u64,
+        trace_len: usize,
+        end: *mut u64,
+        end_len: usize,
+        work: *mut u64,
+        work_len: usize,
+        answer: *mut u64,
+    ) -> u32;
+
+    fn checker_plain_run(
+        job: *const u8,
+        job_len: usize,
+        trace: *mut u64,
+        trace_len: usize,
+        end: *mut u64,
+        end_len: usize,
+        work: *mut u64,
+        work_len: usize,
+        answer: *mut u64,
+    ) -> u32;
+
+    fn checker_compare(
+        job: *const u8,
+        job_len: usize,
+        second: *const u8,
+        second_len: usize,
+        trace1: *mut u64,
+        trace1_len: usize,
+        trace2: *mut u64,
+        trace2_len: usize,
+        work: *mut u64,
+        work_len: usize,
+        answer: *mut u64,
+    ) -> u32;
+}
+
+/// The mispredicting run; 0 or the refusal number.
+pub fn run(
+    job: &[u8],
+    trace: &mut [u64],
+    end: &mut [u64],
+    work: &mut [u64],
+    answer: &mut [u64; RUN_ANSWER],
+) -> u32 {
+    // Safety: each pointer and length is that of a slice, and exclusive references do not overlap.
+    unsafe {
+        checker_run(
+            job.as_ptr(),
+            job.len(),
+            trace.as_mut_ptr(),
+            trace.len(),
+            end.as_mut_ptr(),
+            end.len(),
+            work.as_mut_ptr(),
+            work.len(),
+            answer.as_mut_ptr(),
+        )
+    }
+}
+
+/// The plain run; 0 or the refusal number.
+pub fn plain_run(
+    job: &[u8],
+    trace: &mut [u64],
+    end: &mut [u64],
+    work: &mut [u64],
+    answer: &mut [u64; PLAIN_ANSWER],
+) -> u32 {
+    // Safety: as in `run`.
+    unsafe {
+        checker_plain_run(
+            job.as_ptr(),
+            job.len(),
+            trace.as_mut_ptr(),
+            trace.len(),
+            end.as_mut_ptr(),
+            end.len(),
+            work.as_mut_ptr(),
+            work.len(),
+            answer.as_mut_ptr(),
+        )
+    }
+}
+
+/// The pair of the job's state and a second one; 0 or the refusal number.
+pub fn compare(
+    job: &[u8],
+    second: &[u8],
+    trace1: &mut [u64],
+    trace2: &mut [u64],
+    work: &mut [u64],
+    answer: &mut [u64; PAIR_ANSWER],
+) -> u32 {
+    // Safety: as in `run`.
+    unsafe {
+        checker_compare(
+            job.as_ptr(),
+            job.len(),
+            second.as_ptr(),
+            second.len(),
+            trace1.as_mut_ptr(),
+            trace1.len(),
+            trace2.as_mut_ptr(),
+            trace2.len(),
+            work.as_mut_ptr(),
+            work.len(),
+            answer.as_mut_ptr(),
+        )
+    }
+}

@@ -1,0 +1,219 @@
+//! Vectors of a text file: blocks of lines "key words" ended by an empty line; the head of the file
+//! describes the keys. Each vector is a call with what it must return and leave.
+
+use std::collections::HashMap;
+
+use check_box_reference::listing;
+
+use crate::calls::{Call, Lengths, Operation, Outcome};
+use crate::lend::{Area, Fill};
+
+const WORKING_WORDS: usize = 4_096;
+
+/// The filling that the file's head prescribes, with some words around each area.
+const FILL: Fill = Fill { salt: 0, margin: 8 };
+
+/// One block: its key lines, and the text of the lines that begin with "|".
+#[derive(Default)]
+pub struct Vector {
+    fields: HashMap<String, String>,
+    text: String,
+}
+
+/// Which program answered a vector.
+#[derive(Clone, Copy, PartialEq, Eq, Debug)]
+pub enum Checked {
+    Library(Operation),
+    ReferenceListing,
+}
+
+pub fn parse_file(text: &str) -> Result<Vec<Vector>, String> {
+    let vectors: Result<Vec<Vector>, String> = text.split("\n\n").map(Vector::parse).collect();
+    Ok(vectors?.into_iter().filter(|vector| !vector.fields.is_empty()).collect())
+}
+
+impl Vector {
+    fn parse(block: &str) -> Result<Vector, String> {
+        let mut vector = Vector::default();
+        for line in block.lines().filter(|line| !line.starts_with('#') && !line.is_empty()) {
+            if let Some(text) = line.strip_prefix('|') {
+                vector.text.push_str(text.strip_prefix(' ').unwrap_or(text));
+                vector.text.push('\n');
+                continue;
+            }
+            let (key, value) = line.split_once(' ').unwrap_or((line, ""));
+            if vector.fields.insert(key.to_string(), value.to_string()).is_some() {
+                return Err(format!("line \"{key}\" stands twice in one vector"));
+            }
+        }
+        Ok(vector)
+    }
+
+    pub fn name(&self) -> &str {
+        self.fields.get("vector").map_or("without a name", String::as_str)
+    }
+
+    fn field(&self, key: &str) -> Result<&str, String> {
+        self.fields.get(key).map(String::as_str).ok_or_else(|| format!("no line \"{key}\""))
+    }
+
+    fn numbers(&self, key: &str) -> Result<Vec<u64>, String> {
+        self.field(key)?.split_whitespace().map(number).collect()
+    }
+
+    /// The hexadecimal bytes of a line, which is not there for every operation.
+    fn bytes(&self, key: &str) -> Result<Vec<u8>, String> {
+        let text = self.field(key)?;
+        if !text.is_ascii() || text.len() % 2 != 0 {
+            return Err(format!("\"{key}\" is not a row of bytes"));
+        }
+        let byte = |at: usize| u8::from_str_radix(&text[at..at + 2], 16);
+        let bytes: Result<Vec<u8>, _> = (0..text.len()).step_by(2).map(byte).collect();
+        bytes.map_err(|error| format!("\"{key}\": {error}"))
+    }
+
+    fn lent(&self, name: &str) -> Result<usize, String> {
+        let words: Vec<&str> = self.field("lent")?.split_whitespace().collect();
+        let lent = words.chunks_exact(2).find(|pair| pair[0] == name);
+        let pair = lent.ok_or_else(|| format!("no length for area \"{name}\""))?;
+        Ok(number(pair[1])? as usize)
+    }
+
+    /// A set's line as four words.
+    fn set(&self, key: &str) -> Result<[u64; 4], String> {
+        let mut words = [0; 4];
+        for location in self.numbers(key)? {
+            let word = words.get_mut(location as usize / 64).ok_or("a location over 255")?;
+            *word |= 1 << (location % 64);
+        }
+        Ok(words)
+    }
+
+    fn stop(text: &str) -> Result<u64, String> {
+        position(&["finished", "spent", "trace-full"], text)
+    }
+
+    /// The four numbers of a line such as "stop spent observations 1 steps 2 rollbacks 3".
+    fn counts(&self, key: &str) -> Result<[u64; 4], String> {
+        let words: Vec<&str> = self.field(key)?.split_whitespace().collect();
+        let ["stop", stop, "observations", observations, "steps", steps, "rollbacks", rollbacks] =
+            words[..]
+        else {
+            return Err(format!("\"{key}\" has other words"));
+        };
+        Ok([Vector::stop(stop)?, number(observations)?, number(steps)?, number(rollbacks)?])
+    }
+
+    fn run_answer(&self) -> Result<Vec<u64>, String> {
+        let mut words = self.plain_counts()?;
+        words.push(number(self.field("rollbacks")?)?);
+        words.extend(self.set("depends")?);
+        words.extend(self.set("plain")?);
+        words.push(position(
+            &["undecided", "clean", "speculative", "plain"],
+            self.field("verdict")?,
+        )?);
+        Ok(words)
+    }
+
+    fn plain_counts(&self) -> Result<Vec<u64>, String> {
+        let stop = Vector::stop(self.field("stop")?)?;
+        Ok(vec![stop, number(self.field("observations")?)?, number(self.field("steps")?)?])
+    }
+
+    fn plain_answer(&self) -> Result<Vec<u64>, String> {
+        let mut words = self.plain_counts()?;
+        words.extend(self.set("plain")?);
+        Ok(words)
+    }
+
+    fn pair_answer(&self) -> Result<Vec<u64>, String> {
+        let names = ["not comparable", "undecided", "plain differs", "leak shown", "equal"];
+        let mut words = vec![position(&names, self.field("word")?)?];
+        words.extend(self.counts("first-run")?);
+        words.extend(self.counts("second-run")?);
+        Ok(words)
+    }
+
+    fn answer(&self, operation: Operation) -> Result<Vec<u64>, String> {
+        match operation {
+            Operation::Run => self.run_answer(),
+            Operation::Plain => self.plain_answer(),
+            Operation::Pair => self.pair_answer(),
+        }
+    }
+
+    /// An area as the vector says it is after the call.
+    fn area_after(&self, name: &str) -> Result<Area, String> {
+        let length = self.lent(name)?;
+        let written = match name {
+            _ if self.fields.contains_key("refused") => Vec::new(),
+            "work" => vec![0; WORKING_WORDS],
+            _ => self.numbers(name)?,
+        };
+        if written.len() > length {
+            return Err(format!("more words than the area \"{name}\" has"));
+        }
+        Ok(Area::filled_with(&written, length, FILL))
+    }
+
+    fn expected(&self, operation: Operation) -> Result<Outcome, String> {
+        let refused = self.fields.get("refused").map_or(Ok(0), |text| number(text))?;
+        let answer = if refused == 0 { self.answer(operation)? } else { Vec::new() };
+        let [a, b, c] = operation.area_names().map(|name| self.area_after(name));
+        Ok(Outcome {
+            operation,
+            number: refused as u32,
+            answer: Area::filled_with(&answer, operation.answer_words(), FILL),
+            areas: [a?, b?, c?],
+            inputs_kept: true,
+        })
+    }
+
+    fn lengths(&self, operation: Operation) -> Result<Lengths, String> {
+        let [first, second, work] = operation.area_names().map(|name| self.lent(name));
+        let (first, second, work) = (first?, second?, work?);
+        Ok(Lengths { trace: first, second_trace: second, end: second, work })
+    }
+
+    fn check_call(&self, operation: Operation) -> Result<(), String> {
+        let job = self.bytes("job")?;
+        let second = if operation == Operation::Pair { self.bytes("second")? } else { Vec::new() };
+        let lengths = self.lengths(operation)?;
+        let call = Call { operation, job: &job, second: &second, lengths, fill: FILL };
+        match call.by_library().difference(&self.expected(operation)?) {
+            Some(difference) => Err(difference),
+            None => Ok(()),
+        }
+    }
+
+    fn check_listing(&self) -> Result<(), String> {
+        let text = listing(&self.bytes("job")?);
+        if text == self.text.as_bytes() {
+            Ok(())
+        } else {
+            Err(format!("the listing is\n{}", String::from_utf8_lossy(&text)))
+        }
+    }
+
+    /// Runs the vector; the library has no listing, so listings are made by the reference.
+    pub fn check(&self) -> Result<Checked, String> {
+        let operation = match self.field("op")? {
+            "run" => Operation::Run,
+            "plain" => Operation::Plain,
+            "pair" => Operation::Pair,
+            "listing" => return self.check_listing().map(|()| Checked::ReferenceListing),
+            other => return Err(format!("unknown op \"{other}\"")),
+        };
+        self.check_call(operation).map(|()| Checked::Library(operation))
+    }
+}
+
+fn number(text: &str) -> Result<u64, String> {
+    text.parse().map_err(|error| format!("\"{text}\": {error}"))
+}
+
+fn position(names: &[&str], text: &str) -> Result<u64, String> {
+    let found = names.iter().position(|name| *name == text);
+    found.map(|at| at as u64).ok_or_else(|| format!("unknown word \"{text}\""))
+}

@@ -1,0 +1,48 @@
+//! The committed example files are those that make-examples writes, and have document 01's listings.
+
+use std::path::PathBuf;
+
+use check_box_reference::listing;
+use checker_tests::examples::{self, barrier, nested, printed, r0_zero};
+use checker_tests::job_file::Parts;
+
+#[test]
+fn committed_files_are_as_generated() {
+    let folder = PathBuf::from(env!("CARGO_MANIFEST_DIR")).join("../examples");
+    for (name, job) in examples::files() {
+        let committed = std::fs::read(folder.join(name)).expect(name);
+        assert_eq!(committed, job, "{name} differs from what make-examples writes");
+    }
+}
+
+#[test]
+fn the_printed_job_has_the_offsets_of_the_document() {
+    let job = printed().bytes();
+    assert_eq!(job.len(), 236);
+    assert_eq!(job[220..224], [28, 0, 188, 0]);
+}
+
+fn lines(parts: &Parts) -> String {
+    String::from_utf8(listing(&parts.bytes())).expect("text")
+}
+
+#[test]
+fn the_printed_job_is_printed_as_in_the_document() {
+    let text = "start 0\npc 2\nload 1\nload 3\nrollback 0\npc end\nstop finished\nsteps 5\n\
+                rollbacks 1\ndepends r0 r1 m1\nplain r0 r1\nverdict speculative\n";
+    assert_eq!(lines(&printed()), text);
+}
+
+#[test]
+fn the_other_examples_are_those_of_the_document() {
+    let text = lines(&r0_zero());
+    let trace = "start 0\npc end\nrollback 0\npc 2\nload 0\nload 2\nstop finished\nsteps 5\n";
+    assert!(text.starts_with(trace) && text.ends_with("verdict plain\n"), "{text}");
+    let text = lines(&barrier());
+    let trace = "start 0\npc 2\nrollback 0\npc end\nstop finished\nsteps 4\n";
+    assert!(text.starts_with(trace) && text.ends_with("verdict clean\n"), "{text}");
+    let text = lines(&nested());
+    let trace = "start 0\npc 1\nstart 1\npc 2\nrollback 1\npc end\nrollback 0\npc end\n\
+                 stop finished\nsteps 5\n";
+    assert!(text.starts_with(trace), "{text}");
+}
