@@ -52,13 +52,7 @@ fn refusal_number(n: Refusal) -> u32
     }
 }
 
-fn write_run(
-    c: Counts,
-    full: LocationSet,
-    plain: LocationSet,
-    v: Verdict,
-    answer: &mut [u64; 13],
-)
+fn write_run(c: Counts, full: LocationSet, plain: LocationSet, v: Verdict, answer: &mut [u64; 13])
     ensures { λ _. ⌜ now (answer .exit) ≡ sets (now (answer .entry)) 0 (runWords c full plain v) ⌝ }
 {
     let d = full.words;
