@@ -22,9 +22,11 @@ use Rattle.rules.specs.Rules.Runs.{Job, Result, judge, mispredictingRun, plainR
 use Rattle.rules.specs.Rules.JobFile.{accepted, rejected, parse, trailer, stateOf, publicOf, wordsAt}
 use Rattle.rules.specs.Rules.Calls.{Areas, Called, lent, written, workingWords, room, longEnough, areasAfter, runReport, runRefused, runParsed, runCall, plainReport, plainRefused, plainParsed, plainCall}
 use Rattle.rules.specs.Rules.Pairs.{withState}
-use Rattle.rules.specs.Rules.Demands.{Exact, RunUnaltered, PlainUnaltered}
+use Rattle.rules.specs.Rules.Demands.{Exact, RunUnaltered, PlainUnaltered, Demand2, Demand3}
 use Rattle.rules.specs.Theorems.JobLaws.{Passed, passed, Limits, limits-hold, job-init, job-public, length-stateOf, state-list, list-length}
 use Rattle.rules.specs.Theorems.CallLaws.{refused-unaltered, plain-refused-unaltered}
+use Rattle.rules.specs.Theorems.FilePlain.{demand2-call}
+use Rattle.rules.specs.Theorems.FileSecrecy.{demand3-call}
 use Rattle.job.specs.Answers.{Accepts}
 use Rattle.work.specs.Machines.{stateIn}
 use Rattle.stepping.specs.declared.Progress.{Progress}
@@ -148,3 +150,10 @@ pub plain-unaltered : (bs : List ℕ) (a : Areas) {r : PlainAnswer} {a′ : Area
 plain-unaltered bs a x = record {
   refused = λ e. x .areas ∙ plain-refused-unaltered bs a (ap (λ (y : PlainAnswer). y .outcome) (sym (x .answer)) ∙ e);
 }
+
+-- demands 2 and 3 of a call that is exact
+pub run-plainly : (bs : List ℕ) (a : Areas) {r : RunAnswer} {a′ : Areas} → Exact (runCall bs a) r a′ → Demand2 bs a r a′
+run-plainly bs a x = rw (x .answer, x .areas) (demand2-call bs a)
+
+pub run-secret : (bs : List ℕ) (a : Areas) {r : RunAnswer} {a′ : Areas} → Exact (runCall bs a) r a′ → Demand3 bs a r a′
+run-secret bs a x = rw (x .answer, x .areas) (demand3-call bs a)

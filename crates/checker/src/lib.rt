@@ -163,8 +163,8 @@ fn run_accepted(
 pub fn run(job: &[u8], trace: &mut [u64], end: &mut [u64], work: &mut [u64]) -> RunAnswer
     ensures exact { λ r. ⌜ Exact (runCall (now (job .entry)) (lent (now (trace .entry)) (now (end .entry)) (now (work .entry)))) r (lent (now (trace .exit)) (now (end .exit)) (now (work .exit))) ⌝ }
     ensures unaltered { λ r. ⌜ RunUnaltered r (lent (now (trace .entry)) (now (end .entry)) (now (work .entry))) (lent (now (trace .exit)) (now (end .exit)) (now (work .exit))) ⌝ }
-    ensures plainly { λ r. ⌜ Demand2 (now (job .entry)) (lent (now (trace .entry)) (now (end .entry)) (now (work .entry))) ⌝ }
-    ensures secret { λ r. ⌜ Demand3 (now (job .entry)) (lent (now (trace .entry)) (now (end .entry)) (now (work .entry))) ⌝ }
+    ensures plainly { λ r. ⌜ Demand2 (now (job .entry)) (lent (now (trace .entry)) (now (end .entry)) (now (work .entry))) r (lent (now (trace .exit)) (now (end .exit)) (now (work .exit))) ⌝ }
+    ensures secret { λ r. ⌜ Demand3 (now (job .entry)) (lent (now (trace .entry)) (now (end .entry)) (now (work .entry))) r (lent (now (trace .exit)) (now (end .exit)) (now (work .exit))) ⌝ }
 {
     match job::read_job(job) {
         JobRead::Accepted(t) => run_accepted(job, t, &mut trace[..], &mut end[..], &mut work[..]),

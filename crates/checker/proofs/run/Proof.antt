@@ -2,10 +2,8 @@
 use mathlib.Core.Path.{sym, _∙_}
 use Rattle.rules.specs.Rules.Calls.{lent}
 use Rattle.rules.specs.Rules.JobFile.{trailer, parse}
-use Rattle.rules.specs.Theorems.FilePlain.{demand2-call}
-use Rattle.rules.specs.Theorems.FileSecrecy.{demand3-call}
 use Rattle.job.specs.Answers.{read-accepted, read-refused}
-use Rattle.checker.proofs.Laws.{exact-rejected, run-unaltered}
+use Rattle.checker.proofs.Laws.{exact-rejected, run-unaltered, run-plainly, run-secret}
 use borrow.Author.Needs.{needs}
 use Rattle.checker.proofs.run.Statement.{statement}
 use Rattle.checker.proofs.run.Tie as tie
@@ -45,7 +43,7 @@ returns c =
     let x = c .before .before .before .before .before .before .run-accepted .ensures in
     let f = a .job .now in
     let l = (lent (a .trace .now) (a .end .now) (a .work .now)) in
-    (x, (run-unaltered f l x, (demand2-call f l, demand3-call f l)))
+    (x, (run-unaltered f l x, (run-plainly f l x, run-secret f l x)))
 
 returns-2 : tie.Need-returns-2
 returns-2 c =
@@ -54,7 +52,7 @@ returns-2 c =
     let l = (lent (a .trace .now) (a .end .now) (a .work .now)) in
     let p = read-refused (trailer f) _ (parse f) (sym (c .before .before .n .given .1) ∙ c .before .before .before .before .read-job .ensures) in
     let x = exact-rejected f _ p l (c .run-refused .ensures) in
-    (x, (run-unaltered f l x, (demand2-call f l, demand3-call f l)))
+    (x, (run-unaltered f l x, (run-plainly f l x, run-secret f l x)))
 
 pub run-spec : {M : Type 1} → statement M
 run-spec =

@@ -25,7 +25,7 @@ use Rattle.rules.specs.Rules.JobFile.{trailer, stateOf, publicOf}
 use Rattle.rules.specs.Rules.Calls.{Areas, Called, traceWords, runCall, plainCall}
 use Rattle.rules.specs.Rules.Strike.{strike}
 
--- ---- demand 1: "a run's answer, or the refusal number that document 01 fixes"
+-- ---- demand 1, and the first half of demand 2: "a run's answer, or the refusal number that document 01 fixes"
 -- The answer and every lent word are the definition's, for every list of bytes and all areas: `called` is the definition's call.
 pub record Exact {A : Type 0} (called : Called A) (r : A) (after : Areas) : Type 0 where
   pub answer : r ≡ called .answer
@@ -54,9 +54,12 @@ abbrev pub plainObserved : PlainOutcome → ℕ
 plainObserved (plains.Refused r) = 0
 plainObserved (plains.Ran n) = n .observations
 
--- the words that a call writes to its trace area: "two an observation", "from the front"
+-- the words that a call writes to its trace area: "two an observation", "from the front"; by its answer and the areas after it
+unfoldable pub traceIn : RunAnswer → Areas → List ℕ
+traceIn r after = take (2 * observed (r .outcome)) (after .trace)
+
 unfoldable pub traceOf : List ℕ → Areas → List ℕ
-traceOf f a = take (2 * observed (runCall f a .answer .outcome)) (runCall f a .areas .trace)
+traceOf f a = traceIn (runCall f a .answer) (runCall f a .areas)
 
 unfoldable pub plainTraceOf : List ℕ → Areas → List ℕ
 plainTraceOf f a = take (2 * plainObserved (plainCall f a .answer .outcome)) (plainCall f a .areas .trace)
@@ -67,17 +70,20 @@ endOf f area = take (registers + trailer f .cells) area
 
 -- ---- demand 2: "When a run finishes, striking out all from each outermost start to its rollback gives the plain run's trace, and
 -- the end states are equal." The plain run is "of the same job, in areas of the same lengths".
-pub record PlainMatch (f : List ℕ) (a a′ : Areas) : Type 0 where
+-- The run's answer is r, and `after` are the areas after it; `observed` is its trace.
+pub record PlainMatch (f : List ℕ) (r : RunAnswer) (after a′ : Areas) : Type 0 where
   pub counts : PlainCounts
   pub finishes : plainCall f a′ .answer .outcome ≡ plains.Ran counts
   pub stop : counts .stop ≡ Finished
-  pub trace : (os : List Observation) → traceOf f a ≡ traceWords os → plainTraceOf f a′ ≡ traceWords (strike os)
-  pub states : endOf f (plainCall f a′ .areas .end) ≡ endOf f (runCall f a .areas .end)
-  pub plain : plainCall f a′ .answer .plain ≡ runCall f a .answer .plain
+  pub observed : List Observation
+  pub written : traceIn r after ≡ traceWords observed
+  pub trace : plainTraceOf f a′ ≡ traceWords (strike observed)
+  pub states : endOf f (plainCall f a′ .areas .end) ≡ endOf f (after .end)
+  pub plain : plainCall f a′ .answer .plain ≡ r .plain
 
-pub record Demand2 (f : List ℕ) (a : Areas) : Type 0 where
-  pub finished : {n : Counts} {v : Verdict} → runCall f a .answer .outcome ≡ runs.Ran n v → n .stop ≡ Finished
-      → (a′ : Areas) → SameLengths a a′ → PlainMatch f a a′
+pub record Demand2 (f : List ℕ) (a : Areas) (r : RunAnswer) (after : Areas) : Type 0 where
+  pub finished : {n : Counts} {v : Verdict} → r .outcome ≡ runs.Ran n v → n .stop ≡ Finished
+      → (a′ : Areas) → SameLengths a a′ → PlainMatch f r after a′
 
 -- ---- demand 3
 -- "The second state stands in a job that is the same but for the state's bytes": those before it and those after it are the same.
@@ -92,19 +98,19 @@ pub record AlikeOn (s : LocationSet) (xs ys : List ℕ) : Type 0 where
   pub same : (l : ℕ) → member s l ≡ true → getD xs l 0 ≡ getD ys l 0
 
 -- the same answer (stop, observation count, steps, rollbacks, both sets and verdict), and the same trace
-pub record SameCall (f : List ℕ) (a : Areas) (g : List ℕ) (a′ : Areas) : Type 0 where
-  pub answer : runCall f a .answer ≡ runCall g a′ .answer
-  pub trace : traceOf f a ≡ traceOf g a′
+pub record SameCall (r : RunAnswer) (after : Areas) (g : List ℕ) (a′ : Areas) : Type 0 where
+  pub answer : r ≡ runCall g a′ .answer
+  pub trace : traceIn r after ≡ traceOf g a′
 
 -- "Wherever the run ends, finished or stopped, every second state alike to the first on the reported set (same routine, memory
 -- size, public list, window, budget, area lengths) gives the same whole trace, counts, stop, both sets and verdict. If the verdict
--- is clean, so does every state alike on the public locations."
-pub record Demand3 (f : List ℕ) (a : Areas) : Type 0 where
-  pub reported : {n : Counts} {v : Verdict} → runCall f a .answer .outcome ≡ runs.Ran n v
+-- is clean, so does every state alike on the public locations." The run's answer is r, and `after` are the areas after it.
+pub record Demand3 (f : List ℕ) (a : Areas) (r : RunAnswer) (after : Areas) : Type 0 where
+  pub reported : {n : Counts} {v : Verdict} → r .outcome ≡ runs.Ran n v
       → (g : List ℕ) (a′ : Areas) → SameButState f g → SameLengths a a′
-      → AlikeOn (runCall f a .answer .depends) (stateOf (trailer f) f) (stateOf (trailer f) g)
-      → SameCall f a g a′
-  pub clean : {n : Counts} → runCall f a .answer .outcome ≡ runs.Ran n Clean
+      → AlikeOn (r .depends) (stateOf (trailer f) f) (stateOf (trailer f) g)
+      → SameCall r after g a′
+  pub clean : {n : Counts} → r .outcome ≡ runs.Ran n Clean
       → (g : List ℕ) (a′ : Areas) → SameButState f g → SameLengths a a′
       → AlikeOn (publicOf (trailer f) f) (stateOf (trailer f) f) (stateOf (trailer f) g)
-      → SameCall f a g a′
+      → SameCall r after g a′

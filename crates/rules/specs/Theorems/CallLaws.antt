@@ -20,7 +20,7 @@ use Rattle.rules.specs.Rules.Runs.{Job, Result, mispredictingRun, plainR
 use Rattle.rules.specs.Rules.JobFile.{Parsed, accepted, rejected, parse}
 use Rattle.rules.specs.Rules.Calls.{traceWords, Areas, room, longEnough, written, areasAfter, Called, counts, runReport, runRefused, runParsed, runCall, plainReport, plainParsed, plainCall}
 use Rattle.rules.specs.Rules.Pairs.{withState}
-use Rattle.rules.specs.Rules.Demands.{SameLengths, traceOf, plainTraceOf}
+use Rattle.rules.specs.Rules.Demands.{SameLengths, traceIn, traceOf, plainTraceOf}
 
 -- ---- a call that ran, and one that was refused
 pub length-traceWords : (os : List Observation) → length (traceWords os) ≡ 2 * length os
@@ -48,7 +48,7 @@ module _ {f : List ℕ} {a : Areas} (r : Runs f a) where
   call-runs = rw (r .parsed, r .enough, runParsed)
 
   pub trace-runs : traceOf f a ≡ traceWords (result .log .trace)
-  unfolding traceOf runReport areasAfter counts written
+  unfolding traceOf traceIn runReport areasAfter counts written
   trace-runs =
       let os = result .log .trace in
       rw call-runs (take-at (traceWords os) _ (2 * length os) (length-traceWords os))
@@ -102,7 +102,7 @@ trace-written f a = go (view f a)
   where
     go : View f a → runCall f a .areas .trace ≡ written (traceOf f a) (a .trace)
     go (ran r) = unfold areasAfter in rw (trace-runs r, call-runs r)
-    go (refused n e) = unfold traceOf runRefused written in rw e
+    go (refused n e) = unfold traceOf traceIn runRefused written in rw e
 
 -- ---- the same job in areas of the same lengths
 pub same-room : {a a′ : Areas} → SameLengths a a′ → room (a′ .trace) ≡ room (a .trace)

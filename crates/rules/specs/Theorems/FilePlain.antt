@@ -1,54 +1,25 @@
 -- Demand 2 of the calls on job files: where a run finishes, the plain run of the same file in areas of the same lengths finishes,
 -- has the struck-out trace, leaves the same registers and cells, and reports the same plain set.
 -- Assumes nothing.
-use mathlib.Core.Path.{_≡_, refl, sym, ap, ap₂, _∙_}
-use mathlib.Core.List.{List, [], _∷_, _++_}
-use Prim.Native.Nat.{ℕ, zero, suc, _+_, _≤_}
-use native.Mathlib.Omega.{arith}
-use lib.ListN.{length, take}
+use mathlib.Core.Path.{_≡_, sym, ap, _∙_}
+use mathlib.Core.List.{List}
+use Prim.Native.Nat.{ℕ, _+_}
+use lib.ListN.{length}
 use lib.Seq.{take-at}
 use Rattle.location.specs.Sets.{registers}
 use Rattle.rules.specs.declared.Stop.the-variants.{Finished}
 use Rattle.rules.specs.declared.Verdict.{Verdict}
 use Rattle.rules.specs.declared.Counts.{Counts}
 use Rattle.rules.specs.declared.RunOutcome.the-variants as runs
-use Rattle.rules.specs.Rules.Instructions.{Observation, start, rollback, pc, loaded, stored}
 use Rattle.rules.specs.Rules.Plain.{State, values}
-use Rattle.rules.specs.Rules.Runs.{Result, mispredictingRun, plainRun, verdict}
+use Rattle.rules.specs.Rules.Runs.{Result, verdict}
 use Rattle.rules.specs.Rules.JobFile.{trailer}
-use Rattle.rules.specs.Rules.Calls.{traceWords, Areas, room, written, areasAfter, counts, runReport, runCall, plainReport, plainCall}
-use Rattle.rules.specs.Rules.Strike.{strike}
-use Rattle.rules.specs.Rules.Demands.{SameLengths, traceOf, plainTraceOf, endOf, PlainMatch, Demand2}
+use Rattle.rules.specs.Rules.Calls.{traceWords, Areas, room, written, areasAfter, counts, runReport, runCall, plainReport}
+use Rattle.rules.specs.Rules.Demands.{SameLengths, traceOf, endOf, PlainMatch, Demand2}
 use Rattle.rules.specs.Theorems.PlainRun.{PlainMatches, demand2}
 use Rattle.rules.specs.Theorems.Sizes.{values-length, plain-length}
 use Rattle.rules.specs.Theorems.JobLaws.{passed, job-init, length-stateOf}
 use Rattle.rules.specs.Theorems.CallLaws.{Runs, result, call-runs, trace-runs, plainResult, plain-call-runs, plain-trace-runs, view, runs-of, same-room, enough-same}
-
--- ---- the words of a trace fix it
--- the observation of a kind with a value, read back from its two words
-readKind : ℕ → ℕ → Observation
-readKind zero v = start v
-readKind (suc zero) v = rollback v
-readKind (suc (suc zero)) v = pc v
-readKind (suc (suc (suc zero))) v = loaded v
-readKind (suc (suc (suc (suc k)))) v = stored v
-
-readTrace : List ℕ → List Observation
-readTrace [] = []
-readTrace (k ∷ []) = []
-readTrace (k ∷ v ∷ ws) = readKind k v ∷ readTrace ws
-
-read-back : (os : List Observation) → readTrace (traceWords os) ≡ os
-unfolding traceWords readTrace readKind
-read-back [] = refl
-read-back (start i ∷ os) = ap (λ (qs : List Observation). start i ∷ qs) (read-back os)
-read-back (rollback i ∷ os) = ap (λ (qs : List Observation). rollback i ∷ qs) (read-back os)
-read-back (pc p ∷ os) = ap (λ (qs : List Observation). pc p ∷ qs) (read-back os)
-read-back (loaded l ∷ os) = ap (λ (qs : List Observation). loaded l ∷ qs) (read-back os)
-read-back (stored l ∷ os) = ap (λ (qs : List Observation). stored l ∷ qs) (read-back os)
-
-pub traceWords-same : {os qs : List Observation} → traceWords os ≡ traceWords qs → os ≡ qs
-traceWords-same {os} {qs} e = sym (read-back os) ∙ ap readTrace e ∙ read-back qs
 
 -- ---- two calls
 module _ {f : List ℕ} {a a′ : Areas} (r : Runs f a) (h : SameLengths a a′) where
@@ -71,7 +42,7 @@ module _ {f : List ℕ} {a a′ : Areas} (r : Runs f a) (h : SameLengths a a′)
       take-at (values σ) _ (registers + trailer f .cells)
       (values-length σ ∙ e ∙ ap length (job-init (passed f (r .job) (r .parsed))) ∙ length-stateOf (trailer f) f)
 
-  matches : PlainMatches (result r) plain → PlainMatch f a a′
+  matches : PlainMatches (result r) plain → PlainMatch f (runCall f a .answer) (runCall f a .areas) a′
   unfolding plainReport areasAfter runReport other
   matches m =
       let size : length (plain .last .state) ≡ length (r .job .init) = plain-length (r .job) (room (a′ .trace)) in
@@ -79,7 +50,9 @@ module _ {f : List ℕ} {a a′ : Areas} (r : Runs f a) (h : SameLengths a a′)
         counts = record { stop = plain .stop; observations = length (plain .log .trace); steps = plain .log .steps };
         finishes = rw (plain-call-runs other);
         stop = m .stop;
-        trace = λ os e. plain-trace-runs other ∙ ap traceWords (m .trace ∙ ap strike (traceWords-same (sym (trace-runs r) ∙ e)));
+        observed = result r .log .trace;
+        written = unfold traceOf in trace-runs r;
+        trace = plain-trace-runs other ∙ ap traceWords (m .trace);
         states = rw (plain-call-runs other, call-runs r, ← m .state)
             (front (plain .last .state) (a′ .end) size ∙ sym (front (plain .last .state) (a .end) size));
         plain = rw (plain-call-runs other, call-runs r) (m .plain);
@@ -94,7 +67,7 @@ finished-stop {n = n} {v = v} r e s =
     let c : counts (result r) ≡ n = cc in
     ap (λ (x : Counts). x .stop) c ∙ s
 
-pub demand2-call : (f : List ℕ) (a : Areas) → Demand2 f a
+pub demand2-call : (f : List ℕ) (a : Areas) → Demand2 f a (runCall f a .answer) (runCall f a .areas)
 demand2-call f a = record {
   finished = λ e s a′ h. let r = runs-of e (view f a) in matches r h (run-matches r h (finished-stop r e s));
 }

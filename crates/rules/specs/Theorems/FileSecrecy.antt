@@ -16,12 +16,15 @@ use Rattle.rules.specs.Rules.Runs.{Job, Result, mispredictingRun, verdic
 use Rattle.rules.specs.Rules.JobFile.{Parsed, accepted, rejected, parse, trailer, stateOf, publicOf}
 use Rattle.rules.specs.Rules.Calls.{traceWords, Areas, room, longEnough, written, counts, runReport, runRefused, runParsed, runCall}
 use Rattle.rules.specs.Rules.Pairs.{withState}
-use Rattle.rules.specs.Rules.Demands.{SameLengths, traceOf, SameButState, AlikeOn, SameCall, Demand3}
+use Rattle.rules.specs.Rules.Demands.{SameLengths, traceIn, traceOf, SameButState, AlikeOn, SameCall, Demand3}
 use Rattle.rules.specs.Theorems.Secrecy.{SameReport, demand3, demand3-clean}
 use Rattle.rules.specs.Theorems.JobLaws.{passed, job-init, job-public, init-most, length-stateOf, parse-same, parse-other}
 use Rattle.rules.specs.Theorems.CallLaws.{Runs, result, call-runs, trace-runs, refusal, view, refused-ran, runs-of, trace-written, same-room, same-enough}
 
 -- ---- two calls
+abbrev SameCalls : List ℕ → Areas → List ℕ → Areas → Type 0
+SameCalls f a g a′ = SameCall (runCall f a .answer) (runCall f a .areas) g a′
+
 -- the same set and the same words, written otherwise
 alike-as : {s s′ : LocationSet} {xs xs′ ys : List ℕ} → s ≡ s′ → xs ≡ xs′ → AlikeOn s′ xs′ ys → AlikeOn s xs ys
 alike-as d e h = rw (d, e) h
@@ -50,15 +53,15 @@ module _ {f g : List ℕ} {a a′ : Areas} (r : Runs f a) (s : SameButState f g)
     enough = same-enough (r .job) (stateOf (trailer f) g) (same-size f g (r .job) (r .parsed)) h ∙ r .enough;
   }
 
-  same-call : SameReport (r .job) other (result r) (mispredictingRun other (room (a .trace))) → SameCall f a g a′
-  unfolding other-runs
+  same-call : SameReport (r .job) other (result r) (mispredictingRun other (room (a .trace))) → SameCalls f a g a′
+  unfolding other-runs traceIn traceOf
   same-call x = record {
     answer = rw (call-runs r, call-runs other-runs, same-room h) (same-answer x);
     trace = rw (trace-runs r, trace-runs other-runs, same-room h) (ap traceWords (x .trace));
   }
 
   -- states alike in the reported set
-  same-reported : AlikeOn (runCall f a .answer .depends) (stateOf (trailer f) f) (stateOf (trailer f) g) → SameCall f a g a′
+  same-reported : AlikeOn (runCall f a .answer .depends) (stateOf (trailer f) f) (stateOf (trailer f) g) → SameCalls f a g a′
   unfolding runReport
   same-reported k =
       let p = passed f (r .job) (r .parsed) in
@@ -69,7 +72,7 @@ module _ {f g : List ℕ} {a a′ : Areas} (r : Runs f a) (s : SameButState f g)
 
   -- a clean verdict, and states alike in the public list
   same-clean : {n : Counts} → runCall f a .answer .outcome ≡ runs.Ran n verdicts.Clean
-      → AlikeOn (publicOf (trailer f) f) (stateOf (trailer f) f) (stateOf (trailer f) g) → SameCall f a g a′
+      → AlikeOn (publicOf (trailer f) f) (stateOf (trailer f) f) (stateOf (trailer f) g) → SameCalls f a g a′
   unfolding runReport
   same-clean {n} e k =
       let p = passed f (r .job) (r .parsed) in
@@ -80,35 +83,36 @@ module _ {f g : List ℕ} {a a′ : Areas} (r : Runs f a) (s : SameButState f g)
       (alike-as (job-public p) (job-init p) k))
 
 -- ---- the theorems
-pub demand3-call : (f : List ℕ) (a : Areas) → Demand3 f a
+pub demand3-call : (f : List ℕ) (a : Areas) → Demand3 f a (runCall f a .answer) (runCall f a .areas)
 demand3-call f a = record {
   reported = λ e g a′ s h k. same-reported (runs-of e (view f a)) s h k;
   clean = λ e g a′ s h k. same-clean (runs-of e (view f a)) s h e k;
 }
 
 -- With trace-written of the first call: one list of words stands at the front of both trace areas.
-pub same-words : {f g : List ℕ} {a a′ : Areas} → SameCall f a g a′
+pub same-words : (f : List ℕ) (a : Areas) {g : List ℕ} {a′ : Areas} → SameCall (runCall f a .answer) (runCall f a .areas) g a′
     → runCall g a′ .areas .trace ≡ written (traceOf f a) (a′ .trace)
-same-words {f} {g} {a} {a′} c = trace-written g a′ ∙ ap (λ (ws : List ℕ). written ws (a′ .trace)) (sym (c .trace))
+unfolding traceOf
+same-words f a {g} {a′} c = trace-written g a′ ∙ ap (λ (ws : List ℕ). written ws (a′ .trace)) (sym (c .trace))
 
 -- ---- a call that is refused: a second one with the same trailer is refused for the same cause
-both-refused : {f g : List ℕ} {a a′ : Areas} (n : Refusal) → runCall f a ≡ refusal n a → runCall g a′ ≡ refusal n a′
-    → SameCall f a g a′
-unfolding traceOf runRefused
-both-refused n p q = record { answer = rw (p, q); trace = rw (p, q) }
+both-refused : (f : List ℕ) (a : Areas) {g : List ℕ} {a′ : Areas} (n : Refusal) → runCall f a ≡ refusal n a
+    → runCall g a′ ≡ refusal n a′ → SameCalls f a g a′
+unfolding traceIn traceOf runRefused
+both-refused f a n p q = record { answer = rw (p, q); trace = rw (p, q) }
 
 pub same-refusal : {f g : List ℕ} {a a′ : Areas} {n : Refusal} → runCall f a .answer .outcome ≡ runs.Refused n
-    → SameButState f g → trailer g ≡ trailer f → SameLengths a a′ → SameCall f a g a′
+    → SameButState f g → trailer g ≡ trailer f → SameLengths a a′ → SameCall (runCall f a .answer) (runCall f a .areas) g a′
 unfolding runCall runParsed runReport
 same-refusal {f} {g} {a} {a′} {n} e s t h = go (parse f) refl
   where
-    fits : (job : Job) → parse f ≡ accepted job → (b : Bool) → longEnough job a ≡ b → SameCall f a g a′
+    fits : (job : Job) → parse f ≡ accepted job → (b : Bool) → longEnough job a ≡ b → SameCalls f a g a′
     fits job q true l = refused-ran (sym (rw (q, l, runParsed) at e))
     fits job q false l =
         let vs = stateOf (trailer f) g in
-        both-refused refusals.Areas (rw (q, l, runParsed))
+        both-refused f a refusals.Areas (rw (q, l, runParsed))
         (rw (parse-other q s, same-enough job vs (same-size f g job q) h, l, runParsed))
 
-    go : (P : Parsed) → parse f ≡ P → SameCall f a g a′
-    go (rejected m) q = both-refused m (rw (q, runParsed)) (rw (parse-same s t, q, runParsed))
+    go : (P : Parsed) → parse f ≡ P → SameCalls f a g a′
+    go (rejected m) q = both-refused f a m (rw (q, runParsed)) (rw (parse-same s t, q, runParsed))
     go (accepted job) q = fits job q (longEnough job a) refl

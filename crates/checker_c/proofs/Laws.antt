@@ -1,0 +1,91 @@
+-- The words of an answer, and how the C calls meet the rules' calls.
+-- Assumes nothing.
+use mathlib.Core.Path.{_≡_, refl, sym, ap, ap₂, _∙_}
+use mathlib.Core.List.{List, [], _∷_, _++_}
+use Prim.Native.Nat.{ℕ, _<_}
+use native.Mathlib.Omega.{arith}
+use lib.ListN.{length, getD, drop}
+use lib.Seq.{sets, drop-cons, drop-length}
+use Rattle.location.specs.declared.LocationSet.{LocationSet}
+use Rattle.rules.specs.declared.Verdict.{Verdict}
+use Rattle.rules.specs.declared.Counts.{Counts}
+use Rattle.rules.specs.declared.PlainCounts.{PlainCounts}
+use Rattle.rules.specs.declared.Refusal.{Refusal}
+use Rattle.rules.specs.declared.RunOutcome.the-variants as runs
+use Rattle.rules.specs.declared.RunAnswer.{RunAnswer}
+use Rattle.rules.specs.declared.PlainOutcome.the-variants as plains
+use Rattle.rules.specs.declared.PlainAnswer.{PlainAnswer}
+use Rattle.rules.specs.Rules.Answers.{stopNumber, verdictNumber, refusalNumber}
+use Rattle.rules.specs.Rules.Calls.{Areas, Called}
+use Rattle.rules.specs.Rules.Demands.{Exact}
+use Rattle.checker_c.specs.Words.{runWords, plainWords, runNumber, plainNumber, runAnswerWords, plainAnswerWords}
+use Rattle.checker_c.specs.Calls.{RunReturns, PlainReturns}
+
+-- a list of four is its four elements
+abbrev four : List ℕ → List ℕ
+four l = getD l 0 0 ∷ getD l 1 0 ∷ getD l 2 0 ∷ getD l 3 0 ∷ []
+
+four-of : (l : List ℕ) → length l ≡ 4 → four l ≡ l
+four-of l h =
+    let h₀ : 0 < length l = omega arith in
+    let h₁ : 1 < length l = omega arith in
+    let h₂ : 2 < length l = omega arith in
+    let h₃ : 3 < length l = omega arith in
+    sym (drop-cons l 0 0 h₀ ∙ ap (λ (t : List ℕ). getD l 0 0 ∷ t) (drop-cons l 1 0 h₁
+    ∙ ap (λ (t : List ℕ). getD l 1 0 ∷ t) (drop-cons l 2 0 h₂
+    ∙ ap (λ (t : List ℕ). getD l 2 0 ∷ t) (drop-cons l 3 0 h₃
+    ∙ ap (λ (t : List ℕ). getD l 3 0 ∷ t) (ap (λ (n : ℕ). drop n l) (sym h) ∙ drop-length l)))))
+
+pub run-written : (l : List ℕ) (c : Counts) (full plain : LocationSet) (v : Verdict) {s k : ℕ}
+    → length (full .words) ≡ 4 → length (plain .words) ≡ 4 → s ≡ stopNumber (c .stop) → k ≡ verdictNumber v
+    → sets l 0 ((s ∷ c .observations ∷ c .steps ∷ c .rollbacks ∷ []) ++ four (full .words) ++ four (plain .words) ++ (k ∷ []))
+    ≡ sets l 0 (runWords c full plain v)
+run-written l c full plain v {s} {k} hf hp es ek =
+    ap (sets l 0)
+    (λ i. (es i ∷ c .observations ∷ c .steps ∷ c .rollbacks ∷ []) ++ four-of (full .words) hf i ++ four-of (plain .words) hp i ++ (ek i ∷ []))
+
+pub plain-written : (l : List ℕ) (c : PlainCounts) (plain : LocationSet) {s : ℕ} → length (plain .words) ≡ 4
+    → s ≡ stopNumber (c .stop)
+    → sets l 0 ((s ∷ c .observations ∷ c .steps ∷ []) ++ four (plain .words)) ≡ sets l 0 (plainWords c plain)
+plain-written l c plain {s} hp es =
+    ap (sets l 0) (λ i. (es i ∷ c .observations ∷ c .steps ∷ []) ++ four-of (plain .words) hp i)
+
+-- ---- the calls
+module _ {called : Called RunAnswer} {a : RunAnswer} {areas : Areas} (x : Exact called a areas) (before : List ℕ) where
+  outcome-same : called .answer .outcome ≡ a .outcome
+  outcome-same = sym (ap (λ (r : RunAnswer). r .outcome) (x .answer))
+
+  pub run-refused : {n : Refusal} {r : ℕ} → a .outcome ≡ runs.Refused n → r ≡ refusalNumber n → RunReturns called before r before areas
+  run-refused e er = record {
+    number = rw (outcome-same, e) er;
+    words = rw (outcome-same, e);
+    left = x .areas;
+  }
+
+  pub run-returned : {c : Counts} {v : Verdict} {after : List ℕ} → a .outcome ≡ runs.Ran c v → after ≡ sets before 0 (runWords c (a .depends) (a .plain) v)
+      → RunReturns called before 0 after areas
+  run-returned {c} {v} e ea = record {
+    number = rw (outcome-same, e);
+    words = rw (outcome-same, e)
+        (ea ∙ ap₂ (λ (d p : LocationSet). sets before 0 (runWords c d p v)) (ap (λ (r : RunAnswer). r .depends) (x .answer)) (ap (λ (r : RunAnswer). r .plain) (x .answer)));
+    left = x .areas;
+  }
+
+module _ {called : Called PlainAnswer} {a : PlainAnswer} {areas : Areas} (x : Exact called a areas) (before : List ℕ) where
+  plain-outcome-same : called .answer .outcome ≡ a .outcome
+  plain-outcome-same = sym (ap (λ (r : PlainAnswer). r .outcome) (x .answer))
+
+  pub plain-refused : {n : Refusal} {r : ℕ} → a .outcome ≡ plains.Refused n → r ≡ refusalNumber n → PlainReturns called before r before areas
+  plain-refused e er = record {
+    number = rw (plain-outcome-same, e) er;
+    words = rw (plain-outcome-same, e);
+    left = x .areas;
+  }
+
+  pub plain-returned : {c : PlainCounts} {after : List ℕ} → a .outcome ≡ plains.Ran c → after ≡ sets before 0 (plainWords c (a .plain))
+      → PlainReturns called before 0 after areas
+  plain-returned {c} e ea = record {
+    number = rw (plain-outcome-same, e);
+    words = rw (plain-outcome-same, e) (ea ∙ ap (λ (p : LocationSet). sets before 0 (plainWords c p)) (ap (λ (r : PlainAnswer). r .plain) (x .answer)));
+    left = x .areas;
+  }
