@@ -1,6 +1,6 @@
 // The calls of the checker, on any bytes as a job and lent areas of any length and contents. Nothing has to be tested beforehand.
 //
-// What each call promises is stated in its contract, for every input:
+// What each call promises is stated in its contract, for every input (plainly and secret by `run` alone):
 //   exact      demand 1 and 2: the answer and every word of every lent area are those of the rules, for refused jobs too;
 //   unaltered  demand 1: a refusal leaves every area as it was;
 //   plainly    demand 2: where a run finishes, its trace with each outermost wrong path struck out is the plain run's trace, and

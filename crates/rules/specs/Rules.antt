@@ -1,4 +1,4 @@
--- Document 01 as definitions: what a reader has to believe. The order is that of the document.
+-- Document 01 as definitions: what a reader has to believe. Each file uses only those above it.
 pub mod Operators
 pub mod Expressions
 pub mod Instructions
