@@ -13,3 +13,4 @@ pub mod JobLaws
 pub mod CallLaws
 pub mod FilePlain
 pub mod FileSecrecy
+pub mod PairLaws

@@ -1,10 +1,11 @@
--- The three demands, as statements about calls. Theorems/ proves the second and third of every job file and all areas; the
--- contracts of the calls state all three.
+-- The three demands, as statements about calls, and what the words on a pair of states mean. Theorems/ proves the second and third
+-- demand and the words of every job file and all areas; the contracts of the calls state all of them.
 -- Assumes nothing.
 use mathlib.Core.Path.{_≡_}
 use mathlib.Core.Bool.{true}
+use Prim.{⊥}
 use mathlib.Core.List.{List}
-use Prim.Native.Nat.{ℕ, _+_, _*_}
+use Prim.Native.Nat.{ℕ, _+_, _*_, _≤_}
 use lib.ListN.{length, getD, take, drop}
 use Rattle.location.specs.declared.LocationSet.{LocationSet}
 use Rattle.location.specs.Sets.{registers, member}
@@ -20,9 +21,14 @@ use Rattle.rules.specs.declared.RunAnswer.{RunAnswer}
 use Rattle.rules.specs.declared.PlainOutcome.{PlainOutcome}
 use Rattle.rules.specs.declared.PlainOutcome.the-variants as plains
 use Rattle.rules.specs.declared.PlainAnswer.{PlainAnswer}
+use Rattle.rules.specs.declared.PairWord.{PairWord}
+use Rattle.rules.specs.declared.PairWord.the-variants as words
+use Rattle.rules.specs.declared.PairAnswer.{PairAnswer}
+use Rattle.rules.specs.declared.PairAnswer.the-variants as pairs
 use Rattle.rules.specs.Rules.Instructions.{Observation}
-use Rattle.rules.specs.Rules.JobFile.{trailer, stateOf, publicOf}
-use Rattle.rules.specs.Rules.Calls.{Areas, Called, traceWords, runCall, plainCall}
+use Rattle.rules.specs.Rules.JobFile.{trailer, stateOf, publicOf, wordsAt}
+use Rattle.rules.specs.Rules.Calls.{Areas, Called, traceWords, workingWords, runCall, plainCall}
+use Rattle.rules.specs.Rules.Pairs.{PairAreas, PairCalled}
 use Rattle.rules.specs.Rules.Strike.{strike}
 
 -- ---- demand 1, and the first half of demand 2: "a run's answer, or the refusal number that document 01 fixes"
@@ -114,3 +120,58 @@ pub record Demand3 (f : List ℕ) (a : Areas) (r : RunAnswer) (after : Areas) : 
       → (g : List ℕ) (a′ : Areas) → SameButState f g → SameLengths a a′
       → AlikeOn (publicOf (trailer f) f) (stateOf (trailer f) f) (stateOf (trailer f) g)
       → SameCall r after g a′
+
+-- ---- the pair of states
+-- The answer and every lent word are the definition's.
+pub record PairExact (called : PairCalled) (r : PairAnswer) (after : PairAreas) : Type 0 where
+  pub answer : r ≡ called .answer
+  pub areas : after ≡ called .areas
+
+pub record PairUnaltered (answer : PairAnswer) (before after : PairAreas) : Type 0 where
+  pub refused : {n : Refusal} → answer ≡ pairs.Refused n → after ≡ before
+
+-- "the job's state and a second one": the words of the second state's bytes
+unfoldable pub secondState : List ℕ → List ℕ → List ℕ
+secondState f second = wordsAt (registers + trailer f .cells) second 0
+
+abbrev pub AlikePublic : List ℕ → List ℕ → Type 0
+AlikePublic f second = AlikeOn (publicOf (trailer f) f) (stateOf (trailer f) f) (secondState f second)
+
+-- g is a job file with the second state, and the same but for the state's bytes
+pub record SecondJob (f second g : List ℕ) : Type 0 where
+  pub same : SameButState f g
+  pub state : stateOf (trailer f) g ≡ secondState f second
+
+-- areas for a plain run of either job: as much room for the trace as the pair has, and no shortage
+pub record RunAreas (f : List ℕ) (a : PairAreas) (p : Areas) : Type 0 where
+  pub trace : length (p .trace) ≡ length (a .first)
+  pub end : registers + trailer f .cells ≤ length (p .end)
+  pub work : workingWords ≤ length (p .work)
+
+-- the plain runs of the two jobs have one trace; or two
+pub record SamePlain (f second : List ℕ) (a : PairAreas) : Type 0 where
+  pub same : (g : List ℕ) (p p′ : Areas) → SecondJob f second g → RunAreas f a p → RunAreas f a p′ → plainTraceOf f p ≡ plainTraceOf g p′
+
+pub record OtherPlain (f second : List ℕ) (a : PairAreas) : Type 0 where
+  pub other : (g : List ℕ) (p p′ : Areas) → SecondJob f second g → RunAreas f a p → RunAreas f a p′ → plainTraceOf f p ≡ plainTraceOf g p′ → ⊥
+
+pub record BothFinished (n n′ : Counts) : Type 0 where
+  pub first : n .stop ≡ Finished
+  pub second : n′ .stop ≡ Finished
+
+-- the two traces that were written are one
+pub record SameTraces (n n′ : Counts) (after : PairAreas) : Type 0 where
+  pub same : take (2 * n .observations) (after .first) ≡ take (2 * n′ .observations) (after .second)
+
+-- What each word says: "not comparable (they differ at a public location), undecided (either run not finished), plain differs
+-- (plain traces differ), leak shown (full traces differ), equal", each where those before it do not fit.
+abbrev pub Means : PairWord → List ℕ → List ℕ → PairAreas → Counts → Counts → PairAreas → Type 0
+Means words.NotComparable f second a n n′ after = AlikePublic f second → ⊥
+Means words.Undecided f second a n n′ after = AlikePublic f second × (BothFinished n n′ → ⊥)
+Means words.PlainDiffers f second a n n′ after = AlikePublic f second × BothFinished n n′ × OtherPlain f second a
+Means words.LeakShown f second a n n′ after =
+    AlikePublic f second × BothFinished n n′ × SamePlain f second a × (SameTraces n n′ after → ⊥)
+Means words.Equal f second a n n′ after = AlikePublic f second × BothFinished n n′ × SamePlain f second a × SameTraces n n′ after
+
+pub record PairMeaning (f second : List ℕ) (a : PairAreas) (r : PairAnswer) (after : PairAreas) : Type 0 where
+  pub compared : {word : PairWord} {n n′ : Counts} → r ≡ pairs.Compared word n n′ → Means word f second a n n′ after

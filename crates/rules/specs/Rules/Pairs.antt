@@ -46,27 +46,34 @@ unfoldable pub sameTrace : List Observation → List Observation → Bool
 sameTrace a b = sameWords (traceWords a) (traceWords b)
 
 -- "First that fits: not comparable (they differ at a public location), undecided (either run not finished), plain differs (plain
--- traces differ), leak shown (full traces differ), equal."
+-- traces differ), leak shown (full traces differ), equal." By what holds: alike at the public locations, both runs finished, the
+-- plain traces the same, the full traces the same.
+abbrev pub firstThatFits : Bool → Bool → Bool → Bool → PairWord
+firstThatFits alike finished plain full =
+    elim alike [
+      | false ↦ pairs.NotComparable
+      | true ↦ elim finished [
+        | false ↦ pairs.Undecided
+        | true ↦ elim plain [ false ↦ pairs.PlainDiffers | true ↦ elim full [ false ↦ pairs.LeakShown | true ↦ pairs.Equal ] ]
+      ]
+    ]
+
 unfoldable pub pairWord : Job → List ℕ → ℕ → PairWord
 pairWord job vs k =
     let r = mispredictingRun job k in
     let r′ = mispredictingRun (withState job vs) k in
-    elim (alikeFrom (job .public) 0 (job .init) vs) [
-      | false ↦ pairs.NotComparable
-      | true ↦ elim (isFinished (r .stop) && isFinished (r′ .stop)) [
-        | false ↦ pairs.Undecided
-        | true ↦ elim (sameTrace (plainRun job k .log .trace) (plainRun (withState job vs) k .log .trace)) [
-          | false ↦ pairs.PlainDiffers
-          | true ↦ elim (sameTrace (r .log .trace) (r′ .log .trace)) [ true ↦ pairs.Equal | false ↦ pairs.LeakShown ]
-        ]
-      ]
-    ]
+    firstThatFits (alikeFrom (job .public) 0 (job .init) vs) (isFinished (r .stop) && isFinished (r′ .stop))
+    (sameTrace (plainRun job k .log .trace) (plainRun (withState job vs) k .log .trace)) (sameTrace (r .log .trace) (r′ .log .trace))
 
 -- "A pair has two trace areas of equal length and no end area"
 pub record PairAreas : Type 0 where
   pub first : List ℕ
   pub second : List ℕ
   pub work : List ℕ
+
+-- the three areas, by what each holds
+abbrev pub pairLent : List ℕ → List ℕ → List ℕ → PairAreas
+pairLent first second work = record { first = first; second = second; work = work }
 
 pub record PairCalled : Type 0 where
   pub answer : PairAnswer

@@ -1,12 +1,13 @@
 -- `run_state` meets its contract: the state and the labels are loaded, and the run is made from there. Assumes nothing.
 use native.Mathlib.Omega.{arith}
-use Rattle.checker.specs.JobRuns.{job-loaded, run-of}
-use Rattle.checker.proofs.Laws.{accepted-limits, accepted-list, accepted-length, same-part}
+use Rattle.job_run.specs.JobRuns.{job-loaded, run-of}
+use Rattle.job_run.specs.Accepted.{accepted-limits, accepted-list, accepted-length}
+use Rattle.job_run.proofs.Laws.{same-part}
 use borrow.Author.Needs.{needs}
-use Rattle.checker.proofs.run_state.Statement.{statement}
-use Rattle.checker.proofs.run_state.Tie as tie
-use Rattle.checker.proofs.run_state.Reads as reads
-use Rattle.checker.proofs.run_state.Lts as lts
+use Rattle.job_run.proofs.run_state.Statement.{statement}
+use Rattle.job_run.proofs.run_state.Tie as tie
+use Rattle.job_run.proofs.run_state.Reads as reads
+use Rattle.job_run.proofs.run_state.Lts as lts
 use Rattle.execution.proofs.run.Reads as run-reads
 use Rattle.transfer.proofs.load_labels.Reads as load-labels-reads
 use Rattle.transfer.proofs.load_state.Reads as load-state-reads

@@ -1,4 +1,4 @@
--- One of the two runs of an accepted job, with a state that stands somewhere in some bytes.
+-- One of the two runs of an accepted job: with a state that stands somewhere in some bytes, and with its own in lent areas.
 -- Assumes nothing.
 use mathlib.Core.Path.{_≡_, refl, sym, ap, _∙_}
 use mathlib.Core.List.{List}
@@ -8,10 +8,11 @@ use lib.ListN.{length, take, drop, getD}
 use lib.Seq.{drop-drop}
 use Rattle.rules.specs.declared.Stop.{Stop}
 use Rattle.rules.specs.declared.Trailer.{Trailer}
+use Rattle.rules.specs.declared.Counts.{Counts}
 use Rattle.rules.specs.Rules.Plain.{ownFrom}
 use Rattle.rules.specs.Rules.Runs.{Job, Result, mispredictingRun, plainRun}
 use Rattle.rules.specs.Rules.JobFile.{accepted, parse, trailer, wordsAt}
-use Rattle.rules.specs.Rules.Calls.{workingWords, room}
+use Rattle.rules.specs.Rules.Calls.{Areas, workingWords, room, areasAfter}
 use Rattle.rules.specs.Rules.Pairs.{withState}
 use Rattle.rules.specs.Theorems.JobLaws.{passed, Passed, limits-hold}
 use Rattle.job.specs.Answers.{Accepts}
@@ -29,6 +30,10 @@ abbrev pub resultOf : Mode → Job → ℕ → Result
 resultOf modes.Plain job k = plainRun job k
 resultOf modes.Mispredicting job k = mispredictingRun job k
 
+-- what a run counts
+abbrev pub countsOf : Stop → Progress → Counts
+countsOf x c = record { stop = x; observations = c .observations; steps = c .steps; rollbacks = c .rollbacks }
+
 -- The job was accepted, the bytes have a state of its size at the offset, and the working area is long enough.
 pub record Runnable (bs : List ℕ) (t : Trailer) (states : List ℕ) (at : ℕ) (w : List ℕ) : Type 0 where
   pub accepts : Accepts bs t
@@ -42,6 +47,20 @@ pub record RunOf (bs : List ℕ) (t : Trailer) (mode : Mode) (states : List ℕ)
       → RanTo t words a w′ a′ x c (resultOf mode (withState job (wordsAt (locations t) states at)) (room a))
   pub past : drop workingWords w′ ≡ drop workingWords w
   pub size : length w′ ≡ length w
+
+-- The job was accepted, and neither area is too short.
+pub record AreasFit (bs : List ℕ) (t : Trailer) (ends w : List ℕ) : Type 0 where
+  pub accepts : Accepts bs t
+  pub work : workingWords ≤ length w
+  pub end : locations t ≤ length ends
+
+-- The run of the job, as it has ended, with every area as the rules leave it.
+pub record RunIn (bs : List ℕ) (t : Trailer) (mode : Mode) (before after : Areas) (x : Stop) (c : Progress) : Type 0 where
+  pub words : List ℕ
+  pub last : List ℕ
+  pub ran : (job : Job) → parse bs ≡ accepted job
+      → RanTo t words (before .trace) last (after .trace) x c (resultOf mode job (room (before .trace)))
+  pub areas : (job : Job) → parse bs ≡ accepted job → after ≡ areasAfter (resultOf mode job (room (before .trace))) before
 
 -- ---- laws
 -- what is loaded

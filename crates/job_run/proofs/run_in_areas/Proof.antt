@@ -1,0 +1,59 @@
+-- `job_run::run_in_areas` meets its contract: the run is made, its values are saved, the working words are cleared. Assumes nothing.
+use native.Mathlib.Omega.{arith}
+use Rattle.job_run.specs.Accepted.{accepted-limits, accepted-list, accepted-length}
+use Rattle.job_run.proofs.Laws.{run-in}
+use borrow.Author.Needs.{needs}
+use Rattle.job_run.proofs.run_in_areas.Statement.{statement}
+use Rattle.job_run.proofs.run_in_areas.Tie as tie
+use Rattle.job_run.proofs.run_in_areas.Reads as reads
+use Rattle.job_run.proofs.run_in_areas.Lts as lts
+use Rattle.job_run.proofs.run_state.Reads as run-state-reads
+use Rattle.transfer.proofs.save_values.Reads as save-values-reads
+use Rattle.work.proofs.clear.Reads as clear-reads
+
+run-state-requires : tie.Need-run-state-requires
+run-state-requires c κs =
+    let k = c .before .before .before .before .before .before .pre in
+    let e = accepted-list (k .accepts) in
+    let f = accepted-length (k .accepts) in
+    record { accepts = k .accepts; state = omega arith; room = k .work }
+
+add-n : tie.Need-add-n
+add-n c = let l = accepted-limits (c .before .before .before .before .before .before .before .before .before .before .before .before .pre .accepts) .cells in omega arith
+
+save-values-requires : tie.Need-save-values-requires
+save-values-requires c κs =
+    let k = c .before .before .before .before .before .before .before .before .before .before .before .before .before .before .pre in
+    let l = accepted-limits (k .accepts) .cells in
+    let s = c .before .before .before .before .before .before .before .run-state .ensures .size in
+    let m = k .work in
+    let n = k .end in
+    (omega arith, omega arith)
+
+clear-requires : tie.Need-clear-requires
+clear-requires c κs = search needs
+
+same-length : tie.Need-same-length
+same-length c = search needs
+
+same-length-2 : tie.Need-same-length-2
+same-length-2 c = search needs
+
+same-length-3 : tie.Need-same-length-3
+same-length-3 c = search needs
+
+returns : tie.Need-returns
+returns c = run-in (c .before .before .before .before .before .before .before .before .before .before .before .before .before .before .before .before .before .before .before .before .before .pre .accepts) (c .before .before .before .before .before .before .before .before .before .before .before .before .before .before .before .before .before .before .before .before .before .args .mode) (c .before .before .before .before .before .before .before .before .before .before .before .before .before .before .run-state .ensures) (c .before .before .before .before .before .before .save-values .ensures) (c .before .before .clear .ensures)
+
+pub run-in-areas-spec : {M : Type 1} → statement M
+run-in-areas-spec =
+    tie.close
+    (tie.spec
+    run-state-requires
+    add-n
+    save-values-requires
+    clear-requires
+    same-length
+    same-length-2
+    same-length-3
+    returns)

@@ -1,0 +1,3 @@
+pub mod Accepted
+pub mod JobRuns
+pub mod Reports

@@ -1,0 +1,75 @@
+// One run of an accepted job over lent areas: the plain or the mispredicting one, from the job's own state or from another.
+use execution::Mode;
+use execution::Ran;
+use rules::Counts;
+use rules::Trailer;
+ghost use mathlib.Core.Path.{_≡_};
+ghost use mathlib.Core.Bool.{_&&_};
+ghost use lib.Dec.{leb};
+ghost use lib.ListN.{length};
+ghost use Rattle.rules.specs.Rules.Calls.{workingWords, lent};
+ghost use Rattle.job_run.specs.JobRuns.{countsOf, Runnable, RunOf, AreasFit, RunIn};
+
+// The run with the state that stands at an offset of some bytes.
+pub fn run_state(
+    job: &[u8],
+    t: Trailer,
+    mode: Mode,
+    states: &[u8],
+    at: usize,
+    work: &mut [u64],
+    trace: &mut [u64],
+) -> Ran
+    requires { ⌜ Runnable (now job) t (now states) at (now work) ⌝ }
+    ensures { λ r. ⌜ RunOf (now (job .entry)) t mode (now (states .entry)) at (now (work .entry)) (now (work .exit)) (now (trace .entry)) (now (trace .exit)) (r .stop) (r .progress) ⌝ }
+{
+    let n = 16 + t.cells;
+    transfer::load_state(states, at, n, &mut work[..]);
+    let s = t.state;
+    let p = &job[0..s];
+    transfer::load_labels(p, t.count, &mut work[..]);
+    execution::run(p, t, mode, &mut work[..], &mut trace[..])
+}
+
+// Whether the working area and the end area are long enough for n locations.
+pub fn areas_fit(n: usize, end: &[u64], work: &[u64]) -> bool
+    ensures { λ r. ⌜ r ≡ (leb workingWords (length (now (work .entry))) && leb n (length (now (end .entry)))) ⌝ }
+{
+    if work.len() < work::WORDS {
+        return false;
+    }
+    n <= end.len()
+}
+
+// The run with the job's own state, and what it leaves in every area.
+pub fn run_in_areas(
+    job: &[u8],
+    t: Trailer,
+    mode: Mode,
+    trace: &mut [u64],
+    end: &mut [u64],
+    work: &mut [u64],
+) -> Ran
+    requires { ⌜ AreasFit (now job) t (now end) (now work) ⌝ }
+    ensures { λ r. ⌜ RunIn (now (job .entry)) t mode (lent (now (trace .entry)) (now (end .entry)) (now (work .entry))) (lent (now (trace .exit)) (now (end .exit)) (now (work .exit))) (r .stop) (r .progress) ⌝ }
+{
+    let r = run_state(job, t, mode, job, t.state, &mut work[..], &mut trace[..]);
+    let n = 16 + t.cells;
+    transfer::save_values(&work[..], n, &mut end[..]);
+    work::clear(&mut work[..]);
+    r
+}
+
+// What a run counts.
+pub fn counts_of(r: Ran) -> Counts
+    ensures { λ x. ⌜ x ≡ countsOf (r .stop) (r .progress) ⌝ }
+{
+    let stop = r.stop;
+    let c = r.progress;
+    Counts {
+        stop,
+        observations: c.observations,
+        steps: c.steps,
+        rollbacks: c.rollbacks,
+    }
+}

@@ -1,0 +1,214 @@
+-- How the pair's code meets the definition of the call: the word by its tests, the two runs, and what is left in the areas.
+-- Assumes nothing.
+use mathlib.Core.Path.{_≡_, refl, sym, ap, _∙_}
+use mathlib.Core.Bool.{Bool, true, false, _&&_}
+use mathlib.Core.List.{List}
+use Prim.{⊥}
+use Prim.Native.Nat.{ℕ, _+_, _-_, _*_, _/_, _<_, _≤_}
+use native.Mathlib.Omega.{arith}
+use borrow.Author.Tests.{eq-eqb, ne-eqb, le-leb, lt-leb}
+use lib.Dec.{eqb, leb}
+use lib.ListN.{length, take, drop, replicate, length-append, length-drop}
+use lib.Seq.{take-at}
+use Rattle.location.specs.declared.LocationSet.{LocationSet}
+use Rattle.rules.specs.declared.Stop.{Stop}
+use Rattle.rules.specs.declared.Trailer.{Trailer}
+use Rattle.rules.specs.declared.Counts.{Counts}
+use Rattle.rules.specs.declared.Refusal.{Refusal}
+use Rattle.rules.specs.declared.Refusal.the-variants as refusals
+use Rattle.rules.specs.declared.PairWord.{PairWord}
+use Rattle.rules.specs.declared.PairWord.the-variants as words
+use Rattle.rules.specs.declared.PairAnswer.{PairAnswer}
+use Rattle.rules.specs.declared.PairAnswer.the-variants as answers
+use Rattle.rules.specs.Rules.Instructions.{Observation}
+use Rattle.rules.specs.Rules.Runs.{Job, Result, mispredictingRun}
+use Rattle.rules.specs.Rules.JobFile.{accepted, rejected, parse, publicOf, wordsAt}
+use Rattle.rules.specs.Rules.Calls.{traceWords, written, workingWords, room, counts}
+use Rattle.rules.specs.Rules.Pairs.{withState, alikeFrom, isFinished, sameWords, pairWord, PairAreas, PairCalled, pairLent, pairAfter, pairRefused, secondFits, pairFits, pairAccepted, pairParsed, pairCall}
+use Rattle.rules.specs.Rules.Demands.{PairExact}
+use Rattle.rules.specs.Theorems.RunLaws.{mispredicting-trace}
+use Rattle.rules.specs.Theorems.CallLaws.{length-traceWords}
+use Rattle.rules.specs.Theorems.PairLaws.{Pairs, pair-runs}
+use Rattle.trace.specs.Struck.{struckWords}
+use Rattle.job.specs.Answers.{Accepts}
+use Rattle.stepping.specs.declared.Progress.{Progress}
+use Rattle.execution.specs.declared.Mode.the-variants as modes
+use Rattle.execution.specs.Turns.{locations, RanTo}
+use Rattle.job_run.specs.Accepted.{accepted-size, accepted-public, accepted-init, accepted-state}
+use Rattle.job_run.specs.JobRuns.{countsOf, RunOf}
+use Rattle.job_run.specs.Reports.{counts-same, cleared-same}
+use Rattle.job_run.proofs.Laws.{own-run}
+use Rattle.pair.specs.Words.{wordOf, comparedOf, Comparable, word-same}
+
+-- ---- a run that has ended: what it wrote fits, and stands from the front
+written-length : (ws a : List ℕ) → length ws ≤ length a → length (written ws a) ≡ length a
+unfolding written
+written-length ws a h = simp (length-append, length-drop) (omega arith)
+
+module _ {t : Trailer} {w₀ a w a′ : List ℕ} {x : Stop} {c : Progress} (job : Job) (r : RanTo t w₀ a w a′ x c (mispredictingRun job (room a))) where
+  abbrev trace : List Observation
+  trace = mispredictingRun job (room a) .log .trace
+
+  fits : 2 * length trace ≤ length a
+  unfolding room
+  fits = let b = mispredicting-trace job (room a) in omega arith
+
+  same-length : length a′ ≡ length a
+  same-length =
+      ap length (r .trace) ∙ written-length (traceWords trace) a (let e = length-traceWords trace in let f = fits in omega arith)
+
+  pub observed-fits : 2 * c .observations ≤ length a′
+  observed-fits = let e = r .count in let f = fits in let g = same-length in omega arith
+
+  pub observed-words : take (2 * c .observations) a′ ≡ traceWords trace
+  unfolding written
+  observed-words =
+      ap (λ (n : ℕ). take (2 * n) a′) (r .count) ∙ ap (take (2 * length trace)) (r .trace)
+      ∙ take-at (traceWords trace) _ (2 * length trace) (length-traceWords trace)
+
+-- ---- the word, by the tests that the code makes
+module _ (alike : Bool) (x x′ : Stop) (a b : List ℕ) where
+  pub word-not-alike : alike ≡ false → words.NotComparable ≡ wordOf alike x x′ a b
+  word-not-alike e = rw e
+
+  module _ (e : alike ≡ true) where
+    pub word-first-open : isFinished x ≡ false → words.Undecided ≡ wordOf alike x x′ a b
+    word-first-open f = rw (e, f)
+
+    module _ (f : isFinished x ≡ true) where
+      pub word-second-open : isFinished x′ ≡ false → words.Undecided ≡ wordOf alike x x′ a b
+      word-second-open g = rw (e, f, g)
+
+      module _ (g : isFinished x′ ≡ true) where
+        pub word-plain : sameWords (struckWords a) (struckWords b) ≡ false → words.PlainDiffers ≡ wordOf alike x x′ a b
+        word-plain p = rw (e, f, g, p)
+
+        module _ (p : sameWords (struckWords a) (struckWords b) ≡ true) where
+          pub word-leak : sameWords a b ≡ false → words.LeakShown ≡ wordOf alike x x′ a b
+          word-leak s = rw (e, f, g, p, s)
+
+          pub word-equal : sameWords a b ≡ true → words.Equal ≡ wordOf alike x x′ a b
+          word-equal s = rw (e, f, g, p, s)
+
+-- ---- the answer on two runs, of what the code has found
+same-part : (n : ℕ) (xs : List ℕ) → take (n - 0) (drop 0 xs) ≡ take n xs
+same-part n xs = let z : n - 0 ≡ n = omega arith in rw z
+
+pub judged : (bs : List ℕ) (t : Trailer) (second a b : List ℕ) (x x′ : Stop) (c c′ : Progress) {word : PairWord} {alike : Bool}
+    {public : LocationSet} {n n′ : Counts}
+    → n ≡ countsOf x c → n′ ≡ countsOf x′ c′ → public ≡ publicOf t bs
+    → alike ≡ alikeFrom public 0 (wordsAt (locations t) bs (t .state)) (wordsAt (locations t) second 0)
+    → word ≡ wordOf alike (n .stop) (n′ .stop) (take (2 * n .observations - 0) (drop 0 a)) (take (2 * n′ .observations - 0) (drop 0 b))
+    → answers.Compared word n n′ ≡ comparedOf bs t second x c x′ c′ a b
+judged bs t second a b x x′ c c′ en en′ ep ea ew =
+    rw (ew, ea, ep, en, en′, same-part (2 * c .observations) a, same-part (2 * c′ .observations) b)
+
+-- ---- both runs
+module _ {bs : List ℕ} {t : Trailer} {second a b w w₁ w₂ a′ b′ : List ℕ} {x x′ : Stop} {c c′ : Progress}
+    (q : Comparable bs t second a b w) (o : RunOf bs t modes.Mispredicting bs (t .state) w w₁ a a′ x c)
+    (o′ : RunOf bs t modes.Mispredicting second 0 w₁ w₂ b b′ x′ c′) where
+  abbrev job : Job
+  job = q .accepts .job
+
+  -- the words of the second state
+  abbrev vs : List ℕ
+  vs = wordsAt (length (job .init)) second 0
+
+  abbrev areas : PairAreas
+  areas = pairLent a b w
+
+  compares : Pairs bs second areas
+  unfolding secondFits pairFits
+  compares = record {
+    job = job;
+    parsed = q .accepts .parsed;
+    sized = eq-eqb (length second) (8 * length (job .init)) (let z = accepted-size (q .accepts) in let s = q .sized in omega arith);
+    enough = rw (le-leb workingWords (length w) (q .work), eq-eqb (length a) (length b) (q .traces));
+  }
+
+  first-ran : RanTo t (o .words) a w₁ a′ x c (mispredictingRun job (room a))
+  first-ran = own-run (q .accepts) modes.Mispredicting o job (q .accepts .parsed)
+
+  second-words : wordsAt (locations t) second 0 ≡ vs
+  second-words = ap (λ (n : ℕ). wordsAt n second 0) (sym (accepted-size (q .accepts)))
+
+  second-ran : RanTo t (o′ .words) b w₂ b′ x′ c′ (mispredictingRun (withState job vs) (room b))
+  second-ran = rw second-words at (o′ .ran job (q .accepts .parsed))
+
+  same-room : room b ≡ room a
+  unfolding room
+  same-room = ap (λ (n : ℕ). n / 2) (sym (q .traces))
+
+  pub first-fits : 2 * c .observations ≤ length a′
+  first-fits = observed-fits job first-ran
+
+  pub second-fits : 2 * c′ .observations ≤ length b′
+  second-fits = observed-fits (withState job vs) second-ran
+
+  abbrev run₁ : Result
+  run₁ = mispredictingRun job (room a)
+
+  abbrev run₂ : Result
+  run₂ = mispredictingRun (withState job vs) (room b)
+
+  -- the answer is that of the rules' two runs
+  answer-same : comparedOf bs t second x c x′ c′ a′ b′
+      ≡ answers.Compared
+      (wordOf (alikeFrom (job .public) 0 (job .init) vs) (run₁ .stop) (run₂ .stop) (traceWords (run₁ .log .trace)) (traceWords (run₂ .log .trace)))
+      (counts run₁) (counts run₂)
+  answer-same = λ i. answers.Compared
+      (wordOf (alikeFrom (accepted-public (q .accepts) i) 0 (accepted-init (q .accepts) i) (second-words i)) (first-ran .stop i)
+      (second-ran .stop i) (observed-words job first-ran i) (observed-words (withState job vs) second-ran i))
+      (counts-same first-ran i) (counts-same second-ran i)
+
+  pub exact-compared : {r : PairAnswer} {w₃ : List ℕ} → w₃ ≡ written (replicate workingWords 0) w₂ → r ≡ comparedOf bs t second x c x′ c′ a′ b′
+      → PairExact (pairCall bs second (pairLent a b w)) r (pairLent a′ b′ w₃)
+  unfolding pairAccepted pairAfter compares
+  exact-compared {r} ew er =
+      rw (pair-runs compares)
+      (record {
+        answer = er ∙ rw same-room at answer-same
+            ∙ ap (λ (word : PairWord). answers.Compared word (counts run₁) (counts (mispredictingRun (withState job vs) (room a))))
+            (word-same job vs (room a));
+        areas = λ i. record {
+          first = first-ran .trace i;
+          second = (rw same-room at (second-ran .trace)) i;
+          work = (ew ∙ cleared-same workingWords w₂ w (o′ .past ∙ o .past)) i;
+        };
+      })
+
+-- ---- refusals
+module _ {bs : List ℕ} {t : Trailer} (k : Accepts bs t) (second a b w : List ℕ) where
+  refused : (n : Refusal) → pairCall bs second (pairLent a b w) ≡ pairRefused n (pairLent a b w)
+      → PairExact (pairCall bs second (pairLent a b w)) (answers.Refused n) (pairLent a b w)
+  unfolding pairRefused
+  refused n e = rw e (record { answer = refl; areas = refl })
+
+  unsized : (length second ≡ 8 * locations t → ⊥) → secondFits (k .job) second ≡ false
+  unfolding secondFits
+  unsized h = ne-eqb (length second) (8 * length (k .job .init)) (λ e. h (rw (accepted-size k) at e))
+
+  pub other-size : (length second ≡ 8 * locations t → ⊥)
+      → PairExact (pairCall bs second (pairLent a b w)) (answers.Refused refusals.SecondState) (pairLent a b w)
+  unfolding pairCall pairParsed
+  other-size h = refused refusals.SecondState (rw (k .parsed, unsized h, pairParsed))
+
+  module _ (s : length second ≡ 8 * locations t) where
+    sized : secondFits (k .job) second ≡ true
+    unfolding secondFits
+    sized = eq-eqb (length second) (8 * length (k .job .init)) (let z = accepted-size k in omega arith)
+
+    unfit : pairFits (pairLent a b w) ≡ false
+        → PairExact (pairCall bs second (pairLent a b w)) (answers.Refused refusals.Areas) (pairLent a b w)
+    unfolding pairCall pairParsed
+    unfit h = refused refusals.Areas (rw (k .parsed, sized, h, pairParsed))
+
+    pub short-work : length w < workingWords
+        → PairExact (pairCall bs second (pairLent a b w)) (answers.Refused refusals.Areas) (pairLent a b w)
+    unfolding pairFits
+    short-work h = unfit (rw (lt-leb workingWords (length w) h))
+
+    pub unequal-traces : workingWords ≤ length w → (length a ≡ length b → ⊥)
+        → PairExact (pairCall bs second (pairLent a b w)) (answers.Refused refusals.Areas) (pairLent a b w)
+    unfolding pairFits
+    unequal-traces h u = unfit (rw (le-leb workingWords (length w) h, ne-eqb (length a) (length b) u))

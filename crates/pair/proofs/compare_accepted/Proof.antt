@@ -1,0 +1,55 @@
+-- `pair::compare_accepted` meets its contract: the refusals in their order, before anything is written. Assumes nothing.
+use native.Mathlib.Omega.{arith}
+use Rattle.job_run.specs.Accepted.{accepted-limits}
+use Rattle.pair.proofs.Laws.{other-size, short-work, unequal-traces}
+use borrow.Author.Needs.{needs}
+use Rattle.pair.proofs.compare_accepted.Statement.{statement}
+use Rattle.pair.proofs.compare_accepted.Tie as tie
+use Rattle.pair.proofs.compare_accepted.Reads as reads
+use Rattle.pair.proofs.compare_accepted.Lts as lts
+use Rattle.pair.proofs.compare_runs.Reads as compare-runs-reads
+
+add-n : tie.Need-add-n
+add-n c = let l = accepted-limits (c .before .before .before .before .before .before .pre) .cells in omega arith
+
+mul-if1 : tie.Need-mul-if1
+mul-if1 c = let l = accepted-limits (c .before .before .before .before .before .before .pre) .cells in omega arith
+
+returns : tie.Need-returns
+returns c = let a = c .before .before .before .before .before .before .before .args in other-size (c .before .before .before .before .before .before .before .pre) (a .second .now) (a .first .now) (a .other .now) (a .work .now) (c .if1 .taken)
+
+returns-2 : tie.Need-returns-2
+returns-2 c = let a = c .before .before .before .before .before .before .before .before .args in short-work (c .before .before .before .before .before .before .before .before .pre) (a .second .now) (a .first .now) (a .other .now) (a .work .now) (c .before .if1 .left) (c .if2 .taken)
+
+returns-3 : tie.Need-returns-3
+returns-3 c = let a = c .before .before .before .before .before .before .before .before .before .args in unequal-traces (c .before .before .before .before .before .before .before .before .before .pre) (a .second .now) (a .first .now) (a .other .now) (a .work .now) (c .before .before .if1 .left) (c .before .if2 .left) (c .if3 .taken)
+
+compare-runs-requires : tie.Need-compare-runs-requires
+compare-runs-requires c κs = search needs
+
+same-length : tie.Need-same-length
+same-length c = search needs
+
+same-length-2 : tie.Need-same-length-2
+same-length-2 c = search needs
+
+same-length-3 : tie.Need-same-length-3
+same-length-3 c = search needs
+
+returns-4 : tie.Need-returns-4
+returns-4 c = search needs
+
+pub compare-accepted-spec : {M : Type 1} → statement M
+compare-accepted-spec =
+    tie.close
+    (tie.spec
+    add-n
+    mul-if1
+    returns
+    returns-2
+    returns-3
+    compare-runs-requires
+    same-length
+    same-length-2
+    same-length-3
+    returns-4)

@@ -1,0 +1,84 @@
+-- The word on a pair, of what the two runs have left: their stops and the words of their traces.
+-- Assumes nothing.
+use mathlib.Core.Path.{_≡_, refl, sym, ap, ap₂, _∙_}
+use mathlib.Core.Bool.{Bool, true, false, _&&_, true≢false}
+use mathlib.Core.List.{List}
+use Prim.Native.Nat.{ℕ, _+_, _*_, _≤_}
+use lib.ListN.{length, take}
+use Rattle.rules.specs.declared.Stop.{Stop}
+use Rattle.rules.specs.declared.Stop.the-variants.{Finished, Spent, TraceFull}
+use Rattle.rules.specs.declared.Trailer.{Trailer}
+use Rattle.rules.specs.declared.PairWord.{PairWord}
+use Rattle.rules.specs.declared.PairAnswer.{PairAnswer}
+use Rattle.rules.specs.declared.PairAnswer.the-variants as answers
+use Rattle.rules.specs.Rules.Runs.{Job, mispredictingRun, plainRun}
+use Rattle.rules.specs.Rules.JobFile.{publicOf, wordsAt}
+use Rattle.rules.specs.Rules.Calls.{traceWords, workingWords}
+use Rattle.rules.specs.Rules.Strike.{strike}
+use Rattle.rules.specs.Rules.Pairs.{withState, alikeFrom, isFinished, sameWords, sameTrace, firstThatFits, pairWord}
+use Rattle.rules.specs.Theorems.PlainRun.{demand2}
+use Rattle.trace.specs.Struck.{struckWords, struck-trace}
+use Rattle.job.specs.Answers.{Accepts}
+use Rattle.stepping.specs.declared.Progress.{Progress}
+use Rattle.execution.specs.Turns.{locations}
+use Rattle.job_run.specs.JobRuns.{countsOf}
+
+abbrev pub wordOf : Bool → Stop → Stop → List ℕ → List ℕ → PairWord
+wordOf alike x x′ a b =
+    firstThatFits alike (isFinished x && isFinished x′) (sameWords (struckWords a) (struckWords b)) (sameWords a b)
+
+-- The job was accepted, the second state has its size, and each trace area is as long as what was written there.
+pub record Judged (bs : List ℕ) (t : Trailer) (second : List ℕ) (c c′ : Progress) (a b : List ℕ) : Type 0 where
+  pub accepts : Accepts bs t
+  pub sized : length second ≡ 8 * locations t
+  pub first : 2 * c .observations ≤ length a
+  pub other : 2 * c′ .observations ≤ length b
+
+-- the answer on two runs
+abbrev pub comparedOf : List ℕ → Trailer → List ℕ → Stop → Progress → Stop → Progress → List ℕ → List ℕ → PairAnswer
+comparedOf bs t second x c x′ c′ a b =
+    answers.Compared
+    (wordOf (alikeFrom (publicOf t bs) 0 (wordsAt (locations t) bs (t .state)) (wordsAt (locations t) second 0)) x x′
+    (take (2 * c .observations) a) (take (2 * c′ .observations) b))
+    (countsOf x c) (countsOf x′ c′)
+
+-- The job was accepted, and nothing of what is lent is refused.
+pub record Comparable (bs : List ℕ) (t : Trailer) (second a b w : List ℕ) : Type 0 where
+  pub accepts : Accepts bs t
+  pub sized : length second ≡ 8 * locations t
+  pub work : workingWords ≤ length w
+  pub traces : length a ≡ length b
+
+-- ---- the word is the rules'
+-- the plain traces matter only where both runs have finished
+fits-same : (c f p q s : Bool) → (f ≡ true → p ≡ q) → firstThatFits c f p s ≡ firstThatFits c f q s
+fits-same false f p q s h = refl
+fits-same true false p q s h = refl
+fits-same true true p q s h = ap (λ (z : Bool). firstThatFits true true z s) (h refl)
+
+both-finished : (x y : Stop) → (isFinished x && isFinished y) ≡ true → (x ≡ Finished) × (y ≡ Finished)
+both-finished Finished Finished e = (refl, refl)
+both-finished Finished Spent e = absurd (true≢false (sym e))
+both-finished Finished TraceFull e = absurd (true≢false (sym e))
+both-finished Spent y e = absurd (true≢false (sym e))
+both-finished TraceFull y e = absurd (true≢false (sym e))
+
+module _ (job : Job) (k : ℕ) where
+  -- where a run has finished, its trace struck out is the plain run's
+  struck-plain : mispredictingRun job k .stop ≡ Finished
+      → struckWords (traceWords (mispredictingRun job k .log .trace)) ≡ traceWords (plainRun job k .log .trace)
+  struck-plain e = struck-trace (mispredictingRun job k .log .trace) ∙ ap traceWords (sym (demand2 job k e .trace))
+
+pub word-same : (job : Job) (vs : List ℕ) (k : ℕ)
+    → wordOf (alikeFrom (job .public) 0 (job .init) vs) (mispredictingRun job k .stop) (mispredictingRun (withState job vs) k .stop)
+    (traceWords (mispredictingRun job k .log .trace)) (traceWords (mispredictingRun (withState job vs) k .log .trace))
+    ≡ pairWord job vs k
+unfolding pairWord sameTrace
+word-same job vs k =
+    let r = mispredictingRun job k in
+    let r′ = mispredictingRun (withState job vs) k in
+    fits-same (alikeFrom (job .public) 0 (job .init) vs) (isFinished (r .stop) && isFinished (r′ .stop))
+    (sameWords (struckWords (traceWords (r .log .trace))) (struckWords (traceWords (r′ .log .trace))))
+    (sameWords (traceWords (plainRun job k .log .trace)) (traceWords (plainRun (withState job vs) k .log .trace)))
+    (sameWords (traceWords (r .log .trace)) (traceWords (r′ .log .trace)))
+    (λ e. let f = both-finished (r .stop) (r′ .stop) e in ap₂ sameWords (struck-plain job k (f .0)) (struck-plain (withState job vs) k (f .1)))

@@ -1,0 +1,302 @@
+-- What the word on a pair of states says of every job file, second state and areas; and what a refused pair leaves.
+-- Assumes nothing.
+use mathlib.Core.Path.{_≡_, refl, sym, ap, ap₂, _∙_}
+use mathlib.Core.Bool.{Bool, true, false, not, _&&_, _||_, true≢false}
+use mathlib.Core.List.{List, [], _∷_}
+use Prim.{⊥}
+use Prim.Native.Nat.{ℕ, zero, suc, _+_, _*_, _/_, _≤_}
+use native.Mathlib.Omega.{arith}
+use borrow.Author.Tests.{eqb-true, eq-eqb, le-leb}
+use lib.Dec.{eqb, leb}
+use lib.ListN.{length, getD, take}
+use lib.Seq.{take-at}
+use Rattle.location.specs.declared.LocationSet.{LocationSet}
+use Rattle.location.specs.Sets.{registers, member}
+use Rattle.rules.specs.declared.Stop.{Stop}
+use Rattle.rules.specs.declared.Stop.the-variants.{Finished, Spent, TraceFull}
+use Rattle.rules.specs.declared.PairWord.{PairWord}
+use Rattle.rules.specs.declared.PairWord.the-variants as words
+use Rattle.rules.specs.declared.Refusal.{Refusal}
+use Rattle.rules.specs.declared.Refusal.the-variants as refusals
+use Rattle.rules.specs.declared.Counts.{Counts}
+use Rattle.rules.specs.declared.PairAnswer.{PairAnswer}
+use Rattle.rules.specs.declared.PairAnswer.the-variants as pairs
+use Rattle.rules.specs.Rules.Instructions.{Observation}
+use Rattle.rules.specs.Rules.Runs.{Job, Result, mispredictingRun, plainRun}
+use Rattle.rules.specs.Rules.JobFile.{Parsed, accepted, rejected, parse, trailer, stateOf, publicOf, wordsAt}
+use Rattle.rules.specs.Rules.Calls.{Areas, traceWords, room, workingWords, written, counts, longEnough}
+use Rattle.rules.specs.Rules.Pairs.{withState, alikeFrom, isFinished, sameWords, sameTrace, firstThatFits, pairWord, PairAreas, PairCalled, pairAfter, pairRefused, secondFits, pairFits, pairAccepted, pairParsed, pairCall}
+use Rattle.rules.specs.Rules.Demands.{AlikeOn, plainTraceOf, PairUnaltered, secondState, AlikePublic, SecondJob, RunAreas, SamePlain, OtherPlain, BothFinished, SameTraces, Means, PairMeaning}
+use Rattle.rules.specs.Theorems.JobLaws.{passed, job-init, job-public, length-wordsAt, length-stateOf, parse-other}
+use Rattle.rules.specs.Theorems.CallLaws.{length-traceWords, Runs, plain-trace-runs}
+
+-- ---- words compared
+both : (x y : Bool) → (x && y) ≡ true → (x ≡ true) × (y ≡ true)
+both true true e = (refl, refl)
+both true false e = absurd (true≢false (sym e))
+both false y e = absurd (true≢false (sym e))
+
+pub same-words-equal : (a b : List ℕ) → sameWords a b ≡ true → a ≡ b
+unfolding sameWords
+same-words-equal [] [] e = refl
+same-words-equal [] (y ∷ b) e = absurd (true≢false (sym e))
+same-words-equal (x ∷ a) [] e = absurd (true≢false (sym e))
+same-words-equal (x ∷ a) (y ∷ b) e =
+    let q = both (eqb x y) (sameWords a b) e in
+    ap₂ {C = List ℕ} (λ (z : ℕ) (ws : List ℕ). z ∷ ws) (eqb-true x y (q .0)) (same-words-equal a b (q .1))
+
+pub same-words-self : (a : List ℕ) → sameWords a a ≡ true
+unfolding sameWords
+same-words-self [] = refl
+same-words-self (x ∷ a) = rw (eq-eqb x x refl, same-words-self a)
+
+-- two lists that are not the same word for word are not equal
+other-words : (a b : List ℕ) → sameWords a b ≡ false → a ≡ b → ⊥
+other-words a b e q = true≢false (sym (same-words-self a) ∙ ap (sameWords a) q ∙ e)
+
+-- ---- states compared
+alike-tail : (public : LocationSet) (l x y : ℕ) (xs ys : List ℕ)
+    → (member public l ≡ true → x ≡ y)
+    → alikeFrom public (suc l) xs ys ≡ true → alikeFrom public l (x ∷ xs) (y ∷ ys) ≡ true
+unfolding alikeFrom
+alike-tail public l x y xs ys h e = go (member public l) refl
+  where
+    go : (m : Bool) → member public l ≡ m → ((not (member public l) || eqb x y) && alikeFrom public (suc l) xs ys) ≡ true
+    go true q = rw (q, eq-eqb x y (h q), e)
+    go false q = rw (q, e)
+
+-- states of one size that are alike at each public location are found alike
+found-alike : (public : LocationSet) (l : ℕ) (xs ys : List ℕ) → length xs ≡ length ys
+    → ((j : ℕ) → member public (l + j) ≡ true → getD xs j 0 ≡ getD ys j 0) → alikeFrom public l xs ys ≡ true
+unfolding alikeFrom
+found-alike public l [] ys s h = refl
+found-alike public l (x ∷ xs) [] s h = refl
+found-alike public l (x ∷ xs) (y ∷ ys) s h =
+    let z : l + 0 ≡ l = omega arith in
+    alike-tail public l x y xs ys (rw z at (h 0))
+    (found-alike public (suc l) xs ys (omega arith) (λ j. let e : suc l + j ≡ l + suc j = omega arith in rw e (h (suc j))))
+
+-- and the other way round
+alike-at : (public : LocationSet) (l : ℕ) (xs ys : List ℕ) → length xs ≡ length ys → alikeFrom public l xs ys ≡ true
+    → (j : ℕ) → member public (l + j) ≡ true → getD xs j 0 ≡ getD ys j 0
+unfolding alikeFrom
+alike-at public l [] [] s e j m = refl
+alike-at public l [] (y ∷ ys) s e j m = absurd (omega arith)
+alike-at public l (x ∷ xs) [] s e j m = absurd (omega arith)
+alike-at public l (x ∷ xs) (y ∷ ys) s e zero m =
+    let z : l + 0 ≡ l = omega arith in
+    let q : (not (member public l) || eqb x y) ≡ true = both (not (member public l) || eqb x y) (alikeFrom public (suc l) xs ys) e .0 in
+    eqb-true x y (rw (rw z at m) at q)
+alike-at public l (x ∷ xs) (y ∷ ys) s e (suc j) m =
+    let f : suc l + j ≡ l + suc j = omega arith in
+    alike-at public (suc l) xs ys (omega arith) (both (not (member public l) || eqb x y) (alikeFrom public (suc l) xs ys) e .1) j (rw f m)
+
+-- ---- the tests of the word, in their order
+abbrev Chosen : PairWord → Bool → Bool → Bool → Bool → Type 0
+Chosen words.NotComparable c f p s = c ≡ false
+Chosen words.Undecided c f p s = (c ≡ true) × (f ≡ false)
+Chosen words.PlainDiffers c f p s = (c ≡ true) × (f ≡ true) × (p ≡ false)
+Chosen words.LeakShown c f p s = (c ≡ true) × (f ≡ true) × (p ≡ true) × (s ≡ false)
+Chosen words.Equal c f p s = (c ≡ true) × (f ≡ true) × (p ≡ true) × (s ≡ true)
+
+chosen : (c f p s : Bool) → Chosen (firstThatFits c f p s) c f p s
+chosen false f p s = refl
+chosen true false p s = (refl, refl)
+chosen true true false s = (refl, refl, refl)
+chosen true true true false = (refl, refl, refl, refl)
+chosen true true true true = (refl, refl, refl, refl)
+
+-- ---- a pair that was compared
+pub record Pairs (f second : List ℕ) (a : PairAreas) : Type 0 where
+  pub job : Job
+  pub parsed : parse f ≡ accepted job
+  pub sized : secondFits job second ≡ true
+  pub enough : pairFits a ≡ true
+
+finished-stop : (x : Stop) → isFinished x ≡ true → x ≡ Finished
+finished-stop Finished e = refl
+finished-stop Spent e = absurd (true≢false (sym e))
+finished-stop TraceFull e = absurd (true≢false (sym e))
+
+module _ {f second : List ℕ} {a : PairAreas} (r : Pairs f second a) where
+  abbrev vs : List ℕ
+  vs = wordsAt (length (r .job .init)) second 0
+
+  abbrev k : ℕ
+  k = room (a .first)
+
+  -- the job with the second state, and the two runs
+  abbrev other : Job
+  other = withState (r .job) vs
+
+  abbrev run₁ : Result
+  run₁ = mispredictingRun (r .job) k
+
+  abbrev run₂ : Result
+  run₂ = mispredictingRun other k
+
+  pub pair-runs : pairCall f second a ≡ pairAccepted (r .job) vs a
+  unfolding pairCall pairParsed
+  pair-runs = rw (r .parsed, r .sized, r .enough, pairParsed)
+
+  init-size : length (r .job .init) ≡ registers + trailer f .cells
+  init-size = ap length (job-init (passed f (r .job) (r .parsed))) ∙ length-stateOf (trailer f) f
+
+  second-words : vs ≡ secondState f second
+  unfolding secondState
+  second-words = ap (λ (n : ℕ). wordsAt n second 0) init-size
+
+  -- ---- the states
+  same-size : length (r .job .init) ≡ length vs
+  same-size = sym (length-wordsAt (length (r .job .init)) second 0)
+
+  is-alike : alikeFrom (r .job .public) 0 (r .job .init) vs ≡ true → AlikePublic f second
+  is-alike e =
+      let p = passed f (r .job) (r .parsed) in
+      rw (← job-public p, ← job-init p, ← second-words)
+      (record { same = λ l m. alike-at (r .job .public) 0 (r .job .init) vs same-size e l (let z : 0 + l ≡ l = omega arith in rw z m) })
+
+  not-alike : alikeFrom (r .job .public) 0 (r .job .init) vs ≡ false → AlikePublic f second → ⊥
+  not-alike e h =
+      let p = passed f (r .job) (r .parsed) in
+      let h′ : AlikeOn (r .job .public) (r .job .init) vs = rw (second-words, job-public p, job-init p) h in
+      true≢false
+      (sym (found-alike (r .job .public) 0 (r .job .init) vs same-size (λ j m. h′ .same j (let z : 0 + j ≡ j = omega arith in rw z at m))) ∙ e)
+
+  -- ---- the stops
+  both-finished : (isFinished (run₁ .stop) && isFinished (run₂ .stop)) ≡ true → BothFinished (counts run₁) (counts run₂)
+  unfolding counts
+  both-finished e =
+      let q = both (isFinished (run₁ .stop)) (isFinished (run₂ .stop)) e in
+      record { first = finished-stop (run₁ .stop) (q .0); second = finished-stop (run₂ .stop) (q .1) }
+
+  not-finished : (isFinished (run₁ .stop) && isFinished (run₂ .stop)) ≡ false → BothFinished (counts run₁) (counts run₂) → ⊥
+  unfolding counts
+  not-finished e h = true≢false (sym (rw (h .first, h .second)) ∙ e)
+
+  -- ---- the plain traces
+  abbrev plain₁ : List ℕ
+  plain₁ = traceWords (plainRun (r .job) k .log .trace)
+
+  abbrev plain₂ : List ℕ
+  plain₂ = traceWords (plainRun other k .log .trace)
+
+  long-enough : (p : Areas) (job : Job) → length (job .init) ≡ length (r .job .init) → RunAreas f a p → longEnough job p ≡ true
+  unfolding longEnough
+  long-enough p job e h =
+      let w = h .work in
+      let n = h .end in
+      let z = init-size in
+      rw (le-leb workingWords (length (p .work)) w, le-leb (length (job .init)) (length (p .end)) (omega arith))
+
+  same-room : (p : Areas) → RunAreas f a p → room (p .trace) ≡ k
+  unfolding room
+  same-room p h = ap (λ (n : ℕ). n / 2) (h .trace)
+
+  plain-first : (p : Areas) → RunAreas f a p → plainTraceOf f p ≡ plain₁
+  plain-first p h =
+      plain-trace-runs (record { job = r .job; parsed = r .parsed; enough = long-enough p (r .job) refl h })
+      ∙ ap (λ (n : ℕ). traceWords (plainRun (r .job) n .log .trace)) (same-room p h)
+
+  plain-second : (g : List ℕ) (p : Areas) → SecondJob f second g → RunAreas f a p → plainTraceOf g p ≡ plain₂
+  plain-second g p s h =
+      let q : parse g ≡ accepted other = parse-other (r .parsed) (s .same) ∙ ap (λ (ws : List ℕ). accepted (withState (r .job) ws)) (s .state ∙ sym second-words) in
+      plain-trace-runs (record { job = other; parsed = q; enough = long-enough p other (unfold withState in sym same-size) h })
+      ∙ ap (λ (n : ℕ). traceWords (plainRun other n .log .trace)) (same-room p h)
+
+  same-plain : sameWords plain₁ plain₂ ≡ true → SamePlain f second a
+  same-plain e = record {
+    same = λ g p p′ s h h′. plain-first p h ∙ same-words-equal plain₁ plain₂ e ∙ sym (plain-second g p′ s h′);
+  }
+
+  other-plain : sameWords plain₁ plain₂ ≡ false → OtherPlain f second a
+  other-plain e = record {
+    other = λ g p p′ s h h′ q. other-words plain₁ plain₂ e (sym (plain-first p h) ∙ q ∙ plain-second g p′ s h′);
+  }
+
+  -- ---- the full traces
+  abbrev full₁ : List ℕ
+  full₁ = traceWords (run₁ .log .trace)
+
+  abbrev full₂ : List ℕ
+  full₂ = traceWords (run₂ .log .trace)
+
+  shown : (os : List Observation) (area : List ℕ) → take (2 * length os) (written (traceWords os) area) ≡ traceWords os
+  unfolding written
+  shown os area = take-at (traceWords os) _ (2 * length os) (length-traceWords os)
+
+  same-traces : sameWords full₁ full₂ ≡ true → SameTraces (counts run₁) (counts run₂) (pairAfter run₁ run₂ a)
+  unfolding counts pairAfter
+  same-traces e = record {
+    same = shown (run₁ .log .trace) (a .first) ∙ same-words-equal full₁ full₂ e ∙ sym (shown (run₂ .log .trace) (a .second));
+  }
+
+  other-traces : sameWords full₁ full₂ ≡ false → SameTraces (counts run₁) (counts run₂) (pairAfter run₁ run₂ a) → ⊥
+  unfolding counts pairAfter
+  other-traces e h = other-words full₁ full₂ e (sym (shown (run₁ .log .trace) (a .first)) ∙ h .same ∙ shown (run₂ .log .trace) (a .second))
+
+  -- ---- the word
+  abbrev PairMeans : PairWord → Type 0
+  PairMeans w = Means w f second a (counts run₁) (counts run₂) (pairAfter run₁ run₂ a)
+
+  abbrev PairChosen : PairWord → Type 0
+  PairChosen w =
+      Chosen w (alikeFrom (r .job .public) 0 (r .job .init) vs) (isFinished (run₁ .stop) && isFinished (run₂ .stop)) (sameWords plain₁ plain₂)
+      (sameWords full₁ full₂)
+
+  meaning : (w : PairWord) → PairChosen w → PairMeans w
+  meaning words.NotComparable c = not-alike c
+  meaning words.Undecided c = (is-alike (c .0), not-finished (c .1))
+  meaning words.PlainDiffers c = (is-alike (c .0), both-finished (c .1), other-plain (c .2))
+  meaning words.LeakShown c = (is-alike (c .0), both-finished (c .1), same-plain (c .2), other-traces (c .3))
+  meaning words.Equal c = (is-alike (c .0), both-finished (c .1), same-plain (c .2), same-traces (c .3))
+
+  word-means : PairMeans (pairWord (r .job) vs k)
+  unfolding pairWord sameTrace
+  word-means =
+      meaning (pairWord (r .job) vs k)
+      (chosen (alikeFrom (r .job .public) 0 (r .job .init) vs) (isFinished (run₁ .stop) && isFinished (run₂ .stop)) (sameWords plain₁ plain₂)
+      (sameWords full₁ full₂))
+
+-- ---- every call is refused, or compares
+data View (f second : List ℕ) (a : PairAreas) : Type 0 where
+  compared : Pairs f second a → View f second a
+  refused : (n : Refusal) → pairCall f second a ≡ pairRefused n a → View f second a
+
+view : (f second : List ℕ) (a : PairAreas) → View f second a
+unfolding pairCall pairParsed
+view f second a = go (parse f) refl
+  where
+    fits : (job : Job) → parse f ≡ accepted job → (b c : Bool) → secondFits job second ≡ b → pairFits a ≡ c → View f second a
+    fits job q true true s e = compared (record { job = job; parsed = q; sized = s; enough = e })
+    fits job q true false s e = refused refusals.Areas (rw (q, s, e, pairParsed))
+    fits job q false c s e = refused refusals.SecondState (rw (q, s, pairParsed))
+
+    go : (P : Parsed) → parse f ≡ P → View f second a
+    go (rejected n) q = refused n (rw (q, pairParsed))
+    go (accepted job) q = fits job q (secondFits job second) (pairFits a) refl refl
+
+refused-compared : {P : Type 0} {m : Refusal} {w : PairWord} {n n′ : Counts} → pairs.Refused m ≡ pairs.Compared w n n′ → P
+refused-compared {P} {m} {w} {n} {n′} e = absurd (let z : _≡_ {A = ℕ} 0 1 = cc in omega arith)
+
+pub pair-meaning : (f second : List ℕ) (a : PairAreas) → PairMeaning f second a (pairCall f second a .answer) (pairCall f second a .areas)
+pair-meaning f second a = record { compared = λ {word} {n} {n′} e. go word n n′ e (view f second a) }
+  where
+    go : (w : PairWord) (n n′ : Counts) → pairCall f second a .answer ≡ pairs.Compared w n n′ → View f second a
+        → Means w f second a n n′ (pairCall f second a .areas)
+    go w n n′ e (refused m q) = unfold pairRefused in refused-compared (rw q at e)
+    go w n n′ e (compared r) =
+        unfold pairAccepted in
+        let q : pairs.Compared (pairWord (r .job) (vs r) (k r)) (counts (run₁ r)) (counts (run₂ r)) ≡ pairs.Compared w n n′ = rw (pair-runs r) at e in
+        let q₀ : pairWord (r .job) (vs r) (k r) ≡ w = cc in
+        let q₁ : counts (run₁ r) ≡ n = cc in
+        let q₂ : counts (run₂ r) ≡ n′ = cc in
+        rw (← q₀, ← q₁, ← q₂, pair-runs r) (word-means r)
+
+-- a refusal leaves every area as it was
+pub pair-unaltered : (f second : List ℕ) (a : PairAreas) → PairUnaltered (pairCall f second a .answer) a (pairCall f second a .areas)
+pair-unaltered f second a = record { refused = λ e. go e (view f second a) }
+  where
+    go : {n : Refusal} → pairCall f second a .answer ≡ pairs.Refused n → View f second a → pairCall f second a .areas ≡ a
+    go e (refused m q) = unfold pairRefused in rw q
+    go e (compared r) = unfold pairAccepted in refused-compared (sym (rw (pair-runs r) at e))

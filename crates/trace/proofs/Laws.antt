@@ -1,0 +1,117 @@
+-- How each loop goes on from one word or observation to the next, and what is left when it is done.
+-- Assumes nothing.
+use mathlib.Core.Path.{_≡_, refl, sym, ap, ap₂, _∙_}
+use mathlib.Core.Bool.{Bool, true, false, _&&_, cond}
+use mathlib.Core.List.{List, [], _∷_}
+use Prim.{⊥}
+use Prim.Native.Nat.{ℕ, zero, suc, _+_, _-_, _*_, _/_, _<_, _≤_}
+use native.Mathlib.Nat.{le-refl}
+use native.Mathlib.Numerals.{add-one}
+use native.Mathlib.Omega.{arith}
+use borrow.Author.Tests.{leb-true, leb-false}
+use lib.Dec.{eqb, leb}
+use lib.ListN.{length, getD, drop, length-drop, drop-of-length-le}
+use lib.Seq.{drop-cons}
+use Rattle.rules.specs.Rules.Pairs.{sameWords}
+use Rattle.trace.specs.Struck.{struckWords, struckTo, from, Closed, Outside}
+
+-- ---- two lists of words compared
+pub same-step : (a b : List ℕ) (i : ℕ) → i < length a → i < length b
+    → sameWords (drop i a) (drop i b) ≡ (eqb (getD a i 0) (getD b i 0) && sameWords (drop (i + 1) a) (drop (i + 1) b))
+unfolding sameWords
+same-step a b i ha hb = rw (add-one, drop-cons a i 0 ha, drop-cons b i 0 hb)
+
+pub other-length : (a b : List ℕ) → (length a ≡ length b → ⊥) → false ≡ sameWords a b
+unfolding sameWords
+other-length [] [] h = absurd (h refl)
+other-length [] (y ∷ b) h = refl
+other-length (x ∷ a) [] h = refl
+other-length (x ∷ a) (y ∷ b) h = either (eqb x y) (other-length a b (λ e. h (ap suc e)))
+  where
+    either : (t : Bool) → false ≡ sameWords a b → false ≡ (t && sameWords a b)
+    either true e = e
+    either false e = refl
+
+-- no word is left in either
+pub both-done : (a b : List ℕ) (i : ℕ) → length a ≤ i → length a ≡ length b → sameWords (drop i a) (drop i b) ≡ true
+unfolding sameWords
+both-done a b i h e = rw (drop-of-length-le a {i = i} h, drop-of-length-le b {i = i} (omega arith))
+
+-- ---- one observation more
+pub observe : (t : List ℕ) (i : ℕ) → 2 * i + 2 ≤ length t → from t i ≡ getD t (2 * i) 0 ∷ getD t (2 * i + 1) 0 ∷ from t (i + 1)
+observe t i h =
+    let e : 2 * (i + 1) ≡ suc (suc (2 * i)) = omega arith in
+    rw (e, add-one) (drop-cons t (2 * i) 0 (omega arith) ∙ ap (λ (ws : List ℕ). getD t (2 * i) 0 ∷ ws) (drop-cons t (suc (2 * i)) 0 (omega arith)))
+
+-- less than an observation is left
+pub none-left : (ws : List ℕ) → length ws < 2 → struckWords ws ≡ []
+unfolding struckWords
+none-left [] h = refl
+none-left (k ∷ []) h = refl
+none-left (k ∷ v ∷ ws) h = absurd (omega arith)
+
+pub none-left-to : (ws : List ℕ) (id : ℕ) → length ws < 2 → struckTo ws id ≡ []
+unfolding struckTo
+none-left-to [] id h = refl
+none-left-to (k ∷ []) id h = refl
+none-left-to (k ∷ v ∷ ws) id h = absurd (omega arith)
+
+left : (t : List ℕ) (i : ℕ) → length t < 2 * i + 2 → length (from t i) < 2
+left t i h = let e = length-drop (2 * i) t in rw e (omega arith)
+
+pub done : (t : List ℕ) (i : ℕ) → length t < 2 * i + 2 → struckWords (from t i) ≡ []
+done t i h = none-left (from t i) (left t i h)
+
+pub done-to : (t : List ℕ) (i id : ℕ) → length t < 2 * i + 2 → struckTo (from t i) id ≡ []
+done-to t i id h = none-left-to (from t i) id (left t i h)
+
+-- ---- the search for a rollback
+pub closes-step : (t : List ℕ) (i id : ℕ) → 2 * i + 2 ≤ length t
+    → struckTo (from t i) id
+    ≡ cond (eqb (getD t (2 * i) 0) 1 && eqb (getD t (2 * i + 1) 0) id) (struckWords (from t (i + 1))) (struckTo (from t (i + 1)) id)
+unfolding struckTo
+closes-step t i id h = rw (observe t i h)
+
+-- ---- the search for an observation that is not struck out
+pub start-step : (t : List ℕ) (i : ℕ) → 2 * i + 2 ≤ length t
+    → struckWords (from t i)
+    ≡ cond (eqb (getD t (2 * i) 0) 0) (struckTo (from t (i + 1)) (getD t (2 * i + 1) 0))
+    (getD t (2 * i) 0 ∷ getD t (2 * i + 1) 0 ∷ struckWords (from t (i + 1)))
+unfolding struckWords
+start-step t i h = rw (observe t i h)
+
+-- ---- two struck-out traces compared
+-- an observation that is not struck out is the first one from itself on
+pub settled : {t : List ℕ} {i r : ℕ} → Outside t i r → Outside t r r
+settled {r = r} x = record { later = le-refl r; room = x .room; same = refl; kept = x .kept }
+
+joined : (x y z : Bool) → (x && (y && z)) ≡ ((x && y) && z)
+joined true y z = refl
+joined false y z = refl
+
+module _ (a b : List ℕ) (i j : ℕ) where
+  abbrev rest : ℕ → ℕ → Bool
+  rest k l = sameWords (struckWords (from a k)) (struckWords (from b l))
+
+  -- both go on
+  pub struck-step : Outside a i i → Outside b j j → 2 * i + 2 ≤ length a → 2 * j + 2 ≤ length b
+      → rest i j
+      ≡ ((eqb (getD a (2 * i) 0) (getD b (2 * j) 0) && eqb (getD a (2 * i + 1) 0) (getD b (2 * j + 1) 0)) && rest (i + 1) (j + 1))
+  unfolding sameWords
+  struck-step x y h k =
+      rw (x .kept h, y .kept k)
+      (joined (eqb (getD a (2 * i) 0) (getD b (2 * j) 0)) (eqb (getD a (2 * i + 1) 0) (getD b (2 * j + 1) 0)) (rest (i + 1) (j + 1)))
+
+  -- the second has ended, the first goes on
+  pub second-ended : Outside a i i → 2 * i + 2 ≤ length a → length b < 2 * j + 2 → rest i j ≡ false
+  unfolding sameWords
+  second-ended x h k = rw (x .kept h, done b j k)
+
+  -- the first has ended
+  pub first-ended : Outside b j j → length a < 2 * i + 2 → leb (length b / 2) j ≡ rest i j
+  unfolding sameWords
+  first-ended y h = by (leb (length b / 2) j) refl
+    where
+      by : (t : Bool) → leb (length b / 2) j ≡ t → t ≡ rest i j
+      by true e = let k = leb-true (length b / 2) j e in rw (done a i h, done b j (omega arith))
+      by false e = let k = leb-false (length b / 2) j e in rw (done a i h, y .kept (omega arith))

@@ -1,0 +1,67 @@
+-- Striking out, on the words of a trace: what `strike` of the rules does to observations.
+-- Assumes nothing.
+use mathlib.Core.Path.{_≡_, refl, ap, _∙_}
+use mathlib.Core.Bool.{Bool, true, false, _&&_, cond}
+use mathlib.Core.List.{List, [], _∷_}
+use Prim.Native.Nat.{ℕ, _+_, _*_, _≤_}
+use lib.Dec.{eqb}
+use lib.ListN.{length, getD, drop}
+use Rattle.rules.specs.Rules.Instructions.{Observation, start, rollback, pc, loaded, stored}
+use Rattle.rules.specs.Rules.Calls.{traceWords}
+use Rattle.rules.specs.Rules.Strike.{strike, strikeTo}
+
+-- the words, two an observation, with all from each outermost start to its rollback struck out; an odd last word is none
+unfoldable mutual
+  pub struckWords : List ℕ → List ℕ
+  struckWords [] = []
+  struckWords (k ∷ []) = []
+  struckWords (k ∷ v ∷ ws) = cond (eqb k 0) (struckTo ws v) (k ∷ v ∷ struckWords ws)
+
+  -- what follows the rollback of branch i, struck in its turn
+  pub struckTo : List ℕ → ℕ → List ℕ
+  struckTo [] i = []
+  struckTo (k ∷ []) i = []
+  struckTo (k ∷ v ∷ ws) i = cond (eqb k 1 && eqb v i) (struckWords ws) (struckTo ws i)
+
+-- the words from observation i on
+abbrev pub from : List ℕ → ℕ → List ℕ
+from t i = drop (2 * i) t
+
+-- Observation r is the one after the rollback of branch id, from observation i on.
+pub record Closed (t : List ℕ) (i id r : ℕ) : Type 0 where
+  pub later : i ≤ r
+  pub room : 2 * r ≤ length t
+  pub same : struckTo (from t i) id ≡ struckWords (from t r)
+
+-- Observation r is the first from observation i on that is not struck out, if there is one.
+pub record Outside (t : List ℕ) (i r : ℕ) : Type 0 where
+  pub later : i ≤ r
+  pub room : 2 * r ≤ length t
+  pub same : struckWords (from t i) ≡ struckWords (from t r)
+  pub kept : 2 * r + 2 ≤ length t → struckWords (from t r) ≡ getD t (2 * r) 0 ∷ getD t (2 * r + 1) 0 ∷ struckWords (from t (r + 1))
+
+-- ---- laws
+-- after a rollback: of this branch, or not
+closed-or-not : {ws vs : List ℕ} (b : Bool) (os ps : List Observation) → ws ≡ traceWords os → vs ≡ traceWords ps
+    → cond b ws vs ≡ traceWords (cond b os ps)
+closed-or-not true os ps e f = e
+closed-or-not false os ps e f = f
+
+-- on the words of observations it is the rules' striking out
+mutual
+  unfolding struckWords traceWords strike
+  pub struck-trace : (os : List Observation) → struckWords (traceWords os) ≡ traceWords (strike os)
+  struck-trace [] = refl
+  struck-trace (start i ∷ os) = struck-trace-to os i
+  struck-trace (rollback i ∷ os) = ap (λ (ws : List ℕ). 1 ∷ i ∷ ws) (struck-trace os)
+  struck-trace (pc p ∷ os) = ap (λ (ws : List ℕ). 2 ∷ p ∷ ws) (struck-trace os)
+  struck-trace (loaded a ∷ os) = ap (λ (ws : List ℕ). 3 ∷ a ∷ ws) (struck-trace os)
+  struck-trace (stored a ∷ os) = ap (λ (ws : List ℕ). 4 ∷ a ∷ ws) (struck-trace os)
+
+  struck-trace-to : (os : List Observation) (i : ℕ) → struckTo (traceWords os) i ≡ traceWords (strikeTo os i)
+  struck-trace-to [] i = refl
+  struck-trace-to (start j ∷ os) i = struck-trace-to os i
+  struck-trace-to (rollback j ∷ os) i = closed-or-not (eqb j i) (strike os) (strikeTo os i) (struck-trace os) (struck-trace-to os i)
+  struck-trace-to (pc p ∷ os) i = struck-trace-to os i
+  struck-trace-to (loaded a ∷ os) i = struck-trace-to os i
+  struck-trace-to (stored a ∷ os) i = struck-trace-to os i
