@@ -1,13 +1,15 @@
 -- How the calls' code meets the definitions of the calls: the verdict, an accepted job's numbers, and each way that a call ends.
 -- Assumes nothing.
 use mathlib.Core.Path.{_≡_, refl, sym, ap, _∙_}
-use mathlib.Core.Bool.{Bool, true, false}
+use mathlib.Core.Bool.{Bool, true, false, _&&_}
 use mathlib.Core.List.{List}
-use Prim.Native.Nat.{ℕ, _+_, _-_, _*_, _<_, _≤_}
-use native.Mathlib.Omega.{arith}
-use lib.ListN.{length, take, drop, replicate}
+use Prim.Native.Nat.{ℕ}
+use borrow.Author.Tests.{leb-true}
+use lib.Dec.{leb}
+use lib.ListN.{length}
 use Rattle.location.specs.declared.LocationSet.{LocationSet}
-use Rattle.location.specs.Sets.{registers, union, subset}
+use Rattle.location.specs.Sets.{union, subset}
+use Rattle.location.specs.SetLaws.{and-left, and-right}
 use Rattle.rules.specs.declared.Stop.{Stop}
 use Rattle.rules.specs.declared.Stop.the-variants.{Finished}
 use Rattle.rules.specs.declared.Verdict.{Verdict}
@@ -17,24 +19,24 @@ use Rattle.rules.specs.declared.Refusal.{Refusal}
 use Rattle.rules.specs.declared.Refusal.the-variants as refusals
 use Rattle.rules.specs.declared.RunAnswer.{RunAnswer}
 use Rattle.rules.specs.declared.PlainAnswer.{PlainAnswer}
-use Rattle.rules.specs.Rules.Plain.{values}
+use Rattle.rules.specs.declared.PairAnswer.{PairAnswer}
+use Rattle.rules.specs.declared.PairAnswer.the-variants as pairs
 use Rattle.rules.specs.Rules.Runs.{Job, Result, judge, mispredictingRun, plainRun}
-use Rattle.rules.specs.Rules.JobFile.{accepted, rejected, parse, trailer, stateOf, publicOf, wordsAt}
-use Rattle.rules.specs.Rules.Calls.{Areas, Called, lent, written, workingWords, room, longEnough, areasAfter, runReport, runRefused, runParsed, runCall, plainReport, plainRefused, plainParsed, plainCall}
-use Rattle.rules.specs.Rules.Pairs.{withState}
-use Rattle.rules.specs.Rules.Demands.{Exact, RunUnaltered, PlainUnaltered, Demand2, Demand3}
-use Rattle.rules.specs.Theorems.JobLaws.{Passed, passed, Limits, limits-hold, job-init, job-public, length-stateOf, state-list, list-length}
+use Rattle.rules.specs.Rules.JobFile.{accepted, rejected, parse, publicOf}
+use Rattle.rules.specs.Rules.Calls.{Areas, Called, lent, workingWords, room, longEnough, areasAfter, runReport, runRefused, runParsed, runCall, plainReport, plainRefused, plainParsed, plainCall}
+use Rattle.rules.specs.Rules.Pairs.{PairAreas, pairRefused, pairParsed, pairCall}
+use Rattle.rules.specs.Rules.Demands.{Exact, RunUnaltered, PlainUnaltered, Demand2, Demand3, PairExact, PairUnaltered, PairMeaning}
 use Rattle.rules.specs.Theorems.CallLaws.{refused-unaltered, plain-refused-unaltered}
 use Rattle.rules.specs.Theorems.FilePlain.{demand2-call}
 use Rattle.rules.specs.Theorems.FileSecrecy.{demand3-call}
+use Rattle.rules.specs.Theorems.PairLaws.{pair-meaning, pair-unaltered}
 use Rattle.job.specs.Answers.{Accepts}
-use Rattle.work.specs.Machines.{stateIn}
 use Rattle.stepping.specs.declared.Progress.{Progress}
 use Rattle.execution.specs.declared.Mode.the-variants as modes
-use Rattle.execution.specs.Turns.{locations, RanTo}
-use Rattle.execution.specs.Starts.{own-state}
-use Rattle.checker.specs.Reports.{reportOf, plainReportOf, report-same, plain-report-same, areas-same, enough, short-work, short-end, run-short, plain-short, run-rejected, plain-rejected}
-use Rattle.checker.specs.JobRuns.{resultOf, RunOf}
+use Rattle.execution.specs.Turns.{locations}
+use Rattle.job_run.specs.Accepted.{accepted-size, accepted-public}
+use Rattle.job_run.specs.JobRuns.{AreasFit, RunIn}
+use Rattle.checker.specs.Reports.{reportOf, plainReportOf, report-same, plain-report-same, run-short, plain-short, run-rejected, plain-rejected}
 
 -- ---- the verdict
 module _ (public full plain : LocationSet) {stop : Stop} {b : Bool} (f : stop ≡ Finished) (e : b ≡ subset full public) where
@@ -51,86 +53,53 @@ module _ (public full plain : LocationSet) {stop : Stop} {b : Bool} (f : stop �
     unfolding judge
     judged-speculative t = rw (f, ← e, n, ← eu, ← ed, t)
 
--- ---- the numbers of an accepted job
-module _ {bs : List ℕ} {t : Trailer} (a : Accepts bs t) where
-  pub accepted-passed : Passed bs (a .job)
-  accepted-passed = passed bs (a .job) (a .parsed)
-
-  pub accepted-limits : Limits t
-  accepted-limits = rw (a .trailer) (limits-hold (trailer bs) (accepted-passed .limits))
-
-  pub accepted-list : t .state + 128 + 8 * t .cells ≡ t .list
-  accepted-list = rw (a .trailer) (state-list accepted-passed)
-
-  pub accepted-length : t .list + 48 ≡ length bs
-  accepted-length = rw (a .trailer) (list-length accepted-passed)
-
-  pub accepted-size : length (a .job .init) ≡ locations t
-  accepted-size = rw (a .trailer) (ap length (job-init accepted-passed) ∙ length-stateOf (trailer bs) bs)
-
-  accepted-public : publicOf t bs ≡ a .job .public
-  accepted-public = rw (a .trailer) (sym (job-public accepted-passed))
-
-  accepted-state : withState (a .job) (wordsAt (locations t) bs (t .state)) ≡ a .job
-  accepted-state = rw (a .trailer) (unfold stateOf in own-state accepted-passed)
-
--- the part of a list that the code takes from 0 on
-pub same-part : (n : ℕ) (xs : List ℕ) → take (n - 0) (drop 0 xs) ≡ take n xs
-same-part n xs = let z : n - 0 ≡ n = omega arith in rw z
-
 -- ---- each way that a call ends
 exact-of : {A : Type 0} {called : Called A} {r : A} {after : Areas} (answer : A) (areas : Areas)
     → called ≡ record { answer = answer; areas = areas } → r ≡ answer → after ≡ areas → Exact called r after
 exact-of answer areas e p q = rw e (record { answer = p; areas = q })
 
 module _ {bs : List ℕ} {t : Trailer} (k : Accepts bs t) (a e w : List ℕ) where
-  pub exact-short-work : {r : RunAnswer} → length w < workingWords → r ≡ runRefused refusals.Areas
-      → Exact (runCall bs (lent a e w)) r (lent a e w)
-  exact-short-work h p =
-      exact-of (runRefused refusals.Areas) (lent a e w) (run-short bs (lent a e w) (k .job) (k .parsed) (short-work (k .job) (lent a e w) h)) p refl
+  -- what the code finds of the areas
+  fitting : {b : Bool} → b ≡ (leb workingWords (length w) && leb (locations t) (length e)) → longEnough (k .job) (lent a e w) ≡ b
+  unfolding longEnough
+  fitting h = rw (accepted-size k) (sym h)
 
-  pub plain-short-work : {r : PlainAnswer} → length w < workingWords → r ≡ plainRefused refusals.Areas
-      → Exact (plainCall bs (lent a e w)) r (lent a e w)
-  plain-short-work h p =
-      exact-of (plainRefused refusals.Areas) (lent a e w) (plain-short bs (lent a e w) (k .job) (k .parsed) (short-work (k .job) (lent a e w) h)) p refl
+  module _ {b : Bool} (h : b ≡ (leb workingWords (length w) && leb (locations t) (length e))) (s : b ≡ false) where
+    pub exact-short : {r : RunAnswer} → r ≡ runRefused refusals.Areas → Exact (runCall bs (lent a e w)) r (lent a e w)
+    exact-short p =
+        exact-of (runRefused refusals.Areas) (lent a e w) (run-short bs (lent a e w) (k .job) (k .parsed) (fitting h ∙ s)) p refl
 
-  short : workingWords ≤ length w → length e < locations t → longEnough (k .job) (lent a e w) ≡ false
-  short h s = short-end (k .job) (lent a e w) h (let z = accepted-size k in omega arith)
+    pub plain-short-areas : {r : PlainAnswer} → r ≡ plainRefused refusals.Areas → Exact (plainCall bs (lent a e w)) r (lent a e w)
+    plain-short-areas p =
+        exact-of (plainRefused refusals.Areas) (lent a e w) (plain-short bs (lent a e w) (k .job) (k .parsed) (fitting h ∙ s)) p refl
 
-  pub exact-short-end : {r : RunAnswer} → workingWords ≤ length w → length e < locations t → r ≡ runRefused refusals.Areas
-      → Exact (runCall bs (lent a e w)) r (lent a e w)
-  exact-short-end h s p =
-      exact-of (runRefused refusals.Areas) (lent a e w) (run-short bs (lent a e w) (k .job) (k .parsed) (short h s)) p refl
+  module _ {b : Bool} (h : b ≡ (leb workingWords (length w) && leb (locations t) (length e))) (l : b ≡ true) where
+    pub areas-fit : AreasFit bs t e w
+    areas-fit =
+        let q = leb workingWords (length w) in
+        let q′ = leb (locations t) (length e) in
+        record {
+          accepts = k;
+          work = leb-true workingWords (length w) (and-left q q′ (sym h ∙ l));
+          end = leb-true (locations t) (length e) (and-right q q′ (sym h ∙ l));
+        }
 
-  pub plain-short-end : {r : PlainAnswer} → workingWords ≤ length w → length e < locations t → r ≡ plainRefused refusals.Areas
-      → Exact (plainCall bs (lent a e w)) r (lent a e w)
-  plain-short-end h s p =
-      exact-of (plainRefused refusals.Areas) (lent a e w) (plain-short bs (lent a e w) (k .job) (k .parsed) (short h s)) p refl
-
-  long : workingWords ≤ length w → locations t ≤ length e → longEnough (k .job) (lent a e w) ≡ true
-  long h s = enough (k .job) (lent a e w) h (let z = accepted-size k in omega arith)
-
-  module _ (h : workingWords ≤ length w) (s : locations t ≤ length e) {w′ a′ e′ w″ : List ℕ} {x : Stop} {c : Progress} where
-    pub exact-ran : {public : LocationSet} {r : RunAnswer} → RunOf bs t modes.Mispredicting bs (t .state) w w′ a a′ x c
-        → e′ ≡ written (values (stateIn w′ (locations t))) e → w″ ≡ written (replicate workingWords 0) w′ → public ≡ publicOf t bs
-        → r ≡ reportOf public x c → Exact (runCall bs (lent a e w)) r (lent a′ e′ w″)
+    pub exact-ran : {after : Areas} {x : Stop} {c : Progress} {public : LocationSet} {r : RunAnswer} → RunIn bs t modes.Mispredicting (lent a e w) after x c → public ≡ publicOf t bs
+        → r ≡ reportOf public x c → Exact (runCall bs (lent a e w)) r after
     unfolding runCall runParsed
-    exact-ran {public} {r} o ee ew ep er =
+    exact-ran {x = x} {c = c} o ep er =
         let R = mispredictingRun (k .job) (room a) in
-        let q : RanTo t (o .words) a w′ a′ x c R = rw (accepted-state k) at (o .ran (k .job) (k .parsed)) in
-        exact-of (runReport (k .job) R) (areasAfter R (lent a e w)) (rw (k .parsed, long h s, runParsed))
-        (er ∙ ap (λ (l : LocationSet). reportOf l x c) (ep ∙ accepted-public k) ∙ report-same q (k .job))
-        (rw (ee, ew) (areas-same q w e (o .past)))
+        exact-of (runReport (k .job) R) (areasAfter R (lent a e w)) (rw (k .parsed, fitting h ∙ l, runParsed))
+        (er ∙ ap (λ (l : LocationSet). reportOf l x c) (ep ∙ accepted-public k) ∙ report-same (o .ran (k .job) (k .parsed)) (k .job))
+        (o .areas (k .job) (k .parsed))
 
-    pub plain-ran : {r : PlainAnswer} → RunOf bs t modes.Plain bs (t .state) w w′ a a′ x c
-        → e′ ≡ written (values (stateIn w′ (locations t))) e → w″ ≡ written (replicate workingWords 0) w′
-        → r ≡ plainReportOf x c → Exact (plainCall bs (lent a e w)) r (lent a′ e′ w″)
+    pub plain-ran : {after : Areas} {x : Stop} {c : Progress} {r : PlainAnswer} → RunIn bs t modes.Plain (lent a e w) after x c → r ≡ plainReportOf x c
+        → Exact (plainCall bs (lent a e w)) r after
     unfolding plainCall plainParsed
-    plain-ran {r} o ee ew er =
+    plain-ran o er =
         let R = plainRun (k .job) (room a) in
-        let q : RanTo t (o .words) a w′ a′ x c R = rw (accepted-state k) at (o .ran (k .job) (k .parsed)) in
-        exact-of (plainReport R) (areasAfter R (lent a e w)) (rw (k .parsed, long h s, plainParsed))
-        (er ∙ plain-report-same q) (rw (ee, ew) (areas-same q w e (o .past)))
+        exact-of (plainReport R) (areasAfter R (lent a e w)) (rw (k .parsed, fitting h ∙ l, plainParsed))
+        (er ∙ plain-report-same (o .ran (k .job) (k .parsed))) (o .areas (k .job) (k .parsed))
 
 -- ---- a refused job
 module _ (bs : List ℕ) (n : Refusal) (p : parse bs ≡ rejected n) (a : Areas) where
@@ -139,6 +108,11 @@ module _ (bs : List ℕ) (n : Refusal) (p : parse bs ≡ rejected n) (a : Areas)
 
   pub plain-exact-rejected : {r : PlainAnswer} → r ≡ plainRefused n → Exact (plainCall bs a) r a
   plain-exact-rejected e = exact-of (plainRefused n) a (plain-rejected bs a n p) e refl
+
+pub pair-rejected : (bs second : List ℕ) (n : Refusal) → parse bs ≡ rejected n → (a : PairAreas)
+    → PairExact (pairCall bs second a) (pairs.Refused n) a
+unfolding pairCall pairParsed pairRefused
+pair-rejected bs second n p a = rw (p, pairParsed) (record { answer = refl; areas = refl })
 
 -- a refusal leaves every area as it was
 pub run-unaltered : (bs : List ℕ) (a : Areas) {r : RunAnswer} {a′ : Areas} → Exact (runCall bs a) r a′ → RunUnaltered r a a′
@@ -157,3 +131,12 @@ run-plainly bs a x = rw (x .answer, x .areas) (demand2-call bs a)
 
 pub run-secret : (bs : List ℕ) (a : Areas) {r : RunAnswer} {a′ : Areas} → Exact (runCall bs a) r a′ → Demand3 bs a r a′
 run-secret bs a x = rw (x .answer, x .areas) (demand3-call bs a)
+
+-- what the words on a pair mean, of a call that is exact
+pub pair-means : (bs second : List ℕ) (a : PairAreas) {r : PairAnswer} {a′ : PairAreas} → PairExact (pairCall bs second a) r a′
+    → PairMeaning bs second a r a′
+pair-means bs second a x = rw (x .answer, x .areas) (pair-meaning bs second a)
+
+pub pair-unaltered-by : (bs second : List ℕ) (a : PairAreas) {r : PairAnswer} {a′ : PairAreas} → PairExact (pairCall bs second a) r a′
+    → PairUnaltered r a a′
+pair-unaltered-by bs second a x = rw (x .answer, x .areas) (pair-unaltered bs second a)

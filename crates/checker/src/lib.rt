@@ -1,18 +1,19 @@
 // The calls of the checker, on any bytes as a job and lent areas of any length and contents. Nothing has to be tested beforehand.
 //
-// What each call promises is stated in its contract, for every input (plainly and secret by `run` alone):
-//   exact      demand 1 and 2: the answer and every word of every lent area are those of the rules, for refused jobs too;
+// What each call promises is stated in its contract, for every input:
+//   exact      demands 1 and 2: the answer and every word of every lent area are those of the rules, for refused jobs too;
 //   unaltered  demand 1: a refusal leaves every area as it was;
-//   plainly    demand 2: where a run finishes, its trace with each outermost wrong path struck out is the plain run's trace, and
-//              the end states are equal;
-//   secret     demand 3: a second state that is alike on the reported set (with a clean verdict: on the public list) gives the
-//              same trace, counts, stop, sets and verdict.
-// The definitions are in crates/rules/specs/Rules: Calls and Demands.
+//   plainly    (`run`) demand 2: where a run finishes, its trace with each outermost wrong path struck out is the plain run's
+//              trace, and the end states are equal;
+//   secret     (`run`) demand 3: a second state that is alike on the reported set (with a clean verdict: on the public list)
+//              gives the same trace, counts, stop, sets and verdict;
+//   meaning    (`compare`) what each word says of the two traces and of the two plain runs.
+// The definitions are in crates/rules/specs/Rules: Calls, Pairs and Demands.
 use execution::Mode;
 use execution::Ran;
 use job::JobRead;
 use location::LocationSet;
-use rules::Counts;
+use rules::PairAnswer;
 use rules::PlainAnswer;
 use rules::PlainCounts;
 use rules::PlainOutcome;
@@ -25,10 +26,10 @@ use rules::Verdict;
 ghost use mathlib.Core.Path.{_≡_};
 ghost use Rattle.rules.specs.Rules.Runs.{judge};
 ghost use Rattle.rules.specs.Rules.Calls.{lent, runRefused, plainRefused, runCall, plainCall};
-ghost use Rattle.rules.specs.Rules.Demands.{Exact, RunUnaltered, PlainUnaltered, Demand2, Demand3};
+ghost use Rattle.rules.specs.Rules.Pairs.{pairLent, pairCall};
+ghost use Rattle.rules.specs.Rules.Demands.{Exact, RunUnaltered, PlainUnaltered, Demand2, Demand3, PairExact, PairUnaltered, PairMeaning};
 ghost use Rattle.job.specs.Answers.{Accepts};
 ghost use Rattle.checker.specs.Reports.{reportOf, plainReportOf};
-ghost use Rattle.checker.specs.JobRuns.{Runnable, RunOf};
 
 fn run_refused(n: Refusal) -> RunAnswer
     ensures { λ r. ⌜ r ≡ runRefused n ⌝ }
@@ -71,17 +72,12 @@ fn verdict_of(public: LocationSet, stop: Stop, full: LocationSet, plain: Locatio
 fn report(public: LocationSet, r: Ran) -> RunAnswer
     ensures { λ x. ⌜ x ≡ reportOf public (r .stop) (r .progress) ⌝ }
 {
-    let stop = r.stop;
+    let counts = job_run::counts_of(r);
+    let stop = counts.stop;
     let c = r.progress;
     let depends = c.full;
     let plain = c.plain;
     let verdict = verdict_of(public, stop, depends, plain);
-    let counts = Counts {
-        stop,
-        observations: c.observations,
-        steps: c.steps,
-        rollbacks: c.rollbacks,
-    };
     RunAnswer {
         outcome: RunOutcome::Ran(counts, verdict),
         depends,
@@ -107,27 +103,6 @@ fn plain_report(r: Ran) -> PlainAnswer
     }
 }
 
-// One of the two runs of an accepted job, with the state that stands at an offset of some bytes.
-fn run_state(
-    job: &[u8],
-    t: Trailer,
-    mode: Mode,
-    states: &[u8],
-    at: usize,
-    work: &mut [u64],
-    trace: &mut [u64],
-) -> Ran
-    requires { ⌜ Runnable (now job) t (now states) at (now work) ⌝ }
-    ensures { λ r. ⌜ RunOf (now (job .entry)) t mode (now (states .entry)) at (now (work .entry)) (now (work .exit)) (now (trace .entry)) (now (trace .exit)) (r .stop) (r .progress) ⌝ }
-{
-    let n = 16 + t.cells;
-    transfer::load_state(states, at, n, &mut work[..]);
-    let s = t.state;
-    let p = &job[0..s];
-    transfer::load_labels(p, t.count, &mut work[..]);
-    execution::run(p, t, mode, &mut work[..], &mut trace[..])
-}
-
 fn run_accepted(
     job: &[u8],
     t: Trailer,
@@ -139,23 +114,11 @@ fn run_accepted(
     ensures { λ r. ⌜ Exact (runCall (now (job .entry)) (lent (now (trace .entry)) (now (end .entry)) (now (work .entry)))) r (lent (now (trace .exit)) (now (end .exit)) (now (work .exit))) ⌝ }
 {
     let n = 16 + t.cells;
-    if work.len() < work::WORDS {
+    if !job_run::areas_fit(n, &end[..], &work[..]) {
         return run_refused(Refusal::Areas);
     }
-    if end.len() < n {
-        return run_refused(Refusal::Areas);
-    }
-    let r = run_state(
-        job,
-        t,
-        Mode::Mispredicting,
-        job,
-        t.state,
-        &mut work[..],
-        &mut trace[..],
-    );
-    transfer::save_values(&work[..], n, &mut end[..]);
-    work::clear(&mut work[..]);
+    let mode = Mode::Mispredicting;
+    let r = job_run::run_in_areas(job, t, mode, &mut trace[..], &mut end[..], &mut work[..]);
     report(job::public_list(job, t), r)
 }
 
@@ -183,23 +146,11 @@ fn plain_accepted(
     ensures { λ r. ⌜ Exact (plainCall (now (job .entry)) (lent (now (trace .entry)) (now (end .entry)) (now (work .entry)))) r (lent (now (trace .exit)) (now (end .exit)) (now (work .exit))) ⌝ }
 {
     let n = 16 + t.cells;
-    if work.len() < work::WORDS {
+    if !job_run::areas_fit(n, &end[..], &work[..]) {
         return plain_refused(Refusal::Areas);
     }
-    if end.len() < n {
-        return plain_refused(Refusal::Areas);
-    }
-    let r = run_state(
-        job,
-        t,
-        Mode::Plain,
-        job,
-        t.state,
-        &mut work[..],
-        &mut trace[..],
-    );
-    transfer::save_values(&work[..], n, &mut end[..]);
-    work::clear(&mut work[..]);
+    let mode = Mode::Plain;
+    let r = job_run::run_in_areas(job, t, mode, &mut trace[..], &mut end[..], &mut work[..]);
     plain_report(r)
 }
 
@@ -211,5 +162,30 @@ pub fn plain_run(job: &[u8], trace: &mut [u64], end: &mut [u64], work: &mut [u64
     match job::read_job(job) {
         JobRead::Accepted(t) => plain_accepted(job, t, &mut trace[..], &mut end[..], &mut work[..]),
         JobRead::Refused(n) => plain_refused(n),
+    }
+}
+
+// The pair of the job's state and a second one: both runs are made and both traces written, whatever the word is.
+pub fn compare(
+    job: &[u8],
+    second: &[u8],
+    first_trace: &mut [u64],
+    second_trace: &mut [u64],
+    work: &mut [u64],
+) -> PairAnswer
+    ensures exact { λ r. ⌜ PairExact (pairCall (now (job .entry)) (now (second .entry)) (pairLent (now («first_trace» .entry)) (now («second_trace» .entry)) (now (work .entry)))) r (pairLent (now («first_trace» .exit)) (now («second_trace» .exit)) (now (work .exit))) ⌝ }
+    ensures unaltered { λ r. ⌜ PairUnaltered r (pairLent (now («first_trace» .entry)) (now («second_trace» .entry)) (now (work .entry))) (pairLent (now («first_trace» .exit)) (now («second_trace» .exit)) (now (work .exit))) ⌝ }
+    ensures meaning { λ r. ⌜ PairMeaning (now (job .entry)) (now (second .entry)) (pairLent (now («first_trace» .entry)) (now («second_trace» .entry)) (now (work .entry))) r (pairLent (now («first_trace» .exit)) (now («second_trace» .exit)) (now (work .exit))) ⌝ }
+{
+    match job::read_job(job) {
+        JobRead::Accepted(t) => pair::compare_accepted(
+            job,
+            t,
+            second,
+            &mut first_trace[..],
+            &mut second_trace[..],
+            &mut work[..],
+        ),
+        JobRead::Refused(n) => PairAnswer::Refused(n),
     }
 }

@@ -1,59 +1,41 @@
 -- `run_accepted` meets its contract: too short an area is refused before anything is written, else the run is made. Assumes nothing.
+use mathlib.Core.Path.{sym, _∙_}
 use native.Mathlib.Omega.{arith}
-use Rattle.checker.proofs.Laws.{accepted-limits, accepted-list, accepted-length, exact-short-work, exact-short-end, exact-ran}
+use borrow.Author.Tests.{not-true, not-false}
+use Rattle.job_run.specs.Accepted.{accepted-limits, accepted-length}
+use Rattle.checker.proofs.Laws.{exact-short, areas-fit, exact-ran}
 use borrow.Author.Needs.{needs}
 use Rattle.checker.proofs.run_accepted.Statement.{statement}
 use Rattle.checker.proofs.run_accepted.Tie as tie
 use Rattle.checker.proofs.run_accepted.Reads as reads
 use Rattle.checker.proofs.run_accepted.Lts as lts
-use Rattle.checker.proofs.report.Reads as report-reads
 use Rattle.checker.proofs.run_refused.Reads as run-refused-reads
-use Rattle.checker.proofs.run_state.Reads as run-state-reads
+use Rattle.checker.proofs.report.Reads as report-reads
+use Rattle.job_run.proofs.areas_fit.Reads as areas-fit-reads
+use Rattle.job_run.proofs.run_in_areas.Reads as run-in-areas-reads
 use Rattle.job.proofs.public_list.Reads as public-list-reads
-use Rattle.transfer.proofs.save_values.Reads as save-values-reads
-use Rattle.work.proofs.clear.Reads as clear-reads
 
 add-n : tie.Need-add-n
 add-n c = let l = accepted-limits (c .before .before .before .before .before .pre) .cells in omega arith
+
+areas-fit-requires : tie.Need-areas-fit-requires
+areas-fit-requires c κs = search needs
 
 run-refused-requires : tie.Need-run-refused-requires
 run-refused-requires c κs = search needs
 
 returns : tie.Need-returns
 returns c =
-    let a = c .before .before .before .before .before .before .before .args in
-    exact-short-work (c .before .before .before .before .before .before .before .pre) (a .trace .now) (a .end .now) (a .work .now) (c .before .if1 .taken) (c .run-refused .ensures)
+    let a = c .before .before .before .before .before .before .before .before .before .before .args in
+    exact-short (c .before .before .before .before .before .before .before .before .before .before .pre) (a .trace .now) (a .end .now) (a .work .now) (c .before .before .areas-fit .ensures) (not-true _ (c .before .if1 .taken)) (c .run-refused .ensures)
 
-run-refused-requires-2 : tie.Need-run-refused-requires-2
-run-refused-requires-2 c κs = search needs
-
-returns-2 : tie.Need-returns-2
-returns-2 c =
-    let a = c .before .before .before .before .before .before .before .before .args in
-    exact-short-end (c .before .before .before .before .before .before .before .before .pre) (a .trace .now) (a .end .now) (a .work .now) (c .before .before .if1 .left) (c .before .if2 .taken) (c .run-refused2 .ensures)
-
-run-state-requires : tie.Need-run-state-requires
-run-state-requires c κs =
-    let k = c .before .before .before .before .before .before .before .before .before .pre in
-    let e = accepted-list k in
-    let f = accepted-length k in
-    let m = c .before .before .before .if1 .left in
-    record { accepts = k; state = omega arith; room = m }
-
-save-values-requires : tie.Need-save-values-requires
-save-values-requires c κs =
-    let k = c .before .before .before .before .before .before .before .before .before .before .before .before .before .before .before .before .pre in
-    let l = accepted-limits k .cells in
-    let s = c .before .before .before .before .before .before .run-state .ensures .size in
-    let m = c .before .before .before .before .before .before .before .before .before .before .if1 .left in
-    let n = c .before .before .before .before .before .before .before .before .before .if2 .left in
-    (omega arith, omega arith)
-
-clear-requires : tie.Need-clear-requires
-clear-requires c κs = search needs
+run-in-areas-requires : tie.Need-run-in-areas-requires
+run-in-areas-requires c κs =
+    let a = c .before .before .before .before .before .before .before .before .before .before .before .before .args in
+    areas-fit (c .before .before .before .before .before .before .before .before .before .before .before .before .pre) (a .trace .now) (a .end .now) (a .work .now) (c .before .before .before .before .areas-fit .ensures) (not-false _ (c .before .before .before .if1 .left))
 
 public-list-requires : tie.Need-public-list-requires
-public-list-requires c κs = let f = accepted-length (c .before .before .before .before .before .before .before .before .before .before .before .before .before .before .before .before .before .before .before .before .before .before .before .pre) in omega arith
+public-list-requires c κs = let f = accepted-length (c .before .before .before .before .before .before .before .before .before .before .before .before .before .before .before .before .before .before .before .pre) in omega arith
 
 report-requires : tie.Need-report-requires
 report-requires c κs = search needs
@@ -67,27 +49,31 @@ same-length-2 c = search needs
 same-length-3 : tie.Need-same-length-3
 same-length-3 c = search needs
 
-returns-3 : tie.Need-returns-3
-returns-3 c =
-    let a = c .before .before .before .before .before .before .before .before .before .before .before .before .before .before .before .before .before .before .before .before .before .before .before .before .before .args in
-    exact-ran (c .before .before .before .before .before .before .before .before .before .before .before .before .before .before .before .before .before .before .before .before .before .before .before .before .before .pre) (a .trace .now) (a .end .now) (a .work .now) (c .before .before .before .before .before .before .before .before .before .before .before .before .before .before .before .before .before .before .before .if1 .left) (c .before .before .before .before .before .before .before .before .before .before .before .before .before .before .before .before .before .before .if2 .left) (c .before .before .before .before .before .before .before .before .before .before .before .before .before .before .before .run-state .ensures) (c .before .before .before .before .before .before .before .before .save-values .ensures)
-    (c .before .before .before .before .clear .ensures) (c .before .public-list .ensures) (c .report .ensures)
+same-length-4 : tie.Need-same-length-4
+same-length-4 c = search needs
+
+same-length-5 : tie.Need-same-length-5
+same-length-5 c = search needs
+
+returns-2 : tie.Need-returns-2
+returns-2 c =
+    let a = c .before .before .before .before .before .before .before .before .before .before .before .before .before .before .before .before .before .before .before .before .before .args in
+    exact-ran (c .before .before .before .before .before .before .before .before .before .before .before .before .before .before .before .before .before .before .before .before .before .pre) (a .trace .now) (a .end .now) (a .work .now) (c .before .before .before .before .before .before .before .before .before .before .before .before .before .areas-fit .ensures) (not-false _ (c .before .before .before .before .before .before .before .before .before .before .before .before .if1 .left)) (c .before .before .before .before .before .before .before .before .run-in-areas .ensures) (c .before .public-list .ensures) (c .report .ensures)
 
 pub run-accepted-spec : {M : Type 1} → statement M
 run-accepted-spec =
     tie.close
     (tie.spec
     add-n
+    areas-fit-requires
     run-refused-requires
-    returns
-    run-refused-requires-2
-    returns-2
-    run-state-requires
-    save-values-requires
-    clear-requires
-    public-list-requires
-    report-requires
     same-length
     same-length-2
+    returns
+    run-in-areas-requires
+    public-list-requires
+    report-requires
     same-length-3
-    returns-3)
+    same-length-4
+    same-length-5
+    returns-2)
