@@ -15,11 +15,15 @@ use Rattle.rules.specs.declared.RunOutcome.the-variants as runs
 use Rattle.rules.specs.declared.RunAnswer.{RunAnswer}
 use Rattle.rules.specs.declared.PlainOutcome.the-variants as plains
 use Rattle.rules.specs.declared.PlainAnswer.{PlainAnswer}
-use Rattle.rules.specs.Rules.Answers.{stopNumber, verdictNumber, refusalNumber}
-use Rattle.rules.specs.Rules.Calls.{Areas, Called}
-use Rattle.rules.specs.Rules.Demands.{Exact}
-use Rattle.checker_c.specs.Words.{runWords, plainWords, runNumber, plainNumber, runAnswerWords, plainAnswerWords}
-use Rattle.checker_c.specs.Calls.{RunReturns, PlainReturns}
+use Rattle.rules.specs.Rules.Answers.{stopNumber, verdictNumber, pairNumber, refusalNumber}
+use Rattle.rules.specs.Rules.Calls.{Areas, Called, runCall}
+use Rattle.rules.specs.declared.PairWord.{PairWord}
+use Rattle.rules.specs.declared.PairAnswer.{PairAnswer}
+use Rattle.rules.specs.declared.PairAnswer.the-variants as pairs
+use Rattle.rules.specs.Rules.Pairs.{PairAreas, PairCalled, pairCall}
+use Rattle.rules.specs.Rules.Demands.{Exact, RunUnaltered, PlainUnaltered, Demand2, Demand3, PairExact, PairUnaltered, PairMeaning}
+use Rattle.checker_c.specs.Words.{runWords, plainWords, pairWords}
+use Rattle.checker_c.specs.Calls.{RunReturns, PlainReturns, PairReturns, Unaltered}
 
 -- a list of four is its four elements
 abbrev four : List ℕ → List ℕ
@@ -50,7 +54,22 @@ pub plain-written : (l : List ℕ) (c : PlainCounts) (plain : LocationSet) {s : 
 plain-written l c plain {s} hp es =
     ap (sets l 0) (λ i. (es i ∷ c .observations ∷ c .steps ∷ []) ++ four-of (plain .words) hp i)
 
+pub pair-written : (l : List ℕ) (w : PairWord) (c d : Counts) {k s s′ : ℕ} → k ≡ pairNumber w → s ≡ stopNumber (c .stop)
+    → s′ ≡ stopNumber (d .stop)
+    → sets l 0
+    (k ∷ s ∷ c .observations ∷ c .steps ∷ c .rollbacks ∷ s′ ∷ d .observations ∷ d .steps ∷ d .rollbacks ∷ []) ≡ sets l 0 (pairWords w c d)
+pair-written l w c d ek es es′ =
+    ap (sets l 0)
+    (λ i. ek i ∷ es i ∷ c .observations ∷ c .steps ∷ c .rollbacks ∷ es′ i ∷ d .observations ∷ d .steps ∷ d .rollbacks ∷ [])
+
 -- ---- the calls
+-- a call that was carried out returns 0; one that was refused leaves everything
+pub carried-out : {A : Type 0} (before after : List ℕ) (lent left : A) → Unaltered 0 before after lent left
+carried-out before after lent left = record { answer = λ h. absurd (omega arith); areas = λ h. absurd (omega arith) }
+
+pub left-alone : {A : Type 0} {lent left : A} (r : ℕ) (before : List ℕ) → left ≡ lent → Unaltered r before before lent left
+left-alone r before e = record { answer = λ h. refl; areas = λ h. e }
+
 module _ {called : Called RunAnswer} {a : RunAnswer} {areas : Areas} (x : Exact called a areas) (before : List ℕ) where
   outcome-same : called .answer .outcome ≡ a .outcome
   outcome-same = sym (ap (λ (r : RunAnswer). r .outcome) (x .answer))
@@ -89,3 +108,28 @@ module _ {called : Called PlainAnswer} {a : PlainAnswer} {areas : Areas} (x : Ex
     words = rw (plain-outcome-same, e) (ea ∙ ap (λ (p : LocationSet). sets before 0 (plainWords c p)) (ap (λ (r : PlainAnswer). r .plain) (x .answer)));
     left = x .areas;
   }
+
+module _ {called : PairCalled} {a : PairAnswer} {areas : PairAreas} (x : PairExact called a areas) (before : List ℕ) where
+  pub pair-refused : {n : Refusal} {r : ℕ} → a ≡ pairs.Refused n → r ≡ refusalNumber n → PairReturns called before r before areas
+  pair-refused e er = record {
+    number = rw (← x .answer, e) er;
+    words = rw (← x .answer, e);
+    left = x .areas;
+  }
+
+  pub pair-returned : {w : PairWord} {c d : Counts} {after : List ℕ} → a ≡ pairs.Compared w c d → after ≡ sets before 0 (pairWords w c d)
+      → PairReturns called before 0 after areas
+  pair-returned e ea = record {
+    number = rw (← x .answer, e);
+    words = rw (← x .answer, e) ea;
+    left = x .areas;
+  }
+
+-- ---- the demands, of the rules' answer and the areas as they are left
+pub run-demands : (f : List ℕ) (a : Areas) {r : RunAnswer} {after : Areas} → Exact (runCall f a) r after → Demand2 f a r after → Demand3 f a r after
+    → Demand2 f a (runCall f a .answer) after × Demand3 f a (runCall f a .answer) after
+run-demands f a x h k = (rw (← x .answer) h, rw (← x .answer) k)
+
+pub pair-demand : (f second : List ℕ) (a : PairAreas) {r : PairAnswer} {after : PairAreas} → PairExact (pairCall f second a) r after
+    → PairMeaning f second a r after → PairMeaning f second a (pairCall f second a .answer) after
+pair-demand f second a x h = rw (← x .answer) h

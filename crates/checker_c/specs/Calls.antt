@@ -2,11 +2,12 @@
 -- Assumes nothing.
 use mathlib.Core.Path.{_≡_}
 use mathlib.Core.List.{List}
-use Prim.Native.Nat.{ℕ}
+use Prim.Native.Nat.{ℕ, _<_}
 use Rattle.rules.specs.declared.RunAnswer.{RunAnswer}
 use Rattle.rules.specs.declared.PlainAnswer.{PlainAnswer}
 use Rattle.rules.specs.Rules.Calls.{Areas, Called}
-use Rattle.checker_c.specs.Words.{runNumber, plainNumber, runAnswerWords, plainAnswerWords}
+use Rattle.rules.specs.Rules.Pairs.{PairAreas, PairCalled}
+use Rattle.checker_c.specs.Words.{runNumber, plainNumber, pairAnswerNumber, runAnswerWords, plainAnswerWords, pairAnswerWords}
 
 pub record RunReturns (called : Called RunAnswer) (before : List ℕ) (r : ℕ) (after : List ℕ) (areas : Areas) : Type 0 where
   pub number : r ≡ runNumber (called .answer .outcome)
@@ -17,3 +18,13 @@ pub record PlainReturns (called : Called PlainAnswer) (before : List ℕ) (r : �
   pub number : r ≡ plainNumber (called .answer .outcome)
   pub words : after ≡ plainAnswerWords before (called .answer .plain) (called .answer .outcome)
   pub left : areas ≡ called .areas
+
+pub record PairReturns (called : PairCalled) (before : List ℕ) (r : ℕ) (after : List ℕ) (areas : PairAreas) : Type 0 where
+  pub number : r ≡ pairAnswerNumber (called .answer)
+  pub words : after ≡ pairAnswerWords before (called .answer)
+  pub left : areas ≡ called .areas
+
+-- "A refusal leaves every area unaltered", and the answer too.
+pub record Unaltered {A : Type 0} (r : ℕ) (before after : List ℕ) (lent left : A) : Type 0 where
+  pub answer : 0 < r → after ≡ before
+  pub areas : 0 < r → left ≡ lent

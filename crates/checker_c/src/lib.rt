@@ -1,6 +1,15 @@
 // The calls for C and Rust: include/checker.h says what each takes and returns. A slice is a pointer and a length.
+//
+// What each call promises, for every input:
+//   returns    the number, the answer's words and every lent word are those of the rules' call, for refused jobs too;
+//   unaltered  demand 1: a refusal leaves the answer and every area as it was;
+//   plainly, secret (`checker_run`), meaning (`checker_compare`)
+//              demands 2 and 3 and the meaning of the words, as in crates/checker: of the rules' answer, whose words are returned,
+//              and of the areas as the call leaves them.
 use location::LocationSet;
 use rules::Counts;
+use rules::PairAnswer;
+use rules::PairWord;
 use rules::PlainCounts;
 use rules::PlainOutcome;
 use rules::Refusal;
@@ -9,10 +18,12 @@ use rules::Stop;
 use rules::Verdict;
 ghost use mathlib.Core.Path.{_≡_};
 ghost use lib.Seq.{sets};
-ghost use Rattle.rules.specs.Rules.Answers.{stopNumber, verdictNumber, refusalNumber};
+ghost use Rattle.rules.specs.Rules.Answers.{stopNumber, verdictNumber, pairNumber, refusalNumber};
 ghost use Rattle.rules.specs.Rules.Calls.{lent, runCall, plainCall};
-ghost use Rattle.checker_c.specs.Words.{runWords, plainWords};
-ghost use Rattle.checker_c.specs.Calls.{RunReturns, PlainReturns};
+ghost use Rattle.rules.specs.Rules.Pairs.{pairLent, pairCall};
+ghost use Rattle.rules.specs.Rules.Demands.{Demand2, Demand3, PairMeaning};
+ghost use Rattle.checker_c.specs.Words.{runWords, plainWords, pairWords};
+ghost use Rattle.checker_c.specs.Calls.{RunReturns, PlainReturns, PairReturns, Unaltered};
 
 fn stop_number(s: Stop) -> u64
     ensures { λ r. ⌜ r ≡ stopNumber s ⌝ }
@@ -32,6 +43,18 @@ fn verdict_number(v: Verdict) -> u64
         Verdict::Clean => 1,
         Verdict::Speculative => 2,
         Verdict::Plain => 3,
+    }
+}
+
+fn pair_number(w: PairWord) -> u64
+    ensures { λ r. ⌜ r ≡ pairNumber w ⌝ }
+{
+    match w {
+        PairWord::NotComparable => 0,
+        PairWord::Undecided => 1,
+        PairWord::PlainDiffers => 2,
+        PairWord::LeakShown => 3,
+        PairWord::Equal => 4,
     }
 }
 
@@ -87,6 +110,22 @@ fn write_plain(c: PlainCounts, plain: LocationSet, answer: &mut [u64; 7])
     answer[6] = p[3];
 }
 
+fn write_pair(w: PairWord, c: Counts, d: Counts, answer: &mut [u64; 9])
+    ensures { λ _. ⌜ now (answer .exit) ≡ sets (now (answer .entry)) 0 (pairWords w c d) ⌝ }
+{
+    let first = c.stop;
+    let second = d.stop;
+    answer[0] = pair_number(w);
+    answer[1] = stop_number(first);
+    answer[2] = c.observations as u64;
+    answer[3] = c.steps as u64;
+    answer[4] = c.rollbacks as u64;
+    answer[5] = stop_number(second);
+    answer[6] = d.observations as u64;
+    answer[7] = d.steps as u64;
+    answer[8] = d.rollbacks as u64;
+}
+
 #[no_mangle]
 pub extern "C" fn checker_run(
     job: &[u8],
@@ -95,7 +134,10 @@ pub extern "C" fn checker_run(
     work: &mut [u64],
     answer: &mut [u64; 13],
 ) -> u32
-    ensures { λ r. ⌜ RunReturns (runCall (now (job .entry)) (lent (now (trace .entry)) (now (end .entry)) (now (work .entry)))) (now (answer .entry)) r (now (answer .exit)) (lent (now (trace .exit)) (now (end .exit)) (now (work .exit))) ⌝ }
+    ensures returns { λ r. ⌜ RunReturns (runCall (now (job .entry)) (lent (now (trace .entry)) (now (end .entry)) (now (work .entry)))) (now (answer .entry)) r (now (answer .exit)) (lent (now (trace .exit)) (now (end .exit)) (now (work .exit))) ⌝ }
+    ensures unaltered { λ r. ⌜ Unaltered r (now (answer .entry)) (now (answer .exit)) (lent (now (trace .entry)) (now (end .entry)) (now (work .entry))) (lent (now (trace .exit)) (now (end .exit)) (now (work .exit))) ⌝ }
+    ensures plainly { λ _. ⌜ Demand2 (now (job .entry)) (lent (now (trace .entry)) (now (end .entry)) (now (work .entry))) (runCall (now (job .entry)) (lent (now (trace .entry)) (now (end .entry)) (now (work .entry))) .answer) (lent (now (trace .exit)) (now (end .exit)) (now (work .exit))) ⌝ }
+    ensures secret { λ _. ⌜ Demand3 (now (job .entry)) (lent (now (trace .entry)) (now (end .entry)) (now (work .entry))) (runCall (now (job .entry)) (lent (now (trace .entry)) (now (end .entry)) (now (work .entry))) .answer) (lent (now (trace .exit)) (now (end .exit)) (now (work .exit))) ⌝ }
 {
     let r = checker::run(job, &mut trace[..], &mut end[..], &mut work[..]);
     let outcome = r.outcome;
@@ -118,7 +160,8 @@ pub extern "C" fn checker_plain_run(
     work: &mut [u64],
     answer: &mut [u64; 7],
 ) -> u32
-    ensures { λ r. ⌜ PlainReturns (plainCall (now (job .entry)) (lent (now (trace .entry)) (now (end .entry)) (now (work .entry)))) (now (answer .entry)) r (now (answer .exit)) (lent (now (trace .exit)) (now (end .exit)) (now (work .exit))) ⌝ }
+    ensures returns { λ r. ⌜ PlainReturns (plainCall (now (job .entry)) (lent (now (trace .entry)) (now (end .entry)) (now (work .entry)))) (now (answer .entry)) r (now (answer .exit)) (lent (now (trace .exit)) (now (end .exit)) (now (work .exit))) ⌝ }
+    ensures unaltered { λ r. ⌜ Unaltered r (now (answer .entry)) (now (answer .exit)) (lent (now (trace .entry)) (now (end .entry)) (now (work .entry))) (lent (now (trace .exit)) (now (end .exit)) (now (work .exit))) ⌝ }
 {
     let r = checker::plain_run(job, &mut trace[..], &mut end[..], &mut work[..]);
     let outcome = r.outcome;
@@ -127,6 +170,34 @@ pub extern "C" fn checker_plain_run(
         PlainOutcome::Refused(n) => refusal_number(n),
         PlainOutcome::Ran(c) => {
             write_plain(c, plain, answer);
+            0
+        }
+    }
+}
+
+#[no_mangle]
+pub extern "C" fn checker_compare(
+    job: &[u8],
+    second: &[u8],
+    first: &mut [u64],
+    other: &mut [u64],
+    work: &mut [u64],
+    answer: &mut [u64; 9],
+) -> u32
+    ensures returns { λ r. ⌜ PairReturns (pairCall (now (job .entry)) (now (second .entry)) (pairLent (now (first .entry)) (now (other .entry)) (now (work .entry)))) (now (answer .entry)) r (now (answer .exit)) (pairLent (now (first .exit)) (now (other .exit)) (now (work .exit))) ⌝ }
+    ensures unaltered { λ r. ⌜ Unaltered r (now (answer .entry)) (now (answer .exit)) (pairLent (now (first .entry)) (now (other .entry)) (now (work .entry))) (pairLent (now (first .exit)) (now (other .exit)) (now (work .exit))) ⌝ }
+    ensures meaning { λ _. ⌜ PairMeaning (now (job .entry)) (now (second .entry)) (pairLent (now (first .entry)) (now (other .entry)) (now (work .entry))) (pairCall (now (job .entry)) (now (second .entry)) (pairLent (now (first .entry)) (now (other .entry)) (now (work .entry))) .answer) (pairLent (now (first .exit)) (now (other .exit)) (now (work .exit))) ⌝ }
+{
+    match checker::compare(
+        job,
+        second,
+        &mut first[..],
+        &mut other[..],
+        &mut work[..],
+    ) {
+        PairAnswer::Refused(n) => refusal_number(n),
+        PairAnswer::Compared(w, c, d) => {
+            write_pair(w, c, d, answer);
             0
         }
     }
