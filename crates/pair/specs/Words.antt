@@ -1,12 +1,13 @@
 -- The word on a pair, of what the two runs have left: their stops and the words of their traces.
 -- Assumes nothing.
 use mathlib.Core.Path.{_≡_, refl, sym, ap, ap₂, _∙_}
-use mathlib.Core.Bool.{Bool, true, false, _&&_, true≢false}
+use mathlib.Core.Bool.{Bool, true, false, _&&_}
 use mathlib.Core.List.{List}
 use Prim.Native.Nat.{ℕ, _+_, _*_, _≤_}
 use lib.ListN.{length, take}
+use Rattle.location.specs.SetLaws.{and-left, and-right}
 use Rattle.rules.specs.declared.Stop.{Stop}
-use Rattle.rules.specs.declared.Stop.the-variants.{Finished, Spent, TraceFull}
+use Rattle.rules.specs.declared.Stop.the-variants.{Finished}
 use Rattle.rules.specs.declared.Trailer.{Trailer}
 use Rattle.rules.specs.declared.PairWord.{PairWord}
 use Rattle.rules.specs.declared.PairAnswer.{PairAnswer}
@@ -17,6 +18,7 @@ use Rattle.rules.specs.Rules.Calls.{traceWords, workingWords}
 use Rattle.rules.specs.Rules.Strike.{strike}
 use Rattle.rules.specs.Rules.Pairs.{withState, alikeFrom, isFinished, sameWords, sameTrace, firstThatFits, pairWord}
 use Rattle.rules.specs.Theorems.PlainRun.{demand2}
+use Rattle.rules.specs.Theorems.PairLaws.{finished-stop}
 use Rattle.trace.specs.Struck.{struckWords, struck-trace}
 use Rattle.job.specs.Answers.{Accepts}
 use Rattle.stepping.specs.declared.Progress.{Progress}
@@ -56,13 +58,6 @@ fits-same false f p q s h = refl
 fits-same true false p q s h = refl
 fits-same true true p q s h = ap (λ (z : Bool). firstThatFits true true z s) (h refl)
 
-both-finished : (x y : Stop) → (isFinished x && isFinished y) ≡ true → (x ≡ Finished) × (y ≡ Finished)
-both-finished Finished Finished e = (refl, refl)
-both-finished Finished Spent e = absurd (true≢false (sym e))
-both-finished Finished TraceFull e = absurd (true≢false (sym e))
-both-finished Spent y e = absurd (true≢false (sym e))
-both-finished TraceFull y e = absurd (true≢false (sym e))
-
 module _ (job : Job) (k : ℕ) where
   -- where a run has finished, its trace struck out is the plain run's
   struck-plain : mispredictingRun job k .stop ≡ Finished
@@ -81,4 +76,8 @@ word-same job vs k =
     (sameWords (struckWords (traceWords (r .log .trace))) (struckWords (traceWords (r′ .log .trace))))
     (sameWords (traceWords (plainRun job k .log .trace)) (traceWords (plainRun (withState job vs) k .log .trace)))
     (sameWords (traceWords (r .log .trace)) (traceWords (r′ .log .trace)))
-    (λ e. let f = both-finished (r .stop) (r′ .stop) e in ap₂ sameWords (struck-plain job k (f .0)) (struck-plain (withState job vs) k (f .1)))
+    (λ e.
+        let x = isFinished (r .stop) in
+        let y = isFinished (r′ .stop) in
+        ap₂ sameWords (struck-plain job k (finished-stop (r .stop) (and-left x y e)))
+        (struck-plain (withState job vs) k (finished-stop (r′ .stop) (and-right x y e))))

@@ -16,8 +16,8 @@ use Rattle.rules.specs.Rules.Expressions.{tagged}
 use Rattle.rules.specs.Rules.Plain.{State, ownFrom, values}
 use Rattle.rules.specs.Rules.JobFile.{little, wordsAt, instr}
 use Rattle.rules.specs.Rules.Calls.{written}
-use Rattle.rules.specs.Rules.Pairs.{alikeFrom, sameWords}
-use Rattle.program.specs.Offsets.{nextOffset, offsetsFrom}
+use Rattle.rules.specs.Rules.Pairs.{alikeFrom}
+use Rattle.program.specs.Offsets.{offsetsFrom, length-offsetsFrom, entry-offset}
 use Rattle.work.specs.Layout.{operandBase, labels, labelBase}
 use Rattle.work.specs.Words.{taggedAt, stored}
 use Rattle.work.specs.Machines.{stateFrom, stateIn}
@@ -75,35 +75,18 @@ loading-all bs at n w w′ l known h =
     let whole : stateIn w′ l ++ [] ≡ ownFrom 0 (wordsAt n bs at) = rw z at (known .state) in
     record { state = ap (stateIn w′) (sym e) ∙ sym (append-nil (stateIn w′ l)) ∙ whole; after = known .after; size = known .size }
 
--- ---- the table of labels: what stands before the words that were stored, and where they were stored
+-- ---- the table of labels: what stands before the words that were stored
 take-sets : (vs w : List ℕ) (i n : ℕ) → n ≤ i → take n (sets w i vs) ≡ take n w
 take-sets [] w i n h = refl
 take-sets (a ∷ vs) w i n h = take-sets vs (set w i a) (suc i) n (omega arith) ∙ take-set-le n w i a h
-
-getD-sets-before : (vs w : List ℕ) (i j : ℕ) → j < i → getD (sets w i vs) j 0 ≡ getD w j 0
-getD-sets-before [] w i j h = refl
-getD-sets-before (a ∷ vs) w i j h = getD-sets-before vs (set w i a) (suc i) j (omega arith) ∙ getD-set-other w i j a 0 (omega arith)
-
-getD-sets : (vs w : List ℕ) (i j : ℕ) → j < length vs → i + length vs ≤ length w → getD (sets w i vs) (i + j) 0 ≡ getD vs j 0
-getD-sets [] w i j h f = absurd (omega arith)
-getD-sets (a ∷ vs) w i zero h f =
-    rw (add-zero i) (getD-sets-before vs (set w i a) (suc i) i (le-refl (suc i)) ∙ getD-set-same w i a 0 (omega arith))
-getD-sets (a ∷ vs) w i (suc j) h f =
-    let e : i + suc j ≡ suc i + j = omega arith in
-    rw e (getD-sets vs (set w i a) (suc i) j (omega arith) (rw (length-set w i a) (omega arith)))
-
-offsets-length : (k : ℕ) (p : List ℕ) (at : ℕ) → length (offsetsFrom k p at) ≡ k
-unfolding offsetsFrom
-offsets-length zero p at = refl
-offsets-length (suc k) p at = ap suc (offsets-length k p (nextOffset (instr p at)))
 
 pub labels-loaded : (p : List ℕ) (count : ℕ) (w w′ : List ℕ) → labelBase count ≤ length w → w′ ≡ sets w labels (offsetsFrom count p 0)
     → LabelsLoaded p count w w′
 labels-loaded p count w w′ f e =
     let vs = offsetsFrom count p 0 in
-    let s : length vs ≡ count = offsets-length count p 0 in
+    let s : length vs ≡ count = length-offsetsFrom count p 0 in
     record {
-      entry = λ i h. ap (λ (u : List ℕ). getD u (labelBase i) 0) e ∙ getD-sets vs w labels i (omega arith) (omega arith);
+      entry = λ i h. ap (λ (u : List ℕ). getD u (labelBase i) 0) e ∙ entry-offset count p w labels i f h;
       before = ap (take labels) e ∙ take-sets vs w labels labels (omega arith);
       after = ap (drop (labelBase count)) e ∙ drop-sets vs w labels (labelBase count) (omega arith);
       size = ap length e ∙ length-sets w labels vs;
@@ -125,15 +108,7 @@ save-all w a n h =
     let z : 0 + length vs ≡ length vs = omega arith in
     sets-eq vs a 0 (omega arith) ∙ ap (λ (j : ℕ). vs ++ drop j a) z
 
--- ---- two areas compared, and two states: the first word left, and then the others
-pub same-step : (a b : List ℕ) (n i : ℕ) → i < n → n ≤ length a → n ≤ length b
-    → sameWords (take (n - i) (drop i a)) (take (n - i) (drop i b))
-    ≡ (eqb (getD a i 0) (getD b i 0) && sameWords (take (n - (i + 1)) (drop (i + 1) a)) (take (n - (i + 1)) (drop (i + 1) b)))
-unfolding sameWords
-same-step a b n i h ha hb =
-    let e : n - i ≡ suc (n - (i + 1)) = omega arith in
-    rw (e, add-one, drop-cons a i 0 (omega arith), drop-cons b i 0 (omega arith))
-
+-- ---- two states compared: the first word left, and then the others
 pub alike-step : (public : LocationSet) (first second : List ℕ) (at n l : ℕ) → l < n
     → alikeFrom public l (wordsAt (n - l) first (at + 8 * l)) (wordsAt (n - l) second (8 * l))
     ≡ ((not (member public l) || eqb (little first (at + 8 * l) 8) (little second (8 * l) 8))

@@ -1,4 +1,4 @@
-// Words moved between what the caller lends and the working words, before a run and after it; and the comparisons of a pair.
+// Words moved between what the caller lends and the working words, before a run and after it; and two states compared.
 use location::Location;
 use location::LocationSet;
 use rules::Tagged;
@@ -6,12 +6,12 @@ ghost use mathlib.Core.Path.{_≡_};
 ghost use mathlib.Core.Bool.{not, _||_};
 ghost use Prim.Native.Nat.{_+_, _*_, _≤_};
 ghost use lib.Dec.{eqb};
-ghost use lib.ListN.{length, take};
+ghost use lib.ListN.{length};
 ghost use Rattle.location.specs.Sets.{member};
 ghost use Rattle.rules.specs.Rules.Plain.{values};
 ghost use Rattle.rules.specs.Rules.JobFile.{little, wordsAt};
 ghost use Rattle.rules.specs.Rules.Calls.{written};
-ghost use Rattle.rules.specs.Rules.Pairs.{alikeFrom, sameWords};
+ghost use Rattle.rules.specs.Rules.Pairs.{alikeFrom};
 ghost use Rattle.work.specs.Layout.{operandBase, labelBase};
 ghost use Rattle.work.specs.Machines.{stateIn};
 ghost use Rattle.transfer.specs.Loads.{StateLoaded, LabelsLoaded};
@@ -60,21 +60,6 @@ pub fn save_values(work: &[u64], n: usize, area: &mut [u64])
         area[saved] = v.value;
         saved += 1;
     }
-}
-
-// Whether the first n words of two areas are equal.
-pub fn same_words(a: &[u64], b: &[u64], n: usize) -> bool
-    requires { ⌜ (n ≤ length (now a)) × (n ≤ length (now b)) ⌝ }
-    ensures { λ r. ⌜ r ≡ sameWords (take n (now (a .entry))) (take n (now (b .entry))) ⌝ }
-{
-    let mut i = 0;
-    while i < n {
-        if a[i] != b[i] {
-            return false;
-        }
-        i += 1;
-    }
-    true
 }
 
 // Whether a location is not public, or holds the same word in both states, at an offset of the first bytes and at 0 of the second.

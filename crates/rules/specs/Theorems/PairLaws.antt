@@ -12,6 +12,7 @@ use lib.ListN.{length, getD, take}
 use lib.Seq.{take-at}
 use Rattle.location.specs.declared.LocationSet.{LocationSet}
 use Rattle.location.specs.Sets.{registers, member}
+use Rattle.location.specs.SetLaws.{and-left, and-right}
 use Rattle.rules.specs.declared.Stop.{Stop}
 use Rattle.rules.specs.declared.Stop.the-variants.{Finished, Spent, TraceFull}
 use Rattle.rules.specs.declared.PairWord.{PairWord}
@@ -31,19 +32,14 @@ use Rattle.rules.specs.Theorems.JobLaws.{passed, job-init, job-public, l
 use Rattle.rules.specs.Theorems.CallLaws.{length-traceWords, Runs, plain-trace-runs}
 
 -- ---- words compared
-both : (x y : Bool) → (x && y) ≡ true → (x ≡ true) × (y ≡ true)
-both true true e = (refl, refl)
-both true false e = absurd (true≢false (sym e))
-both false y e = absurd (true≢false (sym e))
-
 pub same-words-equal : (a b : List ℕ) → sameWords a b ≡ true → a ≡ b
 unfolding sameWords
 same-words-equal [] [] e = refl
 same-words-equal [] (y ∷ b) e = absurd (true≢false (sym e))
 same-words-equal (x ∷ a) [] e = absurd (true≢false (sym e))
 same-words-equal (x ∷ a) (y ∷ b) e =
-    let q = both (eqb x y) (sameWords a b) e in
-    ap₂ {C = List ℕ} (λ (z : ℕ) (ws : List ℕ). z ∷ ws) (eqb-true x y (q .0)) (same-words-equal a b (q .1))
+    ap₂ {C = List ℕ} (λ (z : ℕ) (ws : List ℕ). z ∷ ws) (eqb-true x y (and-left (eqb x y) (sameWords a b) e))
+    (same-words-equal a b (and-right (eqb x y) (sameWords a b) e))
 
 pub same-words-self : (a : List ℕ) → sameWords a a ≡ true
 unfolding sameWords
@@ -85,11 +81,11 @@ alike-at public l [] (y ∷ ys) s e j m = absurd (omega arith)
 alike-at public l (x ∷ xs) [] s e j m = absurd (omega arith)
 alike-at public l (x ∷ xs) (y ∷ ys) s e zero m =
     let z : l + 0 ≡ l = omega arith in
-    let q : (not (member public l) || eqb x y) ≡ true = both (not (member public l) || eqb x y) (alikeFrom public (suc l) xs ys) e .0 in
+    let q : (not (member public l) || eqb x y) ≡ true = and-left (not (member public l) || eqb x y) (alikeFrom public (suc l) xs ys) e in
     eqb-true x y (rw (rw z at m) at q)
 alike-at public l (x ∷ xs) (y ∷ ys) s e (suc j) m =
     let f : suc l + j ≡ l + suc j = omega arith in
-    alike-at public (suc l) xs ys (omega arith) (both (not (member public l) || eqb x y) (alikeFrom public (suc l) xs ys) e .1) j (rw f m)
+    alike-at public (suc l) xs ys (omega arith) (and-right (not (member public l) || eqb x y) (alikeFrom public (suc l) xs ys) e) j (rw f m)
 
 -- ---- the tests of the word, in their order
 abbrev Chosen : PairWord → Bool → Bool → Bool → Bool → Type 0
@@ -113,7 +109,7 @@ pub record Pairs (f second : List ℕ) (a : PairAreas) : Type 0 where
   pub sized : secondFits job second ≡ true
   pub enough : pairFits a ≡ true
 
-finished-stop : (x : Stop) → isFinished x ≡ true → x ≡ Finished
+pub finished-stop : (x : Stop) → isFinished x ≡ true → x ≡ Finished
 finished-stop Finished e = refl
 finished-stop Spent e = absurd (true≢false (sym e))
 finished-stop TraceFull e = absurd (true≢false (sym e))
@@ -167,8 +163,9 @@ module _ {f second : List ℕ} {a : PairAreas} (r : Pairs f second a) where
   both-finished : (isFinished (run₁ .stop) && isFinished (run₂ .stop)) ≡ true → BothFinished (counts run₁) (counts run₂)
   unfolding counts
   both-finished e =
-      let q = both (isFinished (run₁ .stop)) (isFinished (run₂ .stop)) e in
-      record { first = finished-stop (run₁ .stop) (q .0); second = finished-stop (run₂ .stop) (q .1) }
+      let x = isFinished (run₁ .stop) in
+      let y = isFinished (run₂ .stop) in
+      record { first = finished-stop (run₁ .stop) (and-left x y e); second = finished-stop (run₂ .stop) (and-right x y e) }
 
   not-finished : (isFinished (run₁ .stop) && isFinished (run₂ .stop)) ≡ false → BothFinished (counts run₁) (counts run₂) → ⊥
   unfolding counts
