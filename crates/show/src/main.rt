@@ -3,7 +3,7 @@
 // Assumed of the system: what the kit's libraries say of open, read and write.
 use libc::STDOUT_FILENO;
 ghost use lib.ListN.{length};
-ghost use Rattle.show.specs.Reading.{Within};
+ghost use Rattle.show.specs.Reading.{Within, FullRefused};
 
 // One byte more than a job may have: a longer file is seen to be too long, and is read no further.
 const MOST: usize = 16385;
@@ -34,9 +34,10 @@ fn read_all(fd: i32, path: &[u8], buffer: &mut [u8]) -> Reading
     Reading::Bytes(done)
 }
 
-// A name that no file has is an empty job; any other failure is told.
-fn read_file(path: &[u8], buffer: &mut [u8]) -> Reading
-    ensures { λ r. ⌜ Within r (length (now (buffer .exit))) ⌝ }
+// A name that no file has is an empty job; any other failure is told. A file that fills the buffer is refused, whatever follows.
+fn read_file(path: &[u8], buffer: &mut [u8; MOST]) -> Reading
+    ensures within { λ r. ⌜ Within r (length (now (buffer .exit))) ⌝ }
+    ensures whole { λ r. ⌜ FullRefused r (now (buffer .exit)) ⌝ }
 {
     let fd = os::open_read(path);
     if fd < 0 {
@@ -46,7 +47,7 @@ fn read_file(path: &[u8], buffer: &mut [u8]) -> Reading
         os::fail(path);
         return Reading::Failed;
     }
-    let reading = read_all(fd, path, &mut buffer[..]);
+    let reading = read_all(fd, path, buffer);
     libc::close(fd);
     reading
 }

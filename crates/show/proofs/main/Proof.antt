@@ -12,9 +12,6 @@ use Rattle.show.proofs.show.Reads as show-reads
 slice-aggregate-read-file : tie.Need-slice-aggregate-read-file
 slice-aggregate-read-file c = search needs
 
-slice-aggregate-read-file-2 : tie.Need-slice-aggregate-read-file-2
-slice-aggregate-read-file-2 c = search needs
-
 read-file-requires : tie.Need-read-file-requires
 read-file-requires c κs = search needs
 
@@ -22,7 +19,7 @@ enum-known-n : tie.Need-enum-known-n
 enum-known-n c = search needs
 
 array-share-prefix-buffer : tie.Need-array-share-prefix-buffer
-array-share-prefix-buffer c = rw (c .before .n .given .1) at (c .before .before .before .before .read-file .ensures)
+array-share-prefix-buffer c = rw (c .before .n .given .1) at (c .before .before .before .read-file .ensures .0)
 
 slice-aggregate-show : tie.Need-slice-aggregate-show
 slice-aggregate-show c = sym (length-take-le _ _ (array-share-prefix-buffer (c .before)))
@@ -44,7 +41,6 @@ main-spec =
     tie.close
     (tie.spec
     slice-aggregate-read-file
-    slice-aggregate-read-file-2
     read-file-requires
     enum-known-n
     array-share-prefix-buffer
