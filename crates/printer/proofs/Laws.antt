@@ -10,9 +10,9 @@ use Rattle.rules.specs.declared.Trailer.{Trailer}
 use Rattle.rules.specs.declared.Refusal.{Refusal}
 use Rattle.rules.specs.declared.RunAnswer.{RunAnswer}
 use Rattle.rules.specs.Rules.Plain.{end}
-use Rattle.rules.specs.Rules.Runs.{Job, Result, mispredictingRun}
+use Rattle.rules.specs.Rules.Runs.{Job, mispredictingRun}
 use Rattle.rules.specs.Rules.JobFile.{Parsed, accepted, rejected, parse, trailer}
-use Rattle.rules.specs.Rules.Calls.{Areas, Called, lent, room, traceWords, written, areasAfter, runReport, runRefused, runCall}
+use Rattle.rules.specs.Rules.Calls.{Areas, Called, lent, room, written, areasAfter, runCall}
 use Rattle.rules.specs.Rules.Demands.{Exact}
 use Rattle.rules.specs.Rules.Listing.{listing}
 use Rattle.rules.specs.Theorems.JobLaws.{passed, job-end, init-most}

@@ -4,9 +4,6 @@ use Rattle.printer.proofs.Laws.{count-accepted, count-refused}
 use borrow.Author.Needs.{needs}
 use Rattle.printer.proofs.instruction_count.Statement.{statement}
 use Rattle.printer.proofs.instruction_count.Tie as tie
-use Rattle.printer.proofs.instruction_count.Reads as reads
-use Rattle.printer.proofs.instruction_count.Lts as lts
-use Rattle.job.proofs.read_job.Reads as read-job-reads
 
 read-job-requires : tie.Need-read-job-requires
 read-job-requires c κs = search needs

@@ -4,9 +4,6 @@ use Rattle.printer.proofs.Laws.{listed}
 use borrow.Author.Needs.{needs}
 use Rattle.printer.proofs.print_listing.Statement.{statement}
 use Rattle.printer.proofs.print_listing.Tie as tie
-use Rattle.printer.proofs.print_listing.Reads as reads
-use Rattle.printer.proofs.print_listing.Lts as lts
-use Rattle.printer.proofs.print_run.Reads as print-run-reads
 
 slice-aggregate-print-run : tie.Need-slice-aggregate-print-run
 slice-aggregate-print-run c = search needs

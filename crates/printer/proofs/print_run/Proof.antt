@@ -4,11 +4,6 @@ use Rattle.printer.proofs.Laws.{prints, printed-bound}
 use borrow.Author.Needs.{needs}
 use Rattle.printer.proofs.print_run.Statement.{statement}
 use Rattle.printer.proofs.print_run.Tie as tie
-use Rattle.printer.proofs.print_run.Reads as reads
-use Rattle.printer.proofs.print_run.Lts as lts
-use Rattle.checker.proofs.run.Reads as run-reads
-use Rattle.listing.proofs.write_answer.Reads as write-answer-reads
-use Rattle.printer.proofs.instruction_count.Reads as instruction-count-reads
 
 instruction-count-requires : tie.Need-instruction-count-requires
 instruction-count-requires c κs = search needs

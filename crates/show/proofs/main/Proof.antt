@@ -4,10 +4,6 @@ use lib.Seq.{length-take-le}
 use borrow.Author.Needs.{needs}
 use Rattle.show.proofs.main.Statement.{statement}
 use Rattle.show.proofs.main.Tie as tie
-use Rattle.show.proofs.main.Reads as reads
-use Rattle.show.proofs.main.Lts as lts
-use Rattle.show.proofs.read_file.Reads as read-file-reads
-use Rattle.show.proofs.show.Reads as show-reads
 
 slice-aggregate-read-file : tie.Need-slice-aggregate-read-file
 slice-aggregate-read-file c = search needs

@@ -6,11 +6,6 @@ use lib.ListN.{length}
 use borrow.Author.Needs.{needs}
 use Rattle.show.proofs.read_all.Statement.{statement}
 use Rattle.show.proofs.read_all.Tie as tie
-use Rattle.show.proofs.read_all.Reads as reads
-use Rattle.show.proofs.read_all.Lts as lts
-use Rattle.io.proofs.count.Reads as count-reads
-use Rattle.libc.proofs.read.Reads as read-reads
-use Rattle.os.proofs.fail.Reads as fail-reads
 
 abbrev Inv-loop : tie.InvT-loop
 Inv-loop fd path buffer₀ done₀ buffer done = (done ≤ length buffer) × (length buffer ≡ length buffer₀)

@@ -3,13 +3,6 @@ use Rattle.show.specs.Reading.{empty-refused, full-refused}
 use borrow.Author.Needs.{needs}
 use Rattle.show.proofs.read_file.Statement.{statement}
 use Rattle.show.proofs.read_file.Tie as tie
-use Rattle.show.proofs.read_file.Reads as reads
-use Rattle.show.proofs.read_file.Lts as lts
-use Rattle.libc.proofs.close.Reads as close-reads
-use Rattle.os.proofs.errno.Reads as errno-reads
-use Rattle.os.proofs.fail.Reads as fail-reads
-use Rattle.os.proofs.open_read.Reads as open-read-reads
-use Rattle.show.proofs.read_all.Reads as read-all-reads
 
 open-read-requires : tie.Need-open-read-requires
 open-read-requires c κs = search needs
