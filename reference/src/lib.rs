@@ -14,7 +14,7 @@ mod run;
 mod trace;
 
 pub use answer::{PairAnswer, PairWord, PlainAnswer, RunAnswer, RunCounts, Stop, Verdict};
-pub use listing::listing;
+pub use listing::{listing, listing_in};
 pub use pair::compare;
 pub use run::{plain_run, run};
 pub use trace::strike_out;

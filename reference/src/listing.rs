@@ -11,15 +11,20 @@ const LENT_OBSERVATIONS: usize = 512;
 
 /// Prints the mispredicting run of a job, with 512 observations lent.
 pub fn listing(job: &[u8]) -> Vec<u8> {
+    listing_in(job, LENT_OBSERVATIONS)
+}
+
+/// The same with another number of observations lent.
+pub fn listing_in(job: &[u8], observations: usize) -> Vec<u8> {
     let text = match read_job(job) {
-        Ok(job) => run_text(&job),
+        Ok(job) => run_text(&job, observations),
         Err(number) => format!("refused {number}\n"),
     };
     text.into_bytes()
 }
 
-fn run_text(job: &Job) -> String {
-    let mut area = vec![0; 2 * LENT_OBSERVATIONS];
+fn run_text(job: &Job, lent: usize) -> String {
+    let mut area = vec![0; 2 * lent];
     let (answer, _) = speculative_run(job, &mut area);
     let mut text = String::new();
     for (kind, value) in observations(&area, answer.observations) {

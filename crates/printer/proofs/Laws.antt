@@ -1,0 +1,96 @@
+-- How the printed lines come from the rules' call: the number of instructions, the call's answer and trace, and the listing.
+-- Assumes nothing.
+use mathlib.Core.Path.{_≡_, refl, sym, ap, _∙_}
+use mathlib.Core.List.{List}
+use Prim.Native.Nat.{ℕ, _+_, _*_, _≤_}
+use native.Mathlib.Omega.{arith}
+use lib.ListN.{length, take}
+use lib.Seq.{take-append-seam, length-sets}
+use Rattle.rules.specs.declared.Trailer.{Trailer}
+use Rattle.rules.specs.declared.Refusal.{Refusal}
+use Rattle.rules.specs.declared.RunAnswer.{RunAnswer}
+use Rattle.rules.specs.Rules.Plain.{end}
+use Rattle.rules.specs.Rules.Runs.{Job, mispredictingRun}
+use Rattle.rules.specs.Rules.JobFile.{Parsed, accepted, rejected, parse, trailer}
+use Rattle.rules.specs.Rules.Calls.{Areas, Called, lent, room, written, areasAfter, runCall}
+use Rattle.rules.specs.Rules.Demands.{Exact}
+use Rattle.rules.specs.Rules.Listing.{listing}
+use Rattle.rules.specs.Theorems.JobLaws.{passed, job-end, init-most}
+use Rattle.rules.specs.Theorems.CallLaws.{call-runs}
+use Rattle.job.specs.declared.JobRead.the-variants as job-read
+use Rattle.job.specs.Answers.{jobReadOf, read-accepted, read-refused}
+use Rattle.checker.specs.Reports.{enough, run-rejected}
+use Rattle.listing.specs.Lines.{Put, observed, count, printed}
+use Rattle.listing.specs.Areas.{put-next, put-fits}
+use Rattle.listing.specs.Traces.{printed-report, printed-refused}
+use Rattle.listing.specs.Lengths.{observed-length, answer-bound}
+use Rattle.printer.specs.Printing.{instructionCount, linesOf, lines-listing, traceAfter, Prints, Listed}
+
+-- ---- the number of instructions
+pub count-accepted : (bs : List ℕ) (t : Trailer) → job-read.Accepted t ≡ jobReadOf (trailer bs) (parse bs) → t .count ≡ instructionCount (parse bs)
+unfolding end
+count-accepted bs t e =
+    let a = read-accepted bs t e in
+    ap (λ (u : Trailer). u .count) (a .trailer) ∙ sym (job-end (passed bs (a .job) (a .parsed))) ∙ sym (ap instructionCount (a .parsed))
+
+pub count-refused : (bs : List ℕ) (r : Refusal) → job-read.Refused r ≡ jobReadOf (trailer bs) (parse bs) → 0 ≡ instructionCount (parse bs)
+count-refused bs r e = rw (read-refused (trailer bs) r (parse bs) e)
+
+-- ---- the lines of a call
+-- what a call on these areas leaves in its trace area, and the lines that are printed of it
+record Shown (n k : ℕ) (P : Parsed) (a : RunAnswer) (trace trace′ : List ℕ) : Type 0 where
+  pub traced : trace′ ≡ traceAfter P trace
+  pub lines : printed n a trace′ ≡ linesOf k P
+
+module _ (bs t e w : List ℕ) {a : RunAnswer} {t′ e′ w′ : List ℕ} (x : Exact (runCall bs (lent t e w)) a (lent t′ e′ w′)) where
+  answer-of : {called : Called RunAnswer} → runCall bs (lent t e w) ≡ called → a ≡ called .answer
+  answer-of q = x .answer ∙ ap (λ (z : Called RunAnswer). z .answer) q
+
+  trace-of : {called : Called RunAnswer} → runCall bs (lent t e w) ≡ called → t′ ≡ called .areas .trace
+  trace-of q = ap (λ (z : Areas). z .trace) (x .areas) ∙ ap (λ (z : Called RunAnswer). z .areas .trace) q
+
+  module _ (he : 256 ≤ length e) (hw : 4096 ≤ length w) {n : ℕ} (k : n ≡ instructionCount (parse bs)) where
+    shown-refused : (r : Refusal) → parse bs ≡ rejected r → Shown n (room t) (rejected r) a t t′
+    unfolding linesOf traceAfter
+    shown-refused r p =
+        let q = run-rejected bs (lent t e w) r p in
+        record { traced = trace-of q; lines = rw (answer-of q) (printed-refused n r t′) }
+
+    shown-run : (job : Job) → parse bs ≡ accepted job → Shown n (room t) (accepted job) a t t′
+    unfolding linesOf traceAfter areasAfter
+    shown-run job p =
+        let R = mispredictingRun job (room t) in
+        let s = init-most (passed bs job p) in
+        let l = enough job (lent t e w) hw (omega arith) in
+        let q = call-runs (record { job = job; parsed = p; enough = l }) in
+        let m : n ≡ end (job .code) = k ∙ ap instructionCount p in
+        record { traced = trace-of q; lines = rw (answer-of q, trace-of q, ← m) (printed-report n job R t) }
+
+    shown : Shown n (room t) (parse bs) a t t′
+    shown = go (parse bs) refl
+      where
+        go : (P : Parsed) → parse bs ≡ P → Shown n (room t) P a t t′
+        go (rejected r) p = shown-refused r p
+        go (accepted job) p = shown-run job p
+
+    pub prints : {out out′ : List ℕ} {r : ℕ} → Put out 0 (printed n a t′) out′ r → Prints bs t t′ out out′ r
+    prints p = record { traced = shown .traced; lines = rw (shown .lines) at p }
+
+-- ---- how long they are
+pub printed-bound : (n : ℕ) (a : RunAnswer) (trace : List ℕ) {out out′ : List ℕ} {r : ℕ} → Put out 0 (printed n a trace) out′ r
+    → r ≤ 15 * length trace + 11372
+unfolding printed
+printed-bound n a trace p =
+    let os = observed (count (a .outcome)) trace in
+    omega (arith, put-next p, answer-bound n os a, observed-length (count (a .outcome)) trace)
+
+-- ---- the listing, with room for 512 observations
+pub listed : {bs t t′ out out′ : List ℕ} {r : ℕ} → room t ≡ 512 → Prints bs t t′ out out′ r → r ≤ length out → Listed bs out out′ r
+unfolding written
+listed {bs} {t} {t′} {out} {out′} {r} e p h =
+    let q : Put out 0 (listing bs) out′ r = rw (e, lines-listing bs) at (p .lines) in
+    let s = put-next q in
+    let f = put-fits q (omega arith) in
+    let m : length out′ ≡ length out = ap length (q .area) ∙ length-sets out 0 (listing bs) in
+    let x : take r out′ ≡ listing bs = rw (s, f) (take-append-seam (listing bs) _) in
+    record { area = f; size = s; fits = omega arith; part = rw x s }
