@@ -1,17 +1,21 @@
--- How the match on the kind byte and the lowering of a window meet the rules.
+-- How the match on the kind byte, the postfix rule and the lowering of a window meet the rules.
 -- Assumes nothing.
 use mathlib.Core.Path.{_≡_, refl}
+use mathlib.Core.Bool.{Bool, true, false, cond}
 use mathlib.Core.List.{List}
 use Prim.Native.Nat.{ℕ, zero-le, _+_, _-_, _≤_, _<_}
 use native.Mathlib.Omega.{arith}
+use lib.Dec.{eqb}
 use lib.ListN.{length, getD, List·getD-eq-default}
 use borrow.Author.Tests.{ne-eqb}
 use Rattle.rules.specs.declared.Refusal.the-variants as refusals
-use Rattle.rules.specs.Rules.Instructions.{Instr, kind, windowCosts}
-use Rattle.rules.specs.Rules.JobFile.{refused, refuse, fields, instr}
+use Rattle.rules.specs.Rules.Expressions.{Expr, sound}
+use Rattle.rules.specs.Rules.Instructions.{Instr, assign, load, store, kind, windowCosts}
+use Rattle.rules.specs.Rules.JobFile.{refused, refuse, fields, instr, postfix}
 use Rattle.rules.specs.Rules.Plain.{Code}
 use Rattle.rules.specs.Rules.Mispredicting.{remaining}
 use Rattle.token.specs.Bytes.{byte-got}
+use Rattle.instruction.specs.Meaning.{withRegisterOf}
 
 -- ---- the kind byte: the fields of each kind; a number that is none of the eight kinds
 pub instr-kind : (p : List ℕ) (at k : ℕ) → at < length p → getD p at 0 ≡ k → instr p at ≡ getD fields k (refuse refusals.Encoding) p (at + 1)
@@ -28,6 +32,15 @@ more j k h n = omega arith
 pub beyond : (k : ℕ) → (k ≡ 0 → ⊥) → (k ≡ 1 → ⊥) → (k ≡ 2 → ⊥) → (k ≡ 3 → ⊥)
     → (k ≡ 4 → ⊥) → (k ≡ 5 → ⊥) → (k ≡ 6 → ⊥) → (k ≡ 7 → ⊥) → 8 ≤ k
 beyond k a b c d e f g h = more 7 k (more 6 k (more 5 k (more 4 k (more 3 k (more 2 k (more 1 k (more 0 k zero-le a) b) c) d) e) f) g) h
+
+-- ---- the postfix rule of an instruction with a register and an expression
+pub postfix-with : (k r : ℕ) (e : Expr) → postfix (withRegisterOf k r e) ≡ sound e
+postfix-with k r e = go (eqb k 1) (eqb k 2)
+  where
+    go : (a b : Bool) → postfix (cond a assign (cond b load store) r e) ≡ sound e
+    go true b = refl
+    go false true = refl
+    go false false = refl
 
 -- ---- windows: k is the kind of the instruction i, c its cost
 pub remaining-barrier : (code : Code) (i : Instr) (v k : ℕ) → k ≡ kind i → k ≡ 7 → 0 ≡ remaining code i v

@@ -12,7 +12,7 @@ ghost use Rattle.rules.specs.Rules.JobFile.{wordOf, register, withRegister, jum
 ghost use Rattle.rules.specs.Rules.Plain.{Code};
 ghost use Rattle.rules.specs.Rules.Mispredicting.{remaining};
 ghost use Rattle.token.specs.Meaning.{tokensOf};
-ghost use Rattle.instruction.specs.Meaning.{registerReadMeaning, labelReadMeaning, meaning, withRegisterOf, instructionReadMeaning};
+ghost use Rattle.instruction.specs.Meaning.{registerReadMeaning, labelReadMeaning, meaning, withRegisterOf, instructionReadMeaning, Judged};
 
 // A register with the offset after it.
 pub enum RegisterRead {
@@ -66,10 +66,11 @@ pub enum Instruction {
     Barrier,
 }
 
-// An instruction with the offset of the next.
+// An instruction with the offset of the next; `sound` says whether its expressions keep the postfix rule.
 pub struct Decoded {
     pub instruction: Instruction,
     pub next: usize,
+    pub sound: bool,
 }
 
 pub enum InstructionRead {
@@ -91,13 +92,17 @@ fn with_register(kind: u8, r: u8, e: Expression) -> Instruction
 }
 
 fn read_with_register(p: &[u8], at: usize, kind: u8) -> InstructionRead
-    ensures { λ r. ⌜ instructionReadMeaning (now (p .entry)) r ≡ withRegister (withRegisterOf kind) (now (p .entry)) at ⌝ }
+    ensures { λ r. ⌜ (instructionReadMeaning (now (p .entry)) r ≡ withRegister (withRegisterOf kind) (now (p .entry)) at) × Judged (now (p .entry)) r ⌝ }
 {
     match read_register(p, at) {
         RegisterRead::Found(r, start) => match token::read_expression(p, start) {
-            ExpressionRead::Found(e, next) => {
+            ExpressionRead::Found(e, next, sound) => {
                 let instruction = with_register(kind, r, e);
-                InstructionRead::Found(Decoded { instruction, next })
+                InstructionRead::Found(Decoded {
+                    instruction,
+                    next,
+                    sound,
+                })
             }
             ExpressionRead::Refused(n) => InstructionRead::Refused(n),
         },
@@ -106,25 +111,33 @@ fn read_with_register(p: &[u8], at: usize, kind: u8) -> InstructionRead
 }
 
 fn read_jump(p: &[u8], at: usize) -> InstructionRead
-    ensures { λ r. ⌜ instructionReadMeaning (now (p .entry)) r ≡ jump (now (p .entry)) at ⌝ }
+    ensures { λ r. ⌜ (instructionReadMeaning (now (p .entry)) r ≡ jump (now (p .entry)) at) × Judged (now (p .entry)) r ⌝ }
 {
     match token::read_expression(p, at) {
-        ExpressionRead::Found(e, next) => {
+        ExpressionRead::Found(e, next, sound) => {
             let instruction = Instruction::Jump(e);
-            InstructionRead::Found(Decoded { instruction, next })
+            InstructionRead::Found(Decoded {
+                instruction,
+                next,
+                sound,
+            })
         }
         ExpressionRead::Refused(n) => InstructionRead::Refused(n),
     }
 }
 
 fn read_branch(p: &[u8], at: usize) -> InstructionRead
-    ensures { λ r. ⌜ instructionReadMeaning (now (p .entry)) r ≡ branch (now (p .entry)) at ⌝ }
+    ensures { λ r. ⌜ (instructionReadMeaning (now (p .entry)) r ≡ branch (now (p .entry)) at) × Judged (now (p .entry)) r ⌝ }
 {
     match read_register(p, at) {
         RegisterRead::Found(r, start) => match read_label(p, start) {
             LabelRead::Found(l, next) => {
                 let instruction = Instruction::BranchZero(r, l);
-                InstructionRead::Found(Decoded { instruction, next })
+                InstructionRead::Found(Decoded {
+                    instruction,
+                    next,
+                    sound: true,
+                })
             }
             LabelRead::Refused(n) => InstructionRead::Refused(n),
         },
@@ -133,14 +146,18 @@ fn read_branch(p: &[u8], at: usize) -> InstructionRead
 }
 
 fn read_conditional(p: &[u8], at: usize) -> InstructionRead
-    ensures { λ r. ⌜ instructionReadMeaning (now (p .entry)) r ≡ conditional (now (p .entry)) at ⌝ }
+    ensures { λ r. ⌜ (instructionReadMeaning (now (p .entry)) r ≡ conditional (now (p .entry)) at) × Judged (now (p .entry)) r ⌝ }
 {
     match read_register(p, at) {
         RegisterRead::Found(r, start) => match token::read_expression(p, start) {
-            ExpressionRead::Found(c, middle) => match token::read_expression(p, middle) {
-                ExpressionRead::Found(e, next) => {
+            ExpressionRead::Found(c, middle, first) => match token::read_expression(p, middle) {
+                ExpressionRead::Found(e, next, second) => {
                     let instruction = Instruction::AssignIf(r, c, e);
-                    InstructionRead::Found(Decoded { instruction, next })
+                    InstructionRead::Found(Decoded {
+                        instruction,
+                        next,
+                        sound: first & second,
+                    })
                 }
                 ExpressionRead::Refused(n) => InstructionRead::Refused(n),
             },
@@ -152,7 +169,7 @@ fn read_conditional(p: &[u8], at: usize) -> InstructionRead
 
 // The instruction at an offset.
 pub fn decode(p: &[u8], at: usize) -> InstructionRead
-    ensures { λ r. ⌜ instructionReadMeaning (now (p .entry)) r ≡ instr (now (p .entry)) at ⌝ }
+    ensures { λ r. ⌜ (instructionReadMeaning (now (p .entry)) r ≡ instr (now (p .entry)) at) × Judged (now (p .entry)) r ⌝ }
 {
     if p.len() <= at {
         return InstructionRead::Refused(Refusal::Encoding);
@@ -163,6 +180,7 @@ pub fn decode(p: &[u8], at: usize) -> InstructionRead
         0 => InstructionRead::Found(Decoded {
             instruction: Instruction::Skip,
             next,
+            sound: true,
         }),
         1 => read_with_register(p, next, 1),
         2 => read_with_register(p, next, 2),
@@ -173,6 +191,7 @@ pub fn decode(p: &[u8], at: usize) -> InstructionRead
         7 => InstructionRead::Found(Decoded {
             instruction: Instruction::Barrier,
             next,
+            sound: true,
         }),
         _ => InstructionRead::Refused(Refusal::Encoding),
     }

@@ -9,32 +9,10 @@ ghost use mathlib.Core.List.{List};
 ghost use Prim.Native.Nat.{ℕ, _+_, _<_, _≤_};
 ghost use lib.ListN.{length};
 ghost use lib.Seq.{sets};
-ghost use Rattle.rules.specs.Rules.JobFile.{instr, postfix, target, instruction, program};
+ghost use Rattle.rules.specs.Rules.JobFile.{instr, target, instruction, program};
 ghost use Rattle.instruction.specs.Meaning.{meaning};
 ghost use Rattle.program.specs.Checks.{checkedOf};
 ghost use Rattle.program.specs.Offsets.{nextOffset, offsetsFrom, Fetchable, Fetched};
-
-// Whether every expression of an instruction keeps the postfix rule.
-fn postfix_holds(p: &[u8], i: Instruction) -> bool
-    ensures { λ r. ⌜ r ≡ postfix (meaning (now (p .entry)) i) ⌝ }
-{
-    match i {
-        Instruction::Skip => true,
-        Instruction::Assign(_, e) => token::well_formed(p, e),
-        Instruction::Load(_, e) => token::well_formed(p, e),
-        Instruction::Store(_, e) => token::well_formed(p, e),
-        Instruction::Jump(e) => token::well_formed(p, e),
-        Instruction::BranchZero(_, _) => true,
-        Instruction::AssignIf(_, c, e) => {
-            if token::well_formed(p, c) {
-                token::well_formed(p, e)
-            } else {
-                false
-            }
-        }
-        Instruction::Barrier => true,
-    }
-}
 
 // Whether the branch label, if it has one, of the instruction with a label is allowed: at most n, and not the next label.
 fn branch_label_holds(i: Instruction, n: usize, label: usize) -> bool
@@ -76,7 +54,7 @@ fn check_instruction(p: &[u8], at: usize, n: usize, label: usize) -> Checked
     match instruction::decode(p, at) {
         InstructionRead::Found(d) => {
             let i = d.instruction;
-            if postfix_holds(p, i) {
+            if d.sound {
                 if branch_label_holds(i, n, label) {
                     Checked::Next(d.next)
                 } else {
@@ -149,6 +127,7 @@ pub fn fetch(p: &[u8], n: usize, table: &[u64], base: usize, label: Label) -> De
         InstructionRead::Refused(_) => Decoded {
             instruction: Instruction::Skip,
             next: 0,
+            sound: true,
         },
     }
 }

@@ -1,10 +1,11 @@
 -- What the answers of this crate's code mean in the rules: a token, the tokens of an expression, and what a reader found.
 -- Assumes nothing.
+use mathlib.Core.Path.{_≡_}
 use mathlib.Core.List.{List, []}
 use Prim.Native.Nat.{ℕ}
 use lib.ListN.{getD}
 use Rattle.rules.specs.Rules.Operators.{neg, add}
-use Rattle.rules.specs.Rules.Expressions.{Token, reg, const, op1, op2, Expr, held}
+use Rattle.rules.specs.Rules.Expressions.{Token, reg, const, op1, op2, Expr, held, sound}
 use Rattle.rules.specs.Rules.JobFile.{Read, got, refused, unary, binary, tokens}
 use Rattle.token.specs.declared.Token as code
 use Rattle.token.specs.declared.Token.the-variants as token
@@ -41,5 +42,10 @@ unfoldable pub tokensOf : List ℕ → Expression → Expr
 tokensOf p e = valueOr [] (tokens (e .count) p (e .at))
 
 abbrev pub expressionReadMeaning : List ℕ → ExpressionRead → Read Expr
-expressionReadMeaning p (expression-read.Found e q) = got (tokensOf p e) q
+expressionReadMeaning p (expression-read.Found e q b) = got (tokensOf p e) q
 expressionReadMeaning p (expression-read.Refused r) = refused r
+
+-- an expression that was found comes with its answer to the postfix rule
+abbrev pub Judged : List ℕ → ExpressionRead → Type 0
+Judged p (expression-read.Found e q b) = b ≡ sound (tokensOf p e)
+Judged p (expression-read.Refused r) = Unit {0}

@@ -4,9 +4,9 @@ use rules::Refusal;
 ghost use mathlib.Core.Path.{_≡_};
 ghost use Prim.Native.Nat.{_+_, _*_, _^_, _<_, _≤_};
 ghost use lib.ListN.{length};
-ghost use Rattle.rules.specs.Rules.Expressions.{takes, after, sound};
+ghost use Rattle.rules.specs.Rules.Expressions.{takes, after};
 ghost use Rattle.rules.specs.Rules.JobFile.{little, token, tokens, expr};
-ghost use Rattle.token.specs.Meaning.{tokenMeaning, tokenReadMeaning, scanOf, tokensOf, expressionReadMeaning};
+ghost use Rattle.token.specs.Meaning.{tokenMeaning, tokenReadMeaning, scanOf, expressionReadMeaning, Judged};
 
 fn wide(b: u8) -> u64
     ensures { λ r. ⌜ (r ≡ b) × (r < 256) ⌝ }
@@ -133,14 +133,15 @@ pub struct Expression {
     pub count: usize,
 }
 
-// An expression with the offset after it.
+// An expression with the offset after it, and whether it keeps the postfix rule.
 pub enum ExpressionRead {
-    Found(Expression, usize),
+    Found(Expression, usize, bool),
     Refused(Refusal),
 }
 
+// The expression at an offset: its tokens are read once, for their extent and for the postfix rule.
 pub fn read_expression(p: &[u8], at: usize) -> ExpressionRead
-    ensures { λ r. ⌜ expressionReadMeaning (now (p .entry)) r ≡ expr (now (p .entry)) at ⌝ }
+    ensures { λ r. ⌜ (expressionReadMeaning (now (p .entry)) r ≡ expr (now (p .entry)) at) × Judged (now (p .entry)) r ⌝ }
 {
     if p.len() <= at {
         return ExpressionRead::Refused(Refusal::Encoding);
@@ -154,17 +155,10 @@ pub fn read_expression(p: &[u8], at: usize) -> ExpressionRead
         return ExpressionRead::Refused(Refusal::Encoding);
     }
     match scan_tokens(p, start, count) {
-        Scan::Past(next, _) => ExpressionRead::Found(Expression { at: start, count }, next),
+        Scan::Past(next, held) => {
+            let e = Expression { at: start, count };
+            ExpressionRead::Found(e, next, held == 1)
+        }
         Scan::Refused(r) => ExpressionRead::Refused(r),
-    }
-}
-
-// Whether an expression keeps the postfix rule.
-pub fn well_formed(p: &[u8], e: Expression) -> bool
-    ensures { λ r. ⌜ r ≡ sound (tokensOf (now (p .entry)) e) ⌝ }
-{
-    match scan_tokens(p, e.at, e.count) {
-        Scan::Past(_, held) => held == 1,
-        Scan::Refused(_) => false,
     }
 }

@@ -31,7 +31,7 @@ returns c =
     let s = b .before .before .before .before .before in
     let a = s .args in
     fetched (a .p .now) (a .n) (a .table .now) (a .base) (a .label .0) _ _
-    (s .pre) (b .before .before .index .ensures) (b .decode .ensures) _ (c .before .d .given .1)
+    (s .pre) (b .before .before .index .ensures) (b .decode .ensures .0) _ (c .before .d .given .1)
 
 returns-2 : tie.Need-returns-2
 returns-2 c =
@@ -39,7 +39,7 @@ returns-2 c =
     let s = b .before .before .before .before .before in
     let a = s .args in
     not-refused (a .p .now) (a .n) (a .table .now) (a .base) (a .label .0) _ _
-    (s .pre) (b .before .before .index .ensures) (b .decode .ensures) _ (c .enum-told .given .1)
+    (s .pre) (b .before .before .index .ensures) (b .decode .ensures .0) _ (c .enum-told .given .1)
 
 pub fetch-spec : {M : Type 1} → statement M
 fetch-spec =
