@@ -213,8 +213,7 @@ fn take_turn(
         return try_roll_back(&mut work[..], &mut trace[..], c);
     }
     let label = Label::new(control.place);
-    let d = program::fetch(p, t.count, &work[..], work::LABELS, label);
-    let i = d.instruction;
+    let i = program::fetch(p, t.count, &work[..], work::LABELS, label);
     advance(p, t, mode, &mut work[..], &mut trace[..], c, i)
 }
 

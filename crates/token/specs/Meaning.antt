@@ -1,6 +1,7 @@
 -- What the answers of this crate's code mean in the rules: a token, the tokens of an expression, and what a reader found.
 -- Assumes nothing.
 use mathlib.Core.Path.{_≡_}
+use mathlib.Core.Bool.{Bool, true, false}
 use mathlib.Core.List.{List, []}
 use Prim.Native.Nat.{ℕ}
 use lib.ListN.{getD}
@@ -31,6 +32,16 @@ tokenReadMeaning (token-read.Refused r) = refused r
 abbrev pub scanOf : ℕ → Read Expr → Scan
 scanOf d (got ts q) = scan.Past q (held d ts)
 scanOf d (refused r) = scan.Refused r
+
+-- whether something was read
+unfoldable pub readable : {A : Type 0} → Read A → Bool
+readable (got a q) = true
+readable (refused r) = false
+
+-- the offset after what was read
+unfoldable pub nextOffset : {A : Type 0} → Read A → ℕ
+nextOffset (got a q) = q
+nextOffset (refused r) = 0
 
 -- what was read, or a value in its place
 abbrev pub valueOr : {A : Type 0} → A → Read A → A

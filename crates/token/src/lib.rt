@@ -2,11 +2,12 @@
 // and an offset; it answers what stands there with the next offset, or a refusal.
 use rules::Refusal;
 ghost use mathlib.Core.Path.{_≡_};
+ghost use mathlib.Core.Bool.{true};
 ghost use Prim.Native.Nat.{_+_, _*_, _^_, _<_, _≤_};
 ghost use lib.ListN.{length};
 ghost use Rattle.rules.specs.Rules.Expressions.{takes, after};
 ghost use Rattle.rules.specs.Rules.JobFile.{little, token, tokens, expr};
-ghost use Rattle.token.specs.Meaning.{tokenMeaning, tokenReadMeaning, scanOf, expressionReadMeaning, Judged};
+ghost use Rattle.token.specs.Meaning.{tokenMeaning, tokenReadMeaning, scanOf, readable, nextOffset, expressionReadMeaning, Judged};
 
 fn wide(b: u8) -> u64
     ensures { λ r. ⌜ (r ≡ b) × (r < 256) ⌝ }
@@ -160,5 +161,24 @@ pub fn read_expression(p: &[u8], at: usize) -> ExpressionRead
             ExpressionRead::Found(e, next, held == 1)
         }
         Scan::Refused(r) => ExpressionRead::Refused(r),
+    }
+}
+
+// The expression at an offset where one can be read, as it stands: no token is read.
+pub fn expression_at(p: &[u8], at: usize) -> Expression
+    requires { ⌜ readable (expr (now p) at) ≡ true ⌝ }
+    ensures { λ r. ⌜ tokens (r .count) (now (p .entry)) (r .at) ≡ expr (now (p .entry)) at ⌝ }
+{
+    let count = wide(p[at]) as usize;
+    Expression { at: at + 1, count }
+}
+
+// The offset after the tokens of an expression; 0 where they cannot be read.
+pub fn expression_end(p: &[u8], e: Expression) -> usize
+    ensures { λ r. ⌜ r ≡ nextOffset (tokens (e .count) (now (p .entry)) (e .at)) ⌝ }
+{
+    match scan_tokens(p, e.at, e.count) {
+        Scan::Past(next, _) => next,
+        Scan::Refused(_) => 0,
     }
 }
