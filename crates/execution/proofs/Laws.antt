@@ -1,7 +1,7 @@
 -- A rule that was tried: from the test of the trace area's room and from what the rule's function promises.
 -- Assumes nothing.
 use mathlib.Core.Path.{_≡_, refl, sym, ap, _∙_}
-use mathlib.Core.Bool.{Bool, true, false, true≢false}
+use mathlib.Core.Bool.{Bool, true, false}
 use mathlib.Core.List.{List, []}
 use Prim.Native.Nat.{ℕ, zero, suc, _+_, _*_, _/_, _<_, _≤_}
 use lib.Dec.{leb}
@@ -15,10 +15,9 @@ use Rattle.rules.specs.Rules.Instructions.{Observation}
 use Rattle.rules.specs.Rules.Plain as plain
 use Rattle.rules.specs.Rules.Plain.{Code, end, exec}
 use Rattle.location.specs.declared.Label.{Label}
-use Rattle.rules.specs.Rules.Mispredicting.{Machine, rolling, opening, ordinary, forward}
+use Rattle.rules.specs.Rules.Mispredicting.{rolling, opening, ordinary, forward}
 use Rattle.rules.specs.Theorems.JobLaws.{Limits}
 use Rattle.instruction.specs.declared.Instruction.{Instruction}
-use Rattle.instruction.specs.declared.Instruction.the-variants.{Skip, Assign, Load, Store, Jump, BranchZero, AssignIf, Barrier}
 use Rattle.instruction.specs.Meaning.{meaning}
 use Rattle.work.specs.declared.machine.Control.{Control}
 use Rattle.work.specs.Machines.{stateIn, machineOf}
@@ -30,11 +29,11 @@ use Rattle.effect.specs.Effects.{observations, effectMeaning, Executed}
 use Rattle.stepping.specs.declared.Progress.{Progress}
 use Rattle.stepping.specs.Steps.{Made, RolledBackTo, OpenedTo, CarriedOutTo}
 use Rattle.execution.specs.declared.Mode.{Mode}
-use Rattle.execution.specs.declared.Mode.the-variants as modes
+use Rattle.execution.specs.declared.Opening.the-variants as openings
 use Rattle.execution.specs.declared.Next.{Next}
 use Rattle.execution.specs.declared.Next.the-variants as next
 use Rattle.execution.specs.TurnLaws.{closed-false, not-expired}
-use Rattle.execution.specs.Turns.{locations, closedAt, roomFor, Unchanged, RollBackTried, OpeningTried, CodeOf, CarryingTried, Advanced}
+use Rattle.execution.specs.Turns.{locations, closedAt, roomFor, Unchanged, RollBackTried, OpeningTried, CodeOf, CarryingTried, Opens, Advanced}
 
 -- room for k observations, as a number of words
 pub room-words : (area : List ℕ) (c : Progress) (k : ℕ) {x : Bool} → x ≡ roomFor area c k → x ≡ true → 2 * (c .observations + k) ≤ length area
@@ -93,50 +92,17 @@ few-observations (shown.Load a) = omega arith
 few-observations (shown.Store a) = omega arith
 
 -- ---- an instruction in each of the two runs
-abbrev isBranch : Instruction → Bool
-isBranch Skip = false
-isBranch (Assign r e) = false
-isBranch (Load r e) = false
-isBranch (Store r e) = false
-isBranch (Jump e) = false
-isBranch (BranchZero r l) = true
-isBranch (AssignIf r k e) = false
-isBranch Barrier = false
-
-not-branch : (code : Code) (M : Machine) (p : List ℕ) (i : Instruction) → isBranch i ≡ false
-    → ordinary code M (meaning p i) ≡ forward code M (meaning p i)
-unfolding forward
-not-branch code M p Skip h = refl
-not-branch code M p (Assign r e) h = refl
-not-branch code M p (Load r e) h = refl
-not-branch code M p (Store r e) h = refl
-not-branch code M p (Jump e) h = refl
-not-branch code M p (BranchZero r l) h = absurd (true≢false h)
-not-branch code M p (AssignIf r k e) h = refl
-not-branch code M p Barrier h = refl
-
-module _ {p : List ℕ} {t : Trailer} {w w′ area area′ : List ℕ} {i : Instruction} {c : Progress} {x : Next} {c′ : Progress} where
-  pub other-advanced : (j : Instruction) → i ≡ j → isBranch j ≡ false → CarryingTried p t w w′ area area′ i c x c′
-      → Advanced p t modes.Mispredicting w w′ area area′ i c x c′
-  other-advanced j e h k = record {
-    tried = λ code s.
-        rw (← not-branch code (machineOf w (c .control) (locations t)) p i (ap isBranch e ∙ h)) (k .tried code s);
-  }
-
-  pub branch-advanced : {r : ℕ} {l : Label} → i ≡ BranchZero r l → Limits t → OpeningTried w w′ area area′ r (l .0) (t .window) c x c′
-      → Advanced p t modes.Mispredicting w w′ area area′ i c x c′
+module _ {p : List ℕ} {t : Trailer} {mode : Mode} {w w′ area area′ : List ℕ} {i : Instruction} {c : Progress} {x : Next} {c′ : Progress} where
+  pub branch-advanced : {r : ℕ} {l : Label} → Opens mode i (openings.Branch r l) → Limits t
+      → OpeningTried w w′ area area′ r (l .0) (t .window) c x c′ → Advanced p t mode w w′ area area′ i c x c′
   unfolding forward
   branch-advanced e limits o = record {
     tried = λ code s.
-        rw e (o .tried (locations t) code (omega arith) (let h = limits .cells in omega arith) (s .window) (s .costs));
+        rw (e .0, e .1) (o .tried (locations t) code (omega arith) (let h = limits .cells in omega arith) (s .window) (s .costs));
   }
 
-  pub plain-advanced : {mode : Mode} → mode ≡ modes.Plain → CarryingTried p t w w′ area area′ i c x c′ → Advanced p t mode w w′ area area′ i c x c′
-  plain-advanced e k = rw e (record { tried = k .tried })
-
-  pub mispredict-advanced : {mode : Mode} → mode ≡ modes.Mispredicting → Advanced p t modes.Mispredicting w w′ area area′ i c x c′
-      → Advanced p t mode w w′ area area′ i c x c′
-  mispredict-advanced e k = rw e k
+  pub other-advanced : Opens mode i openings.Nothing → CarryingTried p t w w′ area area′ i c x c′ → Advanced p t mode w w′ area area′ i c x c′
+  other-advanced e k = record { tried = λ code s. rw (e p code (machineOf w (c .control) (locations t))) (k .tried code s) }
 
 -- ---- the tests of a turn
 pub closed-zero : (d last p : ℕ) → d ≡ 0 → leb last p ≡ closedAt d last p

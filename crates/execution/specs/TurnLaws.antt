@@ -14,7 +14,7 @@ use Rattle.location.specs.Sets.{limit}
 use Rattle.rules.specs.declared.Stop.{Stop}
 use Rattle.rules.specs.declared.Stop.the-variants.{Finished, Spent, TraceFull}
 use Rattle.rules.specs.declared.Trailer.{Trailer}
-use Rattle.rules.specs.Rules.Instructions.{Instr, Observation, start, rollback, pc, loaded, stored}
+use Rattle.rules.specs.Rules.Instructions.{Instr, skip, Observation, start, rollback, pc, loaded, stored}
 use Rattle.rules.specs.Rules.Plain.{Code, State, end, fetch}
 use Rattle.rules.specs.Rules.Mispredicting.{Branch, Machine, Step, expired, rolling, forward, ordinary, lower, stepOn, step, plainStep}
 use Rattle.rules.specs.Rules.Loop.{ended}
@@ -26,9 +26,8 @@ use Rattle.rules.specs.Theorems.JobLaws.{Limits, length-program}
 use Rattle.rules.specs.Theorems.CallLaws.{length-traceWords}
 use Rattle.token.specs.Meaning.{valueOr}
 use Rattle.instruction.specs.declared.Instruction.{Instruction}
-use Rattle.instruction.specs.declared.Decoded.{Decoded}
 use Rattle.instruction.specs.Meaning.{meaning}
-use Rattle.program.specs.Offsets.{readable, offsetsFrom, Stands, Fetchable, Fetched, labelled}
+use Rattle.program.specs.Offsets.{readable, offsetsFrom, Stands, Fetchable, labelled}
 use Rattle.effect.specs.Registers.{instr-below}
 use Rattle.work.specs.declared.BranchEntry.{BranchEntry}
 use Rattle.work.specs.declared.machine.Control.{Control}
@@ -234,17 +233,18 @@ module _ (p : List ℕ) (t : Trailer) (mode : Mode) (w area : List ℕ) (c : Pro
     accepted = r .loaded .accepted;
   }
 
-  module _ (d : Decoded) (f : Fetched p (t .count) (c .control .place) d) where
-    pub fetched-same : meaning p (d .instruction) ≡ fetch (codeOf p t) (c .control .place)
+  module _ (i : Instruction)
+      (f : meaning p i ≡ getD (valueOr [] (program (t .count) (t .count) 0 p 0)) (c .control .place) skip) where
+    pub fetched-same : meaning p i ≡ fetch (codeOf p t) (c .control .place)
     unfolding fetch codeOf
-    fetched-same = f .same
+    fetched-same = f
 
-    stands : Stands (t .count) (c .control .place) p (getD (offsetsFrom (t .count) p 0) (c .control .place) 0) (meaning p (d .instruction))
+    stands : Stands (t .count) (c .control .place) p (getD (offsetsFrom (t .count) p 0) (c .control .place) 0) (meaning p i)
     stands =
-        rw (f .same)
+        rw f
         (rw (zero-add (c .control .place)) at (labelled (t .count) (t .count) 0 p 0 (r .loaded .accepted) (c .control .place) inside))
 
-    pub advancing : (0 < c .control .depth → 0 < windowIn w (c .control .depth)) → Advancing p t w area (d .instruction) c
+    pub advancing : (0 < c .control .depth → 0 < windowIn w (c .control .depth)) → Advancing p t w area i c
     advancing live = record {
       live = record {
         fits = r .fits;
@@ -254,7 +254,7 @@ module _ (p : List ℕ) (t : Trailer) (mode : Mode) (w area : List ℕ) (c : Pro
       };
       limits = r .loaded .limits;
       sound = stands .sound;
-      below = instr-below p _ (meaning p (d .instruction)) _ (stands .read);
+      below = instr-below p _ (meaning p i) _ (stands .read);
     }
 
 -- ---- the trace area

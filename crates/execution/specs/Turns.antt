@@ -21,6 +21,7 @@ use Rattle.rules.specs.Theorems.JobLaws.{Limits}
 use Rattle.token.specs.Meaning.{valueOr}
 use Rattle.program.specs.Offsets.{readable, offsetsFrom}
 use Rattle.instruction.specs.declared.Instruction.{Instruction}
+use Rattle.instruction.specs.declared.Instruction.the-variants.{BranchZero}
 use Rattle.instruction.specs.Meaning.{meaning}
 use Rattle.work.specs.Layout.{labels}
 use Rattle.work.specs.Words.{windowIn}
@@ -31,6 +32,8 @@ use Rattle.stepping.specs.Progress.{logOf}
 use Rattle.stepping.specs.Steps.{Counted, Made}
 use Rattle.execution.specs.declared.Mode.{Mode}
 use Rattle.execution.specs.declared.Mode.the-variants as modes
+use Rattle.execution.specs.declared.Opening.{Opening}
+use Rattle.execution.specs.declared.Opening.the-variants as openings
 use Rattle.execution.specs.declared.Next.{Next}
 use Rattle.execution.specs.declared.Next.the-variants as next
 
@@ -128,6 +131,11 @@ pub record Advancing (p : List ℕ) (t : Trailer) (w area : List ℕ) (i : Instr
 abbrev pub forwardBy : Mode → Code → Machine → Instr → Step
 forwardBy modes.Plain code M x = ordinary code M x
 forwardBy modes.Mispredicting code M x = forward code M x
+
+-- What an instruction opens: a branch is rule 2's, in the mispredicting run, and nothing leaves it to rule 3.
+abbrev pub Opens : Mode → Instruction → Opening → Type 0
+Opens mode i (openings.Branch r l) = (mode ≡ modes.Mispredicting) × (i ≡ BranchZero r l)
+Opens mode i openings.Nothing = (p : List ℕ) (code : Code) (M : Machine) → forwardBy mode code M (meaning p i) ≡ ordinary code M (meaning p i)
 
 pub record Advanced (p : List ℕ) (t : Trailer) (mode : Mode) (w w′ area area′ : List ℕ) (i : Instruction) (c : Progress) (x : Next) (c′ : Progress) : Type 0 where
   pub tried : (code : Code) → CodeOf t code

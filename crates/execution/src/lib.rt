@@ -16,7 +16,7 @@ ghost use Rattle.work.specs.Machines.{Fit, maxWindow};
 ghost use Rattle.effect.specs.Effects.{observations};
 ghost use Rattle.stepping.specs.Steps.{Counted};
 ghost use Rattle.execution.specs.Starts.{beginning, whole};
-ghost use Rattle.execution.specs.Turns.{roomFor, closedAt, RollBackTried, Live, OpeningTried, CarryingTried, Advancing, Advanced, Ready, Loaded, Turned, RanTo};
+ghost use Rattle.execution.specs.Turns.{roomFor, closedAt, RollBackTried, Live, OpeningTried, CarryingTried, Advancing, Opens, Advanced, Ready, Loaded, Turned, RanTo};
 
 // Which of the two runs.
 pub enum Mode {
@@ -127,35 +127,32 @@ fn try_carry_out(
     }
 }
 
-// Rule 2 for a branch, rule 3 for any other instruction.
-fn mispredict(
-    p: &[u8],
-    t: Trailer,
-    work: &mut [u64],
-    trace: &mut [u64],
-    c: Progress,
-    i: Instruction,
-) -> Turn
-    requires { ⌜ Advancing (now p) t (now work) (now trace) i c ⌝ }
-    ensures { λ r. ⌜ Advanced (now (p .entry)) t Mode.Mispredicting (now (work .entry)) (now (work .exit)) (now (trace .entry)) (now (trace .exit)) i c (r .next) (r .progress) ⌝ }
+// The branch that rule 2 opens, or nothing: the instruction is rule 3's.
+pub enum Opening {
+    Branch(u8, Label),
+    Nothing,
+}
+
+// What an instruction opens in one of the two runs.
+fn opening_of(mode: Mode, i: Instruction) -> Opening
+    ensures { λ x. ⌜ Opens mode i x ⌝ }
 {
-    match i {
-        Instruction::Skip => try_carry_out(p, t, &mut work[..], &mut trace[..], c, i),
-        Instruction::Assign(_, _) => try_carry_out(p, t, &mut work[..], &mut trace[..], c, i),
-        Instruction::Load(_, _) => try_carry_out(p, t, &mut work[..], &mut trace[..], c, i),
-        Instruction::Store(_, _) => try_carry_out(p, t, &mut work[..], &mut trace[..], c, i),
-        Instruction::Jump(_) => try_carry_out(p, t, &mut work[..], &mut trace[..], c, i),
-        Instruction::BranchZero(r, l) => {
-            try_open(&mut work[..], &mut trace[..], c, r, l, t.window)
-        }
-        Instruction::AssignIf(_, _, _) => {
-            try_carry_out(p, t, &mut work[..], &mut trace[..], c, i)
-        }
-        Instruction::Barrier => try_carry_out(p, t, &mut work[..], &mut trace[..], c, i),
+    match mode {
+        Mode::Plain => Opening::Nothing,
+        Mode::Mispredicting => match i {
+            Instruction::Skip => Opening::Nothing,
+            Instruction::Assign(_, _) => Opening::Nothing,
+            Instruction::Load(_, _) => Opening::Nothing,
+            Instruction::Store(_, _) => Opening::Nothing,
+            Instruction::Jump(_) => Opening::Nothing,
+            Instruction::BranchZero(r, l) => Opening::Branch(r, l),
+            Instruction::AssignIf(_, _, _) => Opening::Nothing,
+            Instruction::Barrier => Opening::Nothing,
+        },
     }
 }
 
-// The instruction that is next, in one of the two runs.
+// The instruction that is next, in one of the two runs: rule 2 for a branch that it opens, else rule 3.
 fn advance(
     p: &[u8],
     t: Trailer,
@@ -168,9 +165,9 @@ fn advance(
     requires { ⌜ Advancing (now p) t (now work) (now trace) i c ⌝ }
     ensures { λ r. ⌜ Advanced (now (p .entry)) t mode (now (work .entry)) (now (work .exit)) (now (trace .entry)) (now (trace .exit)) i c (r .next) (r .progress) ⌝ }
 {
-    match mode {
-        Mode::Plain => try_carry_out(p, t, &mut work[..], &mut trace[..], c, i),
-        Mode::Mispredicting => mispredict(p, t, &mut work[..], &mut trace[..], c, i),
+    match opening_of(mode, i) {
+        Opening::Branch(r, l) => try_open(&mut work[..], &mut trace[..], c, r, l, t.window),
+        Opening::Nothing => try_carry_out(p, t, &mut work[..], &mut trace[..], c, i),
     }
 }
 
@@ -213,8 +210,7 @@ fn take_turn(
         return try_roll_back(&mut work[..], &mut trace[..], c);
     }
     let label = Label::new(control.place);
-    let d = program::fetch(p, t.count, &work[..], work::LABELS, label);
-    let i = d.instruction;
+    let i = program::fetch(p, t.count, &work[..], work::LABELS, label);
     advance(p, t, mode, &mut work[..], &mut trace[..], c, i)
 }
 

@@ -17,7 +17,7 @@ ghost use Rattle.token.specs.Meaning.{tokenMeaning, tokensOf};
 ghost use Rattle.work.specs.Layout.{operandBase};
 ghost use Rattle.work.specs.Words.{taggedAt};
 ghost use Rattle.expression.specs.Registers.{TokenBelow};
-ghost use Rattle.expression.specs.Results.{result};
+ghost use Rattle.expression.specs.Results.{value, gathered};
 
 // The most values that an expression holds, and one more, so that the second operand can always be read.
 const SLOTS: usize = 9;
@@ -50,45 +50,47 @@ fn operate_two(i: u8, x: u64, y: u64) -> u64
     }
 }
 
-// What a token gives, of the operands x and y.
-fn token_result(t: Token, work: &[u64], x: Tagged, y: Tagged) -> Tagged
+// The value that a token gives, of the values x and y of its operands.
+fn token_value(t: Token, work: &[u64], x: u64, y: u64) -> u64
     requires { ⌜ TokenBelow registers (tokenMeaning t) × (operandBase registers ≤ length (now work)) ⌝ }
-    ensures { λ r. ⌜ r ≡ result (tokenMeaning t) (taggedAt (now (work .entry))) x y ⌝ }
+    ensures { λ r. ⌜ r ≡ value (tokenMeaning t) (taggedAt (now (work .entry))) x y ⌝ }
 {
     match t {
-        Token::Register(r) => work::load(work, Location::register(r)),
-        Token::Constant(c) => Tagged {
-            value: c,
-            deps: LocationSet::empty(),
-        },
-        Token::Unary(i) => {
-            let deps = x.deps;
-            Tagged {
-                value: operate_one(i, x.value),
-                deps,
-            }
+        Token::Register(r) => {
+            let v = work::load(work, Location::register(r));
+            v.value
         }
-        Token::Binary(i) => {
-            let left = x.deps;
-            let right = y.deps;
-            Tagged {
-                value: operate_two(i, x.value, y.value),
-                deps: left.union(right),
-            }
-        }
+        Token::Constant(c) => c,
+        Token::Unary(i) => operate_one(i, x),
+        Token::Binary(i) => operate_two(i, x, y),
     }
 }
 
-// The value of an expression that keeps the postfix rule: each token is read once, over a stack of operands.
+// A set with what a token adds to it: only a register brings a set.
+fn gather(t: Token, work: &[u64], s: LocationSet) -> LocationSet
+    requires { ⌜ TokenBelow registers (tokenMeaning t) × (operandBase registers ≤ length (now work)) ⌝ }
+    ensures { λ r. ⌜ r ≡ gathered (tokenMeaning t) (taggedAt (now (work .entry))) s ⌝ }
+{
+    match t {
+        Token::Register(r) => {
+            let v = work::load(work, Location::register(r));
+            let deps = v.deps;
+            s.union(deps)
+        }
+        Token::Constant(_) => s,
+        Token::Unary(_) => s,
+        Token::Binary(_) => s,
+    }
+}
+
+// The value of an expression that keeps the postfix rule: each token is read once, over a stack of values. The set is that of
+// all its registers together, so that no set is kept for each value.
 pub fn evaluate(p: &[u8], work: &[u64], e: Expression) -> Tagged
     requires { ⌜ (sound (tokensOf (now p) e) ≡ true) × (operandBase registers ≤ length (now work)) ⌝ }
     ensures { λ r. ⌜ r ≡ eval (taggedAt (now (work .entry))) (tokensOf (now (p .entry)) e) ⌝ }
 {
-    let none = Tagged {
-        value: 0,
-        deps: LocationSet::empty(),
-    };
-    let mut stack = [none; SLOTS];
+    let mut deps = LocationSet::empty();
+    let mut stack = [0u64; SLOTS];
     let mut held = 0;
     let mut offset = e.at;
     let count = e.count;
@@ -99,15 +101,19 @@ pub fn evaluate(p: &[u8], work: &[u64], e: Expression) -> Tagged
                 let low = held - token::taken(t);
                 let x = stack[low];
                 let y = stack[low + 1];
-                stack[low] = token_result(t, work, x, y);
+                stack[low] = token_value(t, work, x, y);
+                deps = gather(t, work, deps);
                 held = low + 1;
                 offset = next;
                 i += 1;
             }
             TokenRead::Refused(_) => {
-                return none;
+                return Tagged { value: 0, deps };
             }
         }
     }
-    stack[0]
+    Tagged {
+        value: stack[0],
+        deps,
+    }
 }

@@ -1,12 +1,13 @@
 -- What the answers of this crate's code mean in the rules: an instruction, and what a reader found.
 -- Assumes nothing.
+use mathlib.Core.Path.{_≡_}
 use mathlib.Core.Bool.{cond}
 use mathlib.Core.List.{List}
 use Prim.Native.Nat.{ℕ}
 use lib.Dec.{eqb}
 use Rattle.rules.specs.Rules.Expressions.{Expr}
 use Rattle.rules.specs.Rules.Instructions.{Instr, skip, assign, load, store, jmp, beqz, cassign, spbarr}
-use Rattle.rules.specs.Rules.JobFile.{Read, got, refused}
+use Rattle.rules.specs.Rules.JobFile.{Read, got, refused, postfix}
 use Rattle.token.specs.Meaning.{tokensOf}
 use Rattle.instruction.specs.declared.RegisterRead.{RegisterRead}
 use Rattle.instruction.specs.declared.RegisterRead.the-variants as register-read
@@ -43,3 +44,8 @@ withRegisterOf k = cond (eqb k 1) assign (cond (eqb k 2) load store)
 abbrev pub instructionReadMeaning : List ℕ → InstructionRead → Read Instr
 instructionReadMeaning p (instruction-read.Found d) = got (meaning p (d .instruction)) (d .next)
 instructionReadMeaning p (instruction-read.Refused r) = refused r
+
+-- an instruction that was found comes with its answer to the postfix rule
+abbrev pub Judged : List ℕ → InstructionRead → Type 0
+Judged p (instruction-read.Found d) = d .sound ≡ postfix (meaning p (d .instruction))
+Judged p (instruction-read.Refused r) = Unit {0}

@@ -4,15 +4,16 @@ use rules::Refusal;
 use token::Expression;
 use token::ExpressionRead;
 ghost use mathlib.Core.Path.{_≡_};
+ghost use mathlib.Core.Bool.{true};
 ghost use mathlib.Core.List.{List};
 ghost use Prim.Native.Nat.{ℕ, _<_};
 ghost use lib.ListN.{getD};
-ghost use Rattle.rules.specs.Rules.Instructions.{kind, windowCosts};
+ghost use Rattle.rules.specs.Rules.Instructions.{skip, kind, windowCosts};
 ghost use Rattle.rules.specs.Rules.JobFile.{wordOf, register, withRegister, jump, branch, conditional, instr};
 ghost use Rattle.rules.specs.Rules.Plain.{Code};
 ghost use Rattle.rules.specs.Rules.Mispredicting.{remaining};
-ghost use Rattle.token.specs.Meaning.{tokensOf};
-ghost use Rattle.instruction.specs.Meaning.{registerReadMeaning, labelReadMeaning, meaning, withRegisterOf, instructionReadMeaning};
+ghost use Rattle.token.specs.Meaning.{readable, valueOr, tokensOf};
+ghost use Rattle.instruction.specs.Meaning.{registerReadMeaning, labelReadMeaning, meaning, withRegisterOf, instructionReadMeaning, Judged};
 
 // A register with the offset after it.
 pub enum RegisterRead {
@@ -66,10 +67,11 @@ pub enum Instruction {
     Barrier,
 }
 
-// An instruction with the offset of the next.
+// An instruction with the offset of the next; `sound` says whether its expressions keep the postfix rule.
 pub struct Decoded {
     pub instruction: Instruction,
     pub next: usize,
+    pub sound: bool,
 }
 
 pub enum InstructionRead {
@@ -91,13 +93,17 @@ fn with_register(kind: u8, r: u8, e: Expression) -> Instruction
 }
 
 fn read_with_register(p: &[u8], at: usize, kind: u8) -> InstructionRead
-    ensures { λ r. ⌜ instructionReadMeaning (now (p .entry)) r ≡ withRegister (withRegisterOf kind) (now (p .entry)) at ⌝ }
+    ensures { λ r. ⌜ (instructionReadMeaning (now (p .entry)) r ≡ withRegister (withRegisterOf kind) (now (p .entry)) at) × Judged (now (p .entry)) r ⌝ }
 {
     match read_register(p, at) {
         RegisterRead::Found(r, start) => match token::read_expression(p, start) {
-            ExpressionRead::Found(e, next) => {
+            ExpressionRead::Found(e, next, sound) => {
                 let instruction = with_register(kind, r, e);
-                InstructionRead::Found(Decoded { instruction, next })
+                InstructionRead::Found(Decoded {
+                    instruction,
+                    next,
+                    sound,
+                })
             }
             ExpressionRead::Refused(n) => InstructionRead::Refused(n),
         },
@@ -106,25 +112,33 @@ fn read_with_register(p: &[u8], at: usize, kind: u8) -> InstructionRead
 }
 
 fn read_jump(p: &[u8], at: usize) -> InstructionRead
-    ensures { λ r. ⌜ instructionReadMeaning (now (p .entry)) r ≡ jump (now (p .entry)) at ⌝ }
+    ensures { λ r. ⌜ (instructionReadMeaning (now (p .entry)) r ≡ jump (now (p .entry)) at) × Judged (now (p .entry)) r ⌝ }
 {
     match token::read_expression(p, at) {
-        ExpressionRead::Found(e, next) => {
+        ExpressionRead::Found(e, next, sound) => {
             let instruction = Instruction::Jump(e);
-            InstructionRead::Found(Decoded { instruction, next })
+            InstructionRead::Found(Decoded {
+                instruction,
+                next,
+                sound,
+            })
         }
         ExpressionRead::Refused(n) => InstructionRead::Refused(n),
     }
 }
 
 fn read_branch(p: &[u8], at: usize) -> InstructionRead
-    ensures { λ r. ⌜ instructionReadMeaning (now (p .entry)) r ≡ branch (now (p .entry)) at ⌝ }
+    ensures { λ r. ⌜ (instructionReadMeaning (now (p .entry)) r ≡ branch (now (p .entry)) at) × Judged (now (p .entry)) r ⌝ }
 {
     match read_register(p, at) {
         RegisterRead::Found(r, start) => match read_label(p, start) {
             LabelRead::Found(l, next) => {
                 let instruction = Instruction::BranchZero(r, l);
-                InstructionRead::Found(Decoded { instruction, next })
+                InstructionRead::Found(Decoded {
+                    instruction,
+                    next,
+                    sound: true,
+                })
             }
             LabelRead::Refused(n) => InstructionRead::Refused(n),
         },
@@ -133,14 +147,18 @@ fn read_branch(p: &[u8], at: usize) -> InstructionRead
 }
 
 fn read_conditional(p: &[u8], at: usize) -> InstructionRead
-    ensures { λ r. ⌜ instructionReadMeaning (now (p .entry)) r ≡ conditional (now (p .entry)) at ⌝ }
+    ensures { λ r. ⌜ (instructionReadMeaning (now (p .entry)) r ≡ conditional (now (p .entry)) at) × Judged (now (p .entry)) r ⌝ }
 {
     match read_register(p, at) {
         RegisterRead::Found(r, start) => match token::read_expression(p, start) {
-            ExpressionRead::Found(c, middle) => match token::read_expression(p, middle) {
-                ExpressionRead::Found(e, next) => {
+            ExpressionRead::Found(c, middle, first) => match token::read_expression(p, middle) {
+                ExpressionRead::Found(e, next, second) => {
                     let instruction = Instruction::AssignIf(r, c, e);
-                    InstructionRead::Found(Decoded { instruction, next })
+                    InstructionRead::Found(Decoded {
+                        instruction,
+                        next,
+                        sound: first & second,
+                    })
                 }
                 ExpressionRead::Refused(n) => InstructionRead::Refused(n),
             },
@@ -152,7 +170,7 @@ fn read_conditional(p: &[u8], at: usize) -> InstructionRead
 
 // The instruction at an offset.
 pub fn decode(p: &[u8], at: usize) -> InstructionRead
-    ensures { λ r. ⌜ instructionReadMeaning (now (p .entry)) r ≡ instr (now (p .entry)) at ⌝ }
+    ensures { λ r. ⌜ (instructionReadMeaning (now (p .entry)) r ≡ instr (now (p .entry)) at) × Judged (now (p .entry)) r ⌝ }
 {
     if p.len() <= at {
         return InstructionRead::Refused(Refusal::Encoding);
@@ -163,6 +181,7 @@ pub fn decode(p: &[u8], at: usize) -> InstructionRead
         0 => InstructionRead::Found(Decoded {
             instruction: Instruction::Skip,
             next,
+            sound: true,
         }),
         1 => read_with_register(p, next, 1),
         2 => read_with_register(p, next, 2),
@@ -173,8 +192,65 @@ pub fn decode(p: &[u8], at: usize) -> InstructionRead
         7 => InstructionRead::Found(Decoded {
             instruction: Instruction::Barrier,
             next,
+            sound: true,
         }),
         _ => InstructionRead::Refused(Refusal::Encoding),
+    }
+}
+
+fn with_register_at(p: &[u8], at: usize, kind: u8) -> Instruction
+    requires { ⌜ readable (withRegister (withRegisterOf kind) (now p) at) ≡ true ⌝ }
+    ensures { λ i. ⌜ meaning (now (p .entry)) i ≡ valueOr skip (withRegister (withRegisterOf kind) (now (p .entry)) at) ⌝ }
+{
+    let r = p[at];
+    let e = token::expression_at(p, at + 1);
+    with_register(kind, r, e)
+}
+
+fn jump_at(p: &[u8], at: usize) -> Instruction
+    requires { ⌜ readable (jump (now p) at) ≡ true ⌝ }
+    ensures { λ i. ⌜ meaning (now (p .entry)) i ≡ valueOr skip (jump (now (p .entry)) at) ⌝ }
+{
+    Instruction::Jump(token::expression_at(p, at))
+}
+
+fn branch_at(p: &[u8], at: usize) -> Instruction
+    requires { ⌜ readable (branch (now p) at) ≡ true ⌝ }
+    ensures { λ i. ⌜ meaning (now (p .entry)) i ≡ valueOr skip (branch (now (p .entry)) at) ⌝ }
+{
+    let r = p[at];
+    let l = Label::new(token::number(p, at + 1, 2) as usize);
+    Instruction::BranchZero(r, l)
+}
+
+// The condition's tokens are read for their extent alone.
+fn conditional_at(p: &[u8], at: usize) -> Instruction
+    requires { ⌜ readable (conditional (now p) at) ≡ true ⌝ }
+    ensures { λ i. ⌜ meaning (now (p .entry)) i ≡ valueOr skip (conditional (now (p .entry)) at) ⌝ }
+{
+    let r = p[at];
+    let c = token::expression_at(p, at + 1);
+    let middle = token::expression_end(p, c);
+    let e = token::expression_at(p, middle);
+    Instruction::AssignIf(r, c, e)
+}
+
+// The instruction at an offset where one can be read: its fields are taken as they stand, with no test.
+pub fn instruction_at(p: &[u8], at: usize) -> Instruction
+    requires { ⌜ readable (instr (now p) at) ≡ true ⌝ }
+    ensures { λ i. ⌜ meaning (now (p .entry)) i ≡ valueOr skip (instr (now (p .entry)) at) ⌝ }
+{
+    let k = p[at];
+    let next = at + 1;
+    match k {
+        1 => with_register_at(p, next, 1),
+        2 => with_register_at(p, next, 2),
+        3 => with_register_at(p, next, 3),
+        4 => jump_at(p, next),
+        5 => branch_at(p, next),
+        6 => conditional_at(p, next),
+        7 => Instruction::Barrier,
+        _ => Instruction::Skip,
     }
 }
 

@@ -1,15 +1,17 @@
 -- How the code's tests of the parts of a file meet the rules' parse.
 -- Assumes nothing.
 use mathlib.Core.Path.{_≡_, refl, sym, ap, _∙_}
-use mathlib.Core.Bool.{Bool, true, false, not, _&&_, cond}
+use mathlib.Core.Bool.{Bool, true, false, cond}
 use mathlib.Core.List.{List}
-use Prim.Native.Nat.{ℕ, suc, _+_, _-_, _<_, _≤_}
-use native.Mathlib.Nat.{sub-zero}
+use Prim.Native.Nat.{ℕ, zero, suc, _+_, _-_, _/_, _%_, _^_, _<_, _≤_}
+use native.Mathlib.Nat.{sub-zero, zero-div, div-one, div-div-eq-div-mul}
 use native.Mathlib.Omega.{arith}
-use lib.ListN.{take}
-use borrow.Author.Tests.{le-leb}
+use lib.Dec.{eqb}
+use lib.ListN.{getD, take}
+use lib.Pow.{pow-add}
+use borrow.Author.Tests.{le-leb, ne-eqb}
 use Rattle.location.specs.declared.LocationSet.{LocationSet}
-use Rattle.location.specs.Sets.{registers, limit, member}
+use Rattle.location.specs.Sets.{limit, member, has, bit}
 use Rattle.rules.specs.declared.Trailer.{Trailer}
 use Rattle.rules.specs.declared.Refusal.{Refusal}
 use Rattle.rules.specs.declared.Refusal.the-variants as refusals
@@ -27,27 +29,57 @@ pub sized-true : {len : ℕ} → 16 ≤ len → len ≤ 16384 → sized len ≡ 
 unfolding sized
 sized-true {len} h g = rw (le-leb 16 len h, le-leb len 16384 g)
 
--- ---- the cells from a on, up to the limit of the set
-abbrev pub noCellFrom : LocationSet → ℕ → Bool
-noCellFrom s a = noneFrom s (registers + a) (limit - (registers + a))
+-- ---- the locations from l on, up to the limit of the set
+abbrev pub noneOn : LocationSet → ℕ → Bool
+noneOn s l = noneFrom s l (limit - l)
 
-more-cells : (s : LocationSet) (a : ℕ) → a < 240 → noCellFrom s a ≡ (not (member s (registers + a)) && noCellFrom s (a + 1))
+-- k locations from l on that are not in the set are passed
+passed : (s : LocationSet) (k l m n l′ : ℕ) → n ≡ k + m → l′ ≡ l + k → ((j : ℕ) → j < k → member s (l + j) ≡ false)
+    → noneFrom s l n ≡ noneFrom s l′ m
 unfolding noneFrom
-more-cells s a h =
-    let e : limit - (registers + a) ≡ suc (limit - (registers + (a + 1))) = omega arith in
-    let f : registers + a + 1 ≡ registers + (a + 1) = omega arith in
-    rw (e, f)
+passed s zero l m n l′ e f h = let e₁ : n ≡ m = omega arith in let f₁ : l ≡ l′ = omega arith in rw (e₁, f₁)
+passed s (suc k) l m n l′ e f h =
+    let e₁ : n ≡ suc (k + m) = omega arith in
+    let z : l + 0 ≡ l = omega arith in
+    let o = rw z at (h 0 (omega arith)) in
+    rw (e₁, o)
+    (passed s k (l + 1) m (k + m) l′ refl (omega arith) (λ j w. let q : l + 1 + j ≡ l + suc j = omega arith in rw q (h (suc j) (omega arith))))
 
--- l is the location of the cell with address a
-pub cell-in : (s : LocationSet) (a l : ℕ) → l ≡ registers + a → a < 240 → member s l ≡ true → false ≡ noCellFrom s a
-cell-in s a l e h m = sym (more-cells s a h ∙ ap (λ (b : Bool). not b && noCellFrom s (a + 1)) (rw e at m))
+-- r is what is left of the word of l, from the bit of l on
+module _ (s : LocationSet) (l r : ℕ) (below : l < limit) (left : r ≡ getD (s .words) (l / 64) 0 / 2 ^ (l % 64)) where
+  bit-left : (j : ℕ) → j < 64 - l % 64 → member s (l + j) ≡ eqb (r / 2 ^ j % 2) 1
+  unfolding member has bit
+  bit-left j h =
+      let d : (l + j) / 64 ≡ l / 64 = omega arith in
+      let m : (l + j) % 64 ≡ l % 64 + j = omega arith in
+      rw (d, m, pow-add 2 (l % 64) j, left, div-div-eq-div-mul)
 
-pub cell-out : (s : LocationSet) (a l : ℕ) → l ≡ registers + a → a < 240 → member s l ≡ false → noCellFrom s (a + 1) ≡ noCellFrom s a
-cell-out s a l e h m = sym (more-cells s a h ∙ ap (λ (b : Bool). not b && noCellFrom s (a + 1)) (rw e at m))
+  member-left : member s l ≡ eqb (r % 2) 1
+  member-left =
+      let z : l + 0 ≡ l = omega arith in
+      rw (z, div-one) at (bit-left 0 (omega arith))
 
-pub no-cell-left : (s : LocationSet) (a : ℕ) → 240 ≤ a → true ≡ noCellFrom s a
+  pub word-passed : r ≡ 0 → noneOn s (l + (64 - l % 64)) ≡ noneOn s l
+  word-passed e =
+      let n : limit - l ≡ 64 - l % 64 + (limit - (l + (64 - l % 64))) = omega arith in
+      sym (passed s (64 - l % 64) l _ _ _ n refl (λ j h. bit-left j h ∙ rw (e, zero-div (2 ^ j))))
+
+  pub location-in : r % 2 ≡ 1 → false ≡ noneOn s l
+  unfolding noneFrom
+  location-in e =
+      let n : limit - l ≡ suc (limit - (l + 1)) = omega arith in
+      let m : member s l ≡ true = member-left ∙ rw e in
+      rw (n, m)
+
+  pub location-out : (r % 2 ≡ 1 → ⊥) → noneOn s (l + 1) ≡ noneOn s l
+  location-out e =
+      let n : limit - l ≡ 1 + (limit - (l + 1)) = omega arith in
+      let m : member s l ≡ false = member-left ∙ ne-eqb (r % 2) 1 e in
+      sym (passed s 1 l _ _ _ n refl (λ j h. let z : l + j ≡ l = omega arith in rw z m))
+
+pub none-left : (s : LocationSet) (l : ℕ) → limit ≤ l → true ≡ noneOn s l
 unfolding noneFrom
-no-cell-left s a h = let e : limit - (registers + a) ≡ 0 = omega arith in rw e
+none-left s l h = let e : limit - l ≡ 0 = omega arith in rw e
 
 -- ---- the rest of the parse, where the program's tests are passed or not
 -- the program's bytes as the code takes them, from 0 up to the state

@@ -1,13 +1,11 @@
 // A job file: its trailer, limits and offsets, its program, state and public list; refusals 1 to 8. No offset is trusted
 // before it is tested: `read_job` asks nothing of the bytes.
-use location::Address;
-use location::Location;
 use location::LocationSet;
 use program::Checked;
 use rules::Refusal;
 use rules::Trailer;
 ghost use mathlib.Core.Path.{_≡_};
-ghost use Prim.Native.Nat.{ℕ, _+_, _-_, _*_, _<_, _≤_};
+ghost use Prim.Native.Nat.{ℕ, _+_, _-_, _*_, _/_, _%_, _^_, _<_, _≤_};
 ghost use lib.ListN.{length, getD};
 ghost use Rattle.location.specs.Sets.{registers, limit};
 ghost use Rattle.rules.specs.Rules.JobFile.{little, trailerAt, trailer, limits, offsets, wordsAt, publicOf, noneFrom, programOf, finish, parse};
@@ -98,17 +96,32 @@ pub fn public_list(job: &[u8], t: Trailer) -> LocationSet
     }
 }
 
-// Whether no cell from a first one on is in the set.
+// The bits of a location's word, from that location on.
+fn rest_of_word(set: LocationSet, l: usize) -> u64
+    requires { ⌜ l < limit ⌝ }
+    ensures { λ r. ⌜ r ≡ getD (set .words) (l / 64) 0 / 2 ^ (l % 64) ⌝ }
+{
+    let words = set.words;
+    let i = l / 64;
+    words[i] >> (l % 64)
+}
+
+// Whether no cell from a first one on is in the set. What is left of a word that is 0 is passed at once.
 fn no_cell_from(set: LocationSet, first: usize) -> bool
     requires { ⌜ first ≤ 240 ⌝ }
     ensures { λ r. ⌜ r ≡ noneFrom set (registers + first) (limit - (registers + first)) ⌝ }
 {
-    let mut a = first as u64;
-    while a < 240 {
-        if set.member(Location::cell(Address::new(a))) {
-            return false;
+    let mut l = 16 + first;
+    while l < LocationSet::LIMIT {
+        let rest = rest_of_word(set, l);
+        if rest == 0 {
+            l += 64 - l % 64;
+        } else {
+            if rest % 2 == 1 {
+                return false;
+            }
+            l += 1;
         }
-        a += 1;
     }
     true
 }

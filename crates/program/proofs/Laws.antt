@@ -1,6 +1,7 @@
--- How the loop over instructions and the decoder at a label meet the rules.
+-- How the loop over instructions and the instruction at a label meet the rules.
 -- Assumes nothing.
-use mathlib.Core.Path.{_≡_, refl, sym, ap, _∙_}
+use mathlib.Core.Path.{_≡_, refl, ap, _∙_}
+use mathlib.Core.Bool.{true}
 use mathlib.Core.List.{List, [], _∷_}
 use Prim.Native.Nat.{ℕ, suc, _+_}
 use native.Mathlib.Omega.{arith}
@@ -10,12 +11,8 @@ use Rattle.rules.specs.Rules.Instructions.{Instr, skip}
 use Rattle.rules.specs.Rules.JobFile.{Read, got, refused, andThen, instr, instruction, program}
 use Rattle.token.specs.Meaning.{valueOr}
 use Rattle.program.specs.declared.Checked.the-variants as check
-use Rattle.instruction.specs.declared.Decoded.{Decoded}
-use Rattle.instruction.specs.declared.InstructionRead.{InstructionRead}
-use Rattle.instruction.specs.declared.InstructionRead.the-variants as instruction-read
-use Rattle.instruction.specs.Meaning.{instructionReadMeaning}
 use Rattle.program.specs.Checks.{checkedOf}
-use Rattle.program.specs.Offsets.{offsetsFrom, Stands, Fetchable, Fetched, labelled, got-not-refused, got-same}
+use Rattle.program.specs.Offsets.{readable, offsetsFrom, Stands, Fetchable, labelled}
 
 -- ---- the program: one instruction more, or a refusal
 first : (R : Read (List Instr)) (x : Instr) → checkedOf (andThen R (λ xs q. got (x ∷ xs) q)) ≡ checkedOf R
@@ -42,19 +39,17 @@ pub program-refused : (n k i : ℕ) (p : List ℕ) (at : ℕ) (r : Refusal) → 
 unfolding program
 program-refused n k i p at r e = halted (instruction n i p at) (program n k (i + 1) p) r e
 
--- ---- fetching: the answer r of the decoder at the label's entry
-module _ (p : List ℕ) (n : ℕ) (table : List ℕ) (base label i : ℕ) (r : InstructionRead) (asked : Fetchable p n table base label) (same : i ≡ label)
-    (decoded : instructionReadMeaning p r ≡ instr p (getD table (base + i) 0)) where
-  at-offset : instructionReadMeaning p r ≡ instr p (getD (offsetsFrom n p 0) label 0)
-  at-offset = decoded ∙ ap (λ (j : ℕ). instr p (getD table (base + j) 0)) same ∙ ap (instr p) (asked .entry)
+-- ---- fetching: the instruction at the label's entry can be read, and is the program's with that label
+module _ (p : List ℕ) (n : ℕ) (table : List ℕ) (base label i : ℕ) (asked : Fetchable p n table base label) (same : i ≡ label) where
+  entry-same : getD table (base + i) 0 ≡ getD (offsetsFrom n p 0) label 0
+  entry-same = ap (λ (j : ℕ). getD table (base + j) 0) same ∙ asked .entry
 
   stands : Stands n (0 + label) p (getD (offsetsFrom n p 0) label 0) (getD (valueOr [] (program n n 0 p 0)) label skip)
   stands = labelled n n 0 p 0 (asked .accepted) label (asked .inside)
 
-  pub fetched : (d : Decoded) → r ≡ instruction-read.Found d → Fetched p n label d
-  fetched d e =
-      let f : instructionReadMeaning p (instruction-read.Found d) ≡ instr p (getD (offsetsFrom n p 0) label 0) = sym (ap (instructionReadMeaning p) e) ∙ at-offset in
-      record { read = f; same = got-same (f ∙ stands .read) }
+  pub entry-readable : readable (instr p (getD table (base + i) 0)) ≡ true
+  unfolding readable
+  entry-readable = rw (entry-same, stands .read)
 
-  pub not-refused : {P : Type 0} (w : Refusal) → r ≡ instruction-read.Refused w → P
-  not-refused w e = got-not-refused (sym (ap (instructionReadMeaning p) e) ∙ at-offset ∙ stands .read)
+  pub entry-instruction : valueOr skip (instr p (getD table (base + i) 0)) ≡ getD (valueOr [] (program n n 0 p 0)) label skip
+  entry-instruction = rw (entry-same, stands .read)

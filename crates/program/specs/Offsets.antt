@@ -12,25 +12,13 @@ use Rattle.rules.specs.declared.Refusal.the-variants as refusals
 use Rattle.rules.specs.Rules.Instructions.{Instr, skip}
 use Rattle.rules.specs.Rules.JobFile.{Read, got, refused, andThen, instr, postfix, target, instruction, program}
 use Rattle.token.specs.Meaning.{valueOr}
-use Rattle.instruction.specs.declared.Decoded.{Decoded}
-use Rattle.instruction.specs.declared.InstructionRead.the-variants as instruction-read
-use Rattle.instruction.specs.Meaning.{meaning, instructionReadMeaning}
+unfoldable pub use Rattle.token.specs.Meaning.{readable, nextOffset}
 
 -- ---- offsets
--- the offset after what was read
-unfoldable pub nextOffset : {A : Type 0} → Read A → ℕ
-nextOffset (got a q) = q
-nextOffset (refused r) = 0
-
 -- the offsets of k instructions, the first at an offset
 unfoldable pub offsetsFrom : ℕ → List ℕ → ℕ → List ℕ
 offsetsFrom zero p at = []
 offsetsFrom (suc k) p at = at ∷ offsetsFrom k p (nextOffset (instr p at))
-
--- whether something was read
-unfoldable pub readable : {A : Type 0} → Read A → Bool
-readable (got a q) = true
-readable (refused r) = false
 
 -- The instruction with label i of n is x and stands at an offset: it can be read there, and passed the tests of 5 and 6.
 pub record Stands (n i : ℕ) (p : List ℕ) (at : ℕ) (x : Instr) : Type 0 where
@@ -44,11 +32,6 @@ pub record Fetchable (p : List ℕ) (n : ℕ) (table : List ℕ) (base label : �
   pub room : base + label < length table
   pub entry : getD table (base + label) 0 ≡ getD (offsetsFrom n p 0) label 0
   pub accepted : readable (program n n 0 p 0) ≡ true
-
--- What `fetch` gives: what the rules read at the label's offset, which is the program's instruction with that label.
-pub record Fetched (p : List ℕ) (n label : ℕ) (d : Decoded) : Type 0 where
-  pub read : instructionReadMeaning p (instruction-read.Found d) ≡ instr p (getD (offsetsFrom n p 0) label 0)
-  pub same : meaning p (d .instruction) ≡ getD (valueOr [] (program n n 0 p 0)) label skip
 
 -- ---- the table of offsets
 pub length-offsetsFrom : (k : ℕ) (p : List ℕ) (at : ℕ) → length (offsetsFrom k p at) ≡ k

@@ -1,40 +1,19 @@
 // A program: its tests (refusals 4 to 7), the byte offset of each label, and the instruction with a label.
-use instruction::Decoded;
 use instruction::Instruction;
 use instruction::InstructionRead;
 use location::Label;
 use rules::Refusal;
 ghost use mathlib.Core.Path.{_≡_};
-ghost use mathlib.Core.List.{List};
+ghost use mathlib.Core.List.{List, []};
 ghost use Prim.Native.Nat.{ℕ, _+_, _<_, _≤_};
-ghost use lib.ListN.{length};
+ghost use lib.ListN.{length, getD};
 ghost use lib.Seq.{sets};
-ghost use Rattle.rules.specs.Rules.JobFile.{instr, postfix, target, instruction, program};
+ghost use Rattle.rules.specs.Rules.Instructions.{skip};
+ghost use Rattle.rules.specs.Rules.JobFile.{instr, target, instruction, program};
+ghost use Rattle.token.specs.Meaning.{valueOr};
 ghost use Rattle.instruction.specs.Meaning.{meaning};
 ghost use Rattle.program.specs.Checks.{checkedOf};
-ghost use Rattle.program.specs.Offsets.{nextOffset, offsetsFrom, Fetchable, Fetched};
-
-// Whether every expression of an instruction keeps the postfix rule.
-fn postfix_holds(p: &[u8], i: Instruction) -> bool
-    ensures { λ r. ⌜ r ≡ postfix (meaning (now (p .entry)) i) ⌝ }
-{
-    match i {
-        Instruction::Skip => true,
-        Instruction::Assign(_, e) => token::well_formed(p, e),
-        Instruction::Load(_, e) => token::well_formed(p, e),
-        Instruction::Store(_, e) => token::well_formed(p, e),
-        Instruction::Jump(e) => token::well_formed(p, e),
-        Instruction::BranchZero(_, _) => true,
-        Instruction::AssignIf(_, c, e) => {
-            if token::well_formed(p, c) {
-                token::well_formed(p, e)
-            } else {
-                false
-            }
-        }
-        Instruction::Barrier => true,
-    }
-}
+ghost use Rattle.program.specs.Offsets.{nextOffset, offsetsFrom, Fetchable};
 
 // Whether the branch label, if it has one, of the instruction with a label is allowed: at most n, and not the next label.
 fn branch_label_holds(i: Instruction, n: usize, label: usize) -> bool
@@ -76,7 +55,7 @@ fn check_instruction(p: &[u8], at: usize, n: usize, label: usize) -> Checked
     match instruction::decode(p, at) {
         InstructionRead::Found(d) => {
             let i = d.instruction;
-            if postfix_holds(p, i) {
+            if d.sound {
                 if branch_label_holds(i, n, label) {
                     Checked::Next(d.next)
                 } else {
@@ -138,17 +117,11 @@ pub fn write_offsets(p: &[u8], n: usize, table: &mut [u64], base: usize)
 }
 
 // The instruction with a label, of a program of n instructions that was accepted, by its offset in the table.
-pub fn fetch(p: &[u8], n: usize, table: &[u64], base: usize, label: Label) -> Decoded
+pub fn fetch(p: &[u8], n: usize, table: &[u64], base: usize, label: Label) -> Instruction
     requires { ⌜ Fetchable (now p) n (now table) base (label .0) ⌝ }
-    ensures { λ r. ⌜ Fetched (now (p .entry)) n (label .0) r ⌝ }
+    ensures { λ i. ⌜ meaning (now (p .entry)) i ≡ getD (valueOr [] (program n n 0 (now (p .entry)) 0)) (label .0) skip ⌝ }
 {
     let entry = base + label.index();
     let at = table[entry] as usize;
-    match instruction::decode(p, at) {
-        InstructionRead::Found(d) => d,
-        InstructionRead::Refused(_) => Decoded {
-            instruction: Instruction::Skip,
-            next: 0,
-        },
-    }
+    instruction::instruction_at(p, at)
 }

@@ -1,16 +1,18 @@
 -- What the code's counts, stores and windows are in the rules.
 -- Assumes nothing.
 use mathlib.Core.Path.{_≡_, refl, sym, ap, _∙_}
+use mathlib.Core.Bool.{Bool, true, false, cond}
 use mathlib.Core.List.{List, [], _∷_, append-nil}
 use mathlib.Core.Logic.{_≢_}
-use Prim.Native.Nat.{ℕ, zero, suc, _+_, _*_, _<_}
+use Prim.Native.Nat.{ℕ, zero, suc, _+_, _-_, _*_, _<_}
 use native.Mathlib.Omega.{arith}
-use lib.ListN.{length}
+use lib.Dec.{eqb}
+use lib.ListN.{length, getD}
 use lib.Seq.{sets}
 use Rattle.location.specs.declared.LocationSet.{LocationSet}
 use Rattle.location.specs.Sets.{union}
 use Rattle.rules.specs.Rules.Calls.{observationWords, traceWords}
-use Rattle.rules.specs.Rules.Instructions.{Observation, Instr, windowCosts}
+use Rattle.rules.specs.Rules.Instructions.{Observation, Instr, kind, windowCosts}
 use Rattle.rules.specs.Rules.Plain.{State, Code}
 use Rattle.rules.specs.Rules.Mispredicting.{Branch, remaining, lower, newWindow}
 use Rattle.rules.specs.Rules.Runs.{gather}
@@ -86,3 +88,15 @@ leaves w c i u v eu ev = record { exact = exact; less = less }
         let any : Code = record { prog = []; cells = 0; window = 0; costs = windowCosts } in
         let ne : windowIn w (c .depth) ≢ 0 = λ z. omega arith in
         omega (arith, exact [] any refl, remaining-less any windowCosts-positive (meaning [] i) (windowIn w (c .depth)) ne)
+
+-- with nothing open
+remaining-zero : (code : Code) (i : Instr) → remaining code i 0 ≡ 0
+unfolding remaining
+remaining-zero code i = go (eqb (kind i) 7)
+  where
+    go : (b : Bool) → cond b 0 (0 - getD (code .costs) (kind i) 0) ≡ 0
+    go true = refl
+    go false = omega arith
+
+pub leaves-none : (w : List ℕ) (c : Control) (i : Instruction) → c .depth ≡ 0 → Leaves w c i 0
+leaves-none w c i e = leaves w c i 0 0 (sym (ap (windowIn w) e)) (λ p code h. sym (remaining-zero code (meaning p i)))

@@ -107,11 +107,14 @@ pub fn roll_back(work: &mut [u64], trace: &mut [u64], c: Progress) -> Progress
     count_step(c, next, 2, 1, LocationSet::empty())
 }
 
-// What an instruction leaves of the top's window.
+// What an instruction leaves of the top's window; 0 with nothing open.
 fn remaining_window(work: &[u64], c: Control, i: Instruction) -> usize
     requires { ⌜ Fit (now work) c ⌝ }
     ensures { λ r. ⌜ Leaves (now (work .entry)) c i r ⌝ }
 {
+    if c.depth == 0 {
+        return 0;
+    }
     let window = work::machine::top_window(work, c);
     instruction::lowered(window as u64, i) as usize
 }

@@ -1,10 +1,12 @@
 -- What the answers of this crate's code mean in the rules: a token, the tokens of an expression, and what a reader found.
 -- Assumes nothing.
+use mathlib.Core.Path.{_≡_}
+use mathlib.Core.Bool.{Bool, true, false}
 use mathlib.Core.List.{List, []}
 use Prim.Native.Nat.{ℕ}
 use lib.ListN.{getD}
 use Rattle.rules.specs.Rules.Operators.{neg, add}
-use Rattle.rules.specs.Rules.Expressions.{Token, reg, const, op1, op2, Expr, held}
+use Rattle.rules.specs.Rules.Expressions.{Token, reg, const, op1, op2, Expr, held, sound}
 use Rattle.rules.specs.Rules.JobFile.{Read, got, refused, unary, binary, tokens}
 use Rattle.token.specs.declared.Token as code
 use Rattle.token.specs.declared.Token.the-variants as token
@@ -31,6 +33,16 @@ abbrev pub scanOf : ℕ → Read Expr → Scan
 scanOf d (got ts q) = scan.Past q (held d ts)
 scanOf d (refused r) = scan.Refused r
 
+-- whether something was read
+unfoldable pub readable : {A : Type 0} → Read A → Bool
+readable (got a q) = true
+readable (refused r) = false
+
+-- the offset after what was read
+unfoldable pub nextOffset : {A : Type 0} → Read A → ℕ
+nextOffset (got a q) = q
+nextOffset (refused r) = 0
+
 -- what was read, or a value in its place
 abbrev pub valueOr : {A : Type 0} → A → Read A → A
 valueOr d (got a q) = a
@@ -41,5 +53,10 @@ unfoldable pub tokensOf : List ℕ → Expression → Expr
 tokensOf p e = valueOr [] (tokens (e .count) p (e .at))
 
 abbrev pub expressionReadMeaning : List ℕ → ExpressionRead → Read Expr
-expressionReadMeaning p (expression-read.Found e q) = got (tokensOf p e) q
+expressionReadMeaning p (expression-read.Found e q b) = got (tokensOf p e) q
 expressionReadMeaning p (expression-read.Refused r) = refused r
+
+-- an expression that was found comes with its answer to the postfix rule
+abbrev pub Judged : List ℕ → ExpressionRead → Type 0
+Judged p (expression-read.Found e q b) = b ≡ sound (tokensOf p e)
+Judged p (expression-read.Refused r) = Unit {0}

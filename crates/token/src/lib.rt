@@ -2,11 +2,12 @@
 // and an offset; it answers what stands there with the next offset, or a refusal.
 use rules::Refusal;
 ghost use mathlib.Core.Path.{_≡_};
+ghost use mathlib.Core.Bool.{true};
 ghost use Prim.Native.Nat.{_+_, _*_, _^_, _<_, _≤_};
 ghost use lib.ListN.{length};
-ghost use Rattle.rules.specs.Rules.Expressions.{takes, after, sound};
+ghost use Rattle.rules.specs.Rules.Expressions.{takes, after};
 ghost use Rattle.rules.specs.Rules.JobFile.{little, token, tokens, expr};
-ghost use Rattle.token.specs.Meaning.{tokenMeaning, tokenReadMeaning, scanOf, tokensOf, expressionReadMeaning};
+ghost use Rattle.token.specs.Meaning.{tokenMeaning, tokenReadMeaning, scanOf, readable, nextOffset, expressionReadMeaning, Judged};
 
 fn wide(b: u8) -> u64
     ensures { λ r. ⌜ (r ≡ b) × (r < 256) ⌝ }
@@ -133,14 +134,15 @@ pub struct Expression {
     pub count: usize,
 }
 
-// An expression with the offset after it.
+// An expression with the offset after it, and whether it keeps the postfix rule.
 pub enum ExpressionRead {
-    Found(Expression, usize),
+    Found(Expression, usize, bool),
     Refused(Refusal),
 }
 
+// The expression at an offset: its tokens are read once, for their extent and for the postfix rule.
 pub fn read_expression(p: &[u8], at: usize) -> ExpressionRead
-    ensures { λ r. ⌜ expressionReadMeaning (now (p .entry)) r ≡ expr (now (p .entry)) at ⌝ }
+    ensures { λ r. ⌜ (expressionReadMeaning (now (p .entry)) r ≡ expr (now (p .entry)) at) × Judged (now (p .entry)) r ⌝ }
 {
     if p.len() <= at {
         return ExpressionRead::Refused(Refusal::Encoding);
@@ -154,17 +156,29 @@ pub fn read_expression(p: &[u8], at: usize) -> ExpressionRead
         return ExpressionRead::Refused(Refusal::Encoding);
     }
     match scan_tokens(p, start, count) {
-        Scan::Past(next, _) => ExpressionRead::Found(Expression { at: start, count }, next),
+        Scan::Past(next, held) => {
+            let e = Expression { at: start, count };
+            ExpressionRead::Found(e, next, held == 1)
+        }
         Scan::Refused(r) => ExpressionRead::Refused(r),
     }
 }
 
-// Whether an expression keeps the postfix rule.
-pub fn well_formed(p: &[u8], e: Expression) -> bool
-    ensures { λ r. ⌜ r ≡ sound (tokensOf (now (p .entry)) e) ⌝ }
+// The expression at an offset where one can be read, as it stands: no token is read.
+pub fn expression_at(p: &[u8], at: usize) -> Expression
+    requires { ⌜ readable (expr (now p) at) ≡ true ⌝ }
+    ensures { λ r. ⌜ tokens (r .count) (now (p .entry)) (r .at) ≡ expr (now (p .entry)) at ⌝ }
+{
+    let count = wide(p[at]) as usize;
+    Expression { at: at + 1, count }
+}
+
+// The offset after the tokens of an expression; 0 where they cannot be read.
+pub fn expression_end(p: &[u8], e: Expression) -> usize
+    ensures { λ r. ⌜ r ≡ nextOffset (tokens (e .count) (now (p .entry)) (e .at)) ⌝ }
 {
     match scan_tokens(p, e.at, e.count) {
-        Scan::Past(_, held) => held == 1,
-        Scan::Refused(_) => false,
+        Scan::Past(next, _) => next,
+        Scan::Refused(_) => 0,
     }
 }

@@ -93,8 +93,8 @@ returns-4 c =
     let i = inside (a .t .count) (a .work .now) (a .c .control) n o e in
     let f = rw (c .before .before .before .before .before .before .before .before .before .new .ensures) at (c .before .before .before .before .before .before .before .fetch .ensures) in
     let k = closed-false (a .c .control .depth) (a .t .count) (a .c .control .place) o in
-    turned-on (a .p .now) (a .t) (a .mode) (a .work .now) _ (a .trace .now) _ _ (a .c) _ _ (c .before .before .before .before .before .before .before .before .before .before .before .before .before .before .before .before .before .before .before .before .before .before .pre) k (c .before .before .before .before .before .before .before .before .before .before .before .before .before .if2 .left) e
-    (fetched-same (a .p .now) (a .t) (a .mode) (a .work .now) (a .trace .now) (a .c) (c .before .before .before .before .before .before .before .before .before .before .before .before .before .before .before .before .before .before .before .before .before .before .pre) i _ f) (c .before .before .before .before .advance .ensures)
+    turned-on (a .p .now) (a .t) (a .mode) (a .work .now) _ (a .trace .now) _ (c .before .before .before .before .before .before .before .fetch .result) (a .c) _ _ (c .before .before .before .before .before .before .before .before .before .before .before .before .before .before .before .before .before .before .before .before .before .before .pre) k (c .before .before .before .before .before .before .before .before .before .before .before .before .before .if2 .left) e
+    (fetched-same (a .p .now) (a .t) (a .mode) (a .work .now) (a .trace .now) (a .c) (c .before .before .before .before .before .before .before .before .before .before .before .before .before .before .before .before .before .before .before .before .before .before .pre) i (c .before .before .before .before .before .before .before .fetch .result) f) (c .before .before .before .before .advance .ensures)
 
 pub take-turn-spec : {M : Type 1} → statement M
 take-turn-spec =

@@ -15,11 +15,13 @@ enum-known-n c = search needs
 
 returns : tie.Need-returns
 unfolding jump
-returns c = rw (← (c .before .before .before .read-expression .ensures), c .before .e .given .1)
+returns c =
+    let x = c .before .before .before .read-expression .ensures in
+    (rw (← (x .0), c .before .e .given .1), rw (c .before .e .given .1) at (x .1))
 
 returns-2 : tie.Need-returns-2
 unfolding jump
-returns-2 c = rw (← (c .before .before .before .read-expression .ensures), c .before .n .given .1)
+returns-2 c = (rw (← (c .before .before .before .read-expression .ensures .0), c .before .n .given .1), tt)
 
 pub read-jump-spec : {M : Type 1} → statement M
 read-jump-spec =

@@ -10,9 +10,6 @@ decode-requires c κs = search needs
 enum-known-d : tie.Need-enum-known-d
 enum-known-d c = search needs
 
-postfix-holds-requires : tie.Need-postfix-holds-requires
-postfix-holds-requires c κs = search needs
-
 branch-label-holds-requires : tie.Need-branch-label-holds-requires
 branch-label-holds-requires c κs = search needs
 
@@ -23,39 +20,28 @@ returns : tie.Need-returns
 unfolding instruction
 returns c =
     let b = c .before .before in
-    let d = b .before .before .before in
-    rw (
-      ← (d .before .before .decode .ensures),
-      d .d .given .1,
-      ← (b .before .postfix-holds .ensures),
-      b .if1 .taken,
-      ← (c .before .branch-label-holds .ensures _),
-      c .if2 .taken,
-    )
+    let d = b .before .before in
+    let x = d .before .before .decode .ensures in
+    rw (← (x .0), d .d .given .1, ← (rw (d .d .given .1) at (x .1)), b .if1 .taken, ← (c .before .branch-label-holds .ensures _), c .if2 .taken)
 
 returns-2 : tie.Need-returns-2
 unfolding instruction
 returns-2 c =
     let b = c .before .before in
-    let d = b .before .before .before in
-    rw (
-      ← (d .before .before .decode .ensures),
-      d .d .given .1,
-      ← (b .before .postfix-holds .ensures),
-      b .if1 .taken,
-      ← (c .before .branch-label-holds .ensures _),
-      c .if2 .left,
-    )
+    let d = b .before .before in
+    let x = d .before .before .decode .ensures in
+    rw (← (x .0), d .d .given .1, ← (rw (d .d .given .1) at (x .1)), b .if1 .taken, ← (c .before .branch-label-holds .ensures _), c .if2 .left)
 
 returns-3 : tie.Need-returns-3
 unfolding instruction
 returns-3 c =
-    let d = c .before .before .before in
-    rw (← (d .before .before .decode .ensures), d .d .given .1, ← (c .before .postfix-holds .ensures), c .if1 .left)
+    let d = c .before .before in
+    let x = d .before .before .decode .ensures in
+    rw (← (x .0), d .d .given .1, ← (rw (d .d .given .1) at (x .1)), c .if1 .left)
 
 returns-4 : tie.Need-returns-4
 unfolding instruction
-returns-4 c = rw (← (c .before .before .before .decode .ensures), c .before .r .given .1)
+returns-4 c = rw (← (c .before .before .before .decode .ensures .0), c .before .r .given .1)
 
 pub check-instruction-spec : {M : Type 1} → statement M
 check-instruction-spec =
@@ -63,7 +49,6 @@ check-instruction-spec =
     (tie.spec
     decode-requires
     enum-known-d
-    postfix-holds-requires
     branch-label-holds-requires
     enum-known-r
     returns

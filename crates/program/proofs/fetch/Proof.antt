@@ -1,5 +1,6 @@
 -- `program::fetch` meets its contract: an accepted program has its instruction at the offset of each label. Assumes nothing.
-use Rattle.program.proofs.Laws.{fetched, not-refused}
+use mathlib.Core.Path.{_∙_}
+use Rattle.program.proofs.Laws.{entry-readable, entry-instruction}
 use borrow.Author.Needs.{needs}
 use Rattle.program.proofs.fetch.Statement.{statement}
 use Rattle.program.proofs.fetch.Tie as tie
@@ -16,30 +17,17 @@ mul-at c = search needs
 shared-slice-read-at : tie.Need-shared-slice-read-at
 shared-slice-read-at c = search needs
 
-decode-requires : tie.Need-decode-requires
-decode-requires c κs = search needs
-
-enum-known-d : tie.Need-enum-known-d
-enum-known-d c = search needs
-
-enum-told : tie.Need-enum-told
-enum-told c = search needs
+instruction-at-requires : tie.Need-instruction-at-requires
+instruction-at-requires c κs =
+    let s = c .before .before .before .before in
+    let a = s .args in
+    entry-readable (a .p .now) (a .n) (a .table .now) (a .base) (a .label .0) _ (s .pre) (c .before .index .ensures)
 
 returns : tie.Need-returns
 returns c =
-    let b = c .before .before .before in
-    let s = b .before .before .before .before .before in
+    let s = c .before .before .before .before .before in
     let a = s .args in
-    fetched (a .p .now) (a .n) (a .table .now) (a .base) (a .label .0) _ _
-    (s .pre) (b .before .before .index .ensures) (b .decode .ensures) _ (c .before .d .given .1)
-
-returns-2 : tie.Need-returns-2
-returns-2 c =
-    let b = c .before .before in
-    let s = b .before .before .before .before .before in
-    let a = s .args in
-    not-refused (a .p .now) (a .n) (a .table .now) (a .base) (a .label .0) _ _
-    (s .pre) (b .before .before .index .ensures) (b .decode .ensures) _ (c .enum-told .given .1)
+    c .instruction-at .ensures ∙ entry-instruction (a .p .now) (a .n) (a .table .now) (a .base) (a .label .0) _ (s .pre) (c .before .before .index .ensures)
 
 pub fetch-spec : {M : Type 1} → statement M
 fetch-spec =
@@ -49,8 +37,5 @@ fetch-spec =
     add-entry
     mul-at
     shared-slice-read-at
-    decode-requires
-    enum-known-d
-    enum-told
-    returns
-    returns-2)
+    instruction-at-requires
+    returns)

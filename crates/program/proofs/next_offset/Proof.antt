@@ -15,11 +15,11 @@ enum-told c = search needs
 
 returns : tie.Need-returns
 unfolding nextOffset
-returns c = rw (← (c .before .before .before .decode .ensures), c .before .d .given .1)
+returns c = rw (← (c .before .before .before .decode .ensures .0), c .before .d .given .1)
 
 returns-2 : tie.Need-returns-2
 unfolding nextOffset
-returns-2 c = rw (← (c .before .before .decode .ensures), c .enum-told .given .1)
+returns-2 c = rw (← (c .before .before .decode .ensures .0), c .enum-told .given .1)
 
 pub next-offset-spec : {M : Type 1} → statement M
 next-offset-spec = tie.close (tie.spec decode-requires enum-known-d enum-told returns returns-2)

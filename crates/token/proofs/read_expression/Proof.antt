@@ -1,9 +1,12 @@
 -- `token::read_expression` meets its contract, by the tests on the token count; the scan gives the rest. Assumes nothing.
-use mathlib.Core.Path.{sym, _∙_}
+use mathlib.Core.Path.{sym, ap, _∙_}
+use Prim.Native.Nat.{ℕ, _+_}
+use lib.Dec.{eqb}
 use borrow.Author.Tests.{le-leb, lt-leb}
-use Rattle.rules.specs.Rules.JobFile.{expr}
+use Rattle.rules.specs.Rules.Expressions.{sound}
+use Rattle.rules.specs.Rules.JobFile.{tokens, expr}
 use Rattle.token.specs.Bytes.{byte-got, byte-past}
-use Rattle.token.proofs.Laws.{expr-tokens, scan-got, scan-refused}
+use Rattle.token.proofs.Laws.{expr-tokens, scan-got, scan-held, scan-refused}
 use Rattle.token.specs.Meaning.{tokensOf}
 use borrow.Author.Needs.{needs}
 use Rattle.token.proofs.read_expression.Statement.{statement}
@@ -11,7 +14,7 @@ use Rattle.token.proofs.read_expression.Tie as tie
 
 returns : tie.Need-returns
 unfolding expr
-returns c = let a = c .before .before .args in simp (byte-past (a .p .now) (a .at) (c .if1 .taken))
+returns c = let a = c .before .before .args in (simp (byte-past (a .p .now) (a .at) (c .if1 .taken)), tt)
 
 shared-slice-read-wide : tie.Need-shared-slice-read-wide
 shared-slice-read-wide c = search needs
@@ -26,14 +29,14 @@ returns-2 : tie.Need-returns-2
 unfolding expr
 returns-2 c =
     let a = c .before .before .before .before .before .args in
-    rw (byte-got (a .p .now) (a .at) (c .before .before .before .if1 .left), ← (c .before .wide .ensures .0), lt-leb 1 _ (c .if2 .taken))
+    (rw (byte-got (a .p .now) (a .at) (c .before .before .before .if1 .left), ← (c .before .wide .ensures .0), lt-leb 1 _ (c .if2 .taken)), tt)
 
 returns-3 : tie.Need-returns-3
 unfolding expr
 returns-3 c =
     let b = c .before .before in
     let a = b .before .before .before .before .args in
-    rw (byte-got (a .p .now) (a .at) (b .before .before .if1 .left), ← (b .wide .ensures .0), le-leb 1 _ (c .before .if2 .left), lt-leb _ 16 (c .if3 .taken))
+    (rw (byte-got (a .p .now) (a .at) (b .before .before .if1 .left), ← (b .wide .ensures .0), le-leb 1 _ (c .before .if2 .left), lt-leb _ 16 (c .if3 .taken)), tt)
 
 scan-tokens-requires : tie.Need-scan-tokens-requires
 scan-tokens-requires c κs = search needs
@@ -45,19 +48,20 @@ enum-known-r : tie.Need-enum-known-r
 enum-known-r c = search needs
 
 returns-4 : tie.Need-returns-4
-unfolding tokensOf
+unfolding tokensOf sound
 returns-4 c =
     let b = c .before .before .before .before in
     let a = b .before .before .before .before .before .before .args in
     let e = expr-tokens (a .p .now) (a .at) _ (b .before .before .before .before .if1 .left) (b .before .before .wide .ensures .0) (b .before .if2 .left) (b .if3 .left) in
-    scan-got _ 0 _ _ (sym (c .before .next .given .1) ∙ c .before .before .before .scan-tokens .ensures) ∙ sym e
+    let k = sym (c .before .next .given .1) ∙ c .before .before .before .scan-tokens .ensures in
+    (scan-got _ 0 _ _ k ∙ sym e, ap (λ (h : ℕ). eqb h 1) (scan-held (tokens _ (a .p .now) (a .at + 1)) 0 _ _ k))
 
 returns-5 : tie.Need-returns-5
 returns-5 c =
     let b = c .before .before .before .before in
     let a = b .before .before .before .before .before .before .args in
     let e = expr-tokens (a .p .now) (a .at) _ (b .before .before .before .before .if1 .left) (b .before .before .wide .ensures .0) (b .before .if2 .left) (b .if3 .left) in
-    scan-refused _ 0 _ (sym (c .before .r .given .1) ∙ c .before .before .before .scan-tokens .ensures) ∙ sym e
+    (scan-refused _ 0 _ (sym (c .before .r .given .1) ∙ c .before .before .before .scan-tokens .ensures) ∙ sym e, tt)
 
 pub read-expression-spec : {M : Type 1} → statement M
 read-expression-spec =

@@ -1,0 +1,44 @@
+-- `instruction::conditional_at` meets its contract: the fields stand where the rules read them. Assumes nothing.
+use mathlib.Core.Path.{sym}
+use Rattle.token.specs.Meaning.{tokensOf}
+use Rattle.instruction.proofs.Laws.{conditional-parts}
+use borrow.Author.Needs.{needs}
+use Rattle.instruction.proofs.conditional_at.Statement.{statement}
+use Rattle.instruction.proofs.conditional_at.Tie as tie
+
+shared-slice-read-r : tie.Need-shared-slice-read-r
+shared-slice-read-r c = let s = c .before .before in let a = s .args in conditional-parts (a .p .now) (a .at) (s .pre) .room
+
+add-expression-at : tie.Need-add-expression-at
+add-expression-at c = let s = c .before .before in let a = s .args in let h = conditional-parts (a .p .now) (a .at) (s .pre) .room in search needs
+
+expression-at-requires : tie.Need-expression-at-requires
+expression-at-requires c κs = let s = c .before .before in let a = s .args in conditional-parts (a .p .now) (a .at) (s .pre) .condition
+
+expression-end-requires : tie.Need-expression-end-requires
+expression-end-requires c κs = search needs
+
+expression-at-requires-2 : tie.Need-expression-at-requires-2
+expression-at-requires-2 c κs =
+    let s = c .before .before .before .before in
+    let a = s .args in
+    rw (c .expression-end .ensures, c .before .expression-at .ensures) (conditional-parts (a .p .now) (a .at) (s .pre) .expression)
+
+returns : tie.Need-returns
+unfolding tokensOf
+returns c =
+    let s = c .before .before .before .before .before in
+    let a = s .args in
+    rw (c .expression-at2 .ensures, c .before .expression-end .ensures, c .before .before .expression-at .ensures)
+    (sym (conditional-parts (a .p .now) (a .at) (s .pre) .value))
+
+pub conditional-at-spec : {M : Type 1} → statement M
+conditional-at-spec =
+    tie.close
+    (tie.spec
+    shared-slice-read-r
+    add-expression-at
+    expression-at-requires
+    expression-end-requires
+    expression-at-requires-2
+    returns)

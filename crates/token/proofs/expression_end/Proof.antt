@@ -1,0 +1,37 @@
+-- `token::expression_end` meets its contract: the scan gives the offset after the tokens. Assumes nothing.
+use mathlib.Core.Path.{sym, _∙_}
+use Rattle.rules.specs.Rules.JobFile.{tokens}
+use Rattle.token.specs.Meaning.{nextOffset}
+use Rattle.token.proofs.Laws.{scan-got, scan-refused}
+use borrow.Author.Needs.{needs}
+use Rattle.token.proofs.expression_end.Statement.{statement}
+use Rattle.token.proofs.expression_end.Tie as tie
+
+scan-tokens-requires : tie.Need-scan-tokens-requires
+scan-tokens-requires c κs = search needs
+
+enum-known-next : tie.Need-enum-known-next
+enum-known-next c = search needs
+
+enum-told : tie.Need-enum-told
+enum-told c = search needs
+
+returns : tie.Need-returns
+unfolding nextOffset
+returns c =
+    let b = c .before .before .before in
+    let a = b .before .before .args in
+    let R = tokens (a .e .count) (a .p .now) (a .e .at) in
+    rw (← (scan-got R 0 _ _ (sym (c .before .next .given .1) ∙ b .scan-tokens .ensures)))
+
+returns-2 : tie.Need-returns-2
+unfolding nextOffset
+returns-2 c =
+    let b = c .before .before in
+    let a = b .before .before .args in
+    let R = tokens (a .e .count) (a .p .now) (a .e .at) in
+    rw (← (scan-refused R 0 _ (sym (c .enum-told .given .1) ∙ b .scan-tokens .ensures)))
+
+pub expression-end-spec : {M : Type 1} → statement M
+expression-end-spec =
+    tie.close (tie.spec scan-tokens-requires enum-known-next enum-told returns returns-2)
