@@ -2,10 +2,12 @@
 // then the listing of its job; reference/ prints the same cases by the second implementation.
 // The contract of each job fixes its bytes, by the definitions of the rules' tables. Assumed of the system: what the kit says of write.
 use libc::STDOUT_FILENO;
+use rules::PairAnswer;
+use rules::PairWord;
 ghost use mathlib.Core.Path.{_≡_};
 ghost use Prim.Native.Nat.{_+_, _*_, _≤_};
 ghost use lib.ListN.{length};
-ghost use Rattle.rules.specs.Cases.Files.{file};
+ghost use Rattle.rules.specs.Cases.Files.{file, wordBytes};
 ghost use Rattle.rules.specs.Cases.Document01.{barrierProgram, public, state};
 ghost use Rattle.rules.specs.Cases.Document01.{job as printedJob};
 ghost use Rattle.cases.specs.Jobs.{laidOut, nestedWith, manyCells};
@@ -113,6 +115,40 @@ fn show_case(name: &[u8], job: &[u8], observations: usize)
     write(&lines[..n]);
 }
 
+fn write_word(word: PairWord) {
+    match word {
+        PairWord::NotComparable => write(b"not comparable\n"),
+        PairWord::Undecided => write(b"undecided\n"),
+        PairWord::PlainDiffers => write(b"plain differs\n"),
+        PairWord::LeakShown => write(b"leak shown\n"),
+        PairWord::Equal => write(b"equal\n"),
+    }
+}
+
+// The heading, and the word on the job's state and a second one.
+fn show_pair(name: &[u8], job: &[u8], second: &[u8]) {
+    let mut first = [0u64; 1024];
+    let mut other = [0u64; 1024];
+    let mut work = [0u64; 4096];
+    write(b"case ");
+    write(name);
+    write(b"\n");
+    match checker::compare(job, second, &mut first, &mut other, &mut work) {
+        PairAnswer::Refused(_) => write(b"refused\n"),
+        PairAnswer::Compared(word, _, _) => write_word(word),
+    }
+}
+
+// The printed job's state with cell 1 = 0.
+fn second_state() -> [u8; 160]
+    ensures { λ r. ⌜ r ≡ wordBytes (state 1 1 0) ⌝ }
+{
+    let mut state = [0u8; 160];
+    state[0] = 1;
+    state[8] = 1;
+    state
+}
+
 fn main() {
     show_case(b"printed whole", &printed(1, 10, 100), 512);
     show_case(b"w 0", &printed(1, 0, 100), 512);
@@ -124,7 +160,11 @@ fn main() {
     show_case(b"five observations lent", &printed(1, 10, 100), 5);
     show_case(b"r0 = 0", &printed(0, 10, 100), 512);
     show_case(b"spbarr put in as 2", &barrier(), 512);
-    // The pair, "second state with cell 1 = 0", has its place here: it is no run, and document 01 gives it no listing.
+    show_pair(
+        b"second state with cell 1 = 0",
+        &printed(1, 10, 100),
+        &second_state(),
+    );
     show_case(b"nested", &nested(3), 512);
     show_case(b"m 240", &cells_240(), 512);
     show_case(b"m 241", &cells_241(), 512);

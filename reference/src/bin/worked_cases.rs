@@ -4,7 +4,7 @@
 use std::io::Write;
 use std::process::ExitCode;
 
-use check_box_reference::{listing, listing_in};
+use check_box_reference::{compare, listing, listing_in};
 
 /// The numbers of a job that the cases change; cell 1 holds 1, r0 and r1 are public, all other words are 0.
 #[derive(Clone, Copy)]
@@ -68,6 +68,20 @@ fn job(program: &[Vec<u8>], numbers: Numbers) -> Vec<u8> {
     file
 }
 
+/// "Second state with cell 1 = 0": the word on the pair.
+fn pair() -> Vec<u8> {
+    let mut second = [0u64; 20];
+    second[0] = 1;
+    second[1] = 1;
+    let second: Vec<u8> = second.iter().flat_map(|word| word.to_le_bytes()).collect();
+    let (mut first_trace, mut second_trace, mut work) = ([0; 1024], [0; 1024], [0; 4096]);
+    let job = job(&printed_program(), PRINTED);
+    match compare(&job, &second, &mut first_trace, &mut second_trace, &mut work) {
+        Ok(answer) => format!("{}\n", answer.word.word()).into_bytes(),
+        Err(number) => format!("refused {number}\n").into_bytes(),
+    }
+}
+
 fn case(name: &str, listing: Vec<u8>) -> Vec<u8> {
     [format!("case {name}\n").into_bytes(), listing].concat()
 }
@@ -87,6 +101,7 @@ fn cases() -> Vec<u8> {
         case("five observations lent", five),
         case("r0 = 0", printed(Numbers { r0: 0, ..PRINTED })),
         case("spbarr put in as 2", run(barrier_program(), PRINTED)),
+        case("second state with cell 1 = 0", pair()),
         case("nested", run(nested_program(3), NESTED)),
         case("m 240", printed(Numbers { cells: 240, ..PRINTED })),
         case("m 241", printed(Numbers { cells: 241, ..PRINTED })),
