@@ -188,13 +188,7 @@ pub extern "C" fn checker_compare(
     ensures unaltered { λ r. ⌜ Unaltered r (now (answer .entry)) (now (answer .exit)) (pairLent (now (first .entry)) (now (other .entry)) (now (work .entry))) (pairLent (now (first .exit)) (now (other .exit)) (now (work .exit))) ⌝ }
     ensures meaning { λ _. ⌜ PairMeaning (now (job .entry)) (now (second .entry)) (pairLent (now (first .entry)) (now (other .entry)) (now (work .entry))) (pairCall (now (job .entry)) (now (second .entry)) (pairLent (now (first .entry)) (now (other .entry)) (now (work .entry))) .answer) (pairLent (now (first .exit)) (now (other .exit)) (now (work .exit))) ⌝ }
 {
-    match checker::compare(
-        job,
-        second,
-        &mut first[..],
-        &mut other[..],
-        &mut work[..],
-    ) {
+    match checker::compare(job, second, &mut first[..], &mut other[..], &mut work[..]) {
         PairAnswer::Refused(n) => refusal_number(n),
         PairAnswer::Compared(w, c, d) => {
             write_pair(w, c, d, answer);

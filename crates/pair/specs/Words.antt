@@ -77,7 +77,7 @@ word-same job vs k =
     (sameWords (traceWords (plainRun job k .log .trace)) (traceWords (plainRun (withState job vs) k .log .trace)))
     (sameWords (traceWords (r .log .trace)) (traceWords (r′ .log .trace)))
     (λ e.
-        let x = isFinished (r .stop) in
-        let y = isFinished (r′ .stop) in
-        ap₂ sameWords (struck-plain job k (finished-stop (r .stop) (and-left x y e)))
-        (struck-plain (withState job vs) k (finished-stop (r′ .stop) (and-right x y e))))
+    let x = isFinished (r .stop) in
+    let y = isFinished (r′ .stop) in
+    ap₂ sameWords (struck-plain job k (finished-stop (r .stop) (and-left x y e)))
+    (struck-plain (withState job vs) k (finished-stop (r′ .stop) (and-right x y e))))

@@ -1,9 +1,11 @@
 -- How the printed lines come from the rules' call: the number of instructions, the call's answer and trace, and the listing.
 -- Assumes nothing.
 use mathlib.Core.Path.{_≡_, refl, sym, ap, _∙_}
+use mathlib.Core.Bool.{true}
 use mathlib.Core.List.{List}
 use Prim.Native.Nat.{ℕ, _+_, _*_, _≤_}
 use native.Mathlib.Omega.{arith}
+use borrow.Author.Tests.{le-leb}
 use lib.ListN.{length, take}
 use lib.Seq.{take-append-seam, length-sets}
 use Rattle.rules.specs.declared.Trailer.{Trailer}
@@ -12,14 +14,14 @@ use Rattle.rules.specs.declared.RunAnswer.{RunAnswer}
 use Rattle.rules.specs.Rules.Plain.{end}
 use Rattle.rules.specs.Rules.Runs.{Job, mispredictingRun}
 use Rattle.rules.specs.Rules.JobFile.{Parsed, accepted, rejected, parse, trailer}
-use Rattle.rules.specs.Rules.Calls.{Areas, Called, lent, room, written, areasAfter, runCall}
+use Rattle.rules.specs.Rules.Calls.{Areas, Called, lent, room, workingWords, longEnough, written, areasAfter, runCall}
 use Rattle.rules.specs.Rules.Demands.{Exact}
 use Rattle.rules.specs.Rules.Listing.{listing}
 use Rattle.rules.specs.Theorems.JobLaws.{passed, job-end, init-most}
 use Rattle.rules.specs.Theorems.CallLaws.{call-runs}
 use Rattle.job.specs.declared.JobRead.the-variants as job-read
 use Rattle.job.specs.Answers.{jobReadOf, read-accepted, read-refused}
-use Rattle.checker.specs.Reports.{enough, run-rejected}
+use Rattle.checker.specs.Reports.{run-rejected}
 use Rattle.listing.specs.Lines.{Put, observed, count, printed}
 use Rattle.listing.specs.Areas.{put-next, put-fits}
 use Rattle.listing.specs.Traces.{printed-report, printed-refused}
@@ -41,6 +43,11 @@ count-refused bs r e = rw (read-refused (trailer bs) r (parse bs) e)
 record Shown (n k : ℕ) (P : Parsed) (a : RunAnswer) (trace trace′ : List ℕ) : Type 0 where
   pub traced : trace′ ≡ traceAfter P trace
   pub lines : printed n a trace′ ≡ linesOf k P
+
+-- areas that are long enough for a job
+enough : (job : Job) (a : Areas) → workingWords ≤ length (a .work) → length (job .init) ≤ length (a .end) → longEnough job a ≡ true
+unfolding longEnough
+enough job a h k = rw (le-leb workingWords (length (a .work)) h, le-leb (length (job .init)) (length (a .end)) k)
 
 module _ (bs t e w : List ℕ) {a : RunAnswer} {t′ e′ w′ : List ℕ} (x : Exact (runCall bs (lent t e w)) a (lent t′ e′ w′)) where
   answer-of : {called : Called RunAnswer} → runCall bs (lent t e w) ≡ called → a ≡ called .answer

@@ -50,6 +50,7 @@ closed-or-not false os ps e f = f
 -- on the words of observations it is the rules' striking out
 mutual
   unfolding struckWords traceWords strike
+
   pub struck-trace : (os : List Observation) → struckWords (traceWords os) ≡ traceWords (strike os)
   struck-trace [] = refl
   struck-trace (start i ∷ os) = struck-trace-to os i

@@ -10,6 +10,7 @@ ghost use Rattle.trace.specs.Struck.{struckWords, Closed, Outside};
 
 // The kinds of observations that bound a wrong path.
 const START: u64 = 0;
+
 const ROLLBACK: u64 = 1;
 
 // Whether two traces are the same.
