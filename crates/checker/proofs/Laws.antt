@@ -1,4 +1,4 @@
--- How the calls' code meets the definitions of the calls: the verdict, an accepted job's numbers, and each way that a call ends.
+-- How the calls' code meets the definitions of the calls: each way that a call ends.
 -- Assumes nothing.
 use mathlib.Core.Path.{_≡_, refl, sym, ap, _∙_}
 use mathlib.Core.Bool.{Bool, true, false, _&&_}
@@ -8,12 +8,8 @@ use borrow.Author.Tests.{leb-true}
 use lib.Dec.{leb}
 use lib.ListN.{length}
 use Rattle.location.specs.declared.LocationSet.{LocationSet}
-use Rattle.location.specs.Sets.{union, subset}
 use Rattle.location.specs.SetLaws.{and-left, and-right}
 use Rattle.rules.specs.declared.Stop.{Stop}
-use Rattle.rules.specs.declared.Stop.the-variants.{Finished}
-use Rattle.rules.specs.declared.Verdict.{Verdict}
-use Rattle.rules.specs.declared.Verdict.the-variants.{Clean, Plain, Speculative}
 use Rattle.rules.specs.declared.Trailer.{Trailer}
 use Rattle.rules.specs.declared.Refusal.{Refusal}
 use Rattle.rules.specs.declared.Refusal.the-variants as refusals
@@ -21,7 +17,7 @@ use Rattle.rules.specs.declared.RunAnswer.{RunAnswer}
 use Rattle.rules.specs.declared.PlainAnswer.{PlainAnswer}
 use Rattle.rules.specs.declared.PairAnswer.{PairAnswer}
 use Rattle.rules.specs.declared.PairAnswer.the-variants as pairs
-use Rattle.rules.specs.Rules.Runs.{Job, Result, judge, mispredictingRun, plainRun}
+use Rattle.rules.specs.Rules.Runs.{Job, mispredictingRun, plainRun}
 use Rattle.rules.specs.Rules.JobFile.{accepted, rejected, parse, publicOf}
 use Rattle.rules.specs.Rules.Calls.{Areas, Called, lent, workingWords, room, longEnough, areasAfter, runReport, runRefused, runParsed, runCall, plainReport, plainRefused, plainParsed, plainCall}
 use Rattle.rules.specs.Rules.Pairs.{PairAreas, pairRefused, pairParsed, pairCall}
@@ -37,21 +33,6 @@ use Rattle.execution.specs.Turns.{locations}
 use Rattle.job_run.specs.Accepted.{accepted-size, accepted-public}
 use Rattle.job_run.specs.JobRuns.{AreasFit, RunIn}
 use Rattle.checker.specs.Reports.{reportOf, plainReportOf, report-same, plain-report-same, run-short, plain-short, run-rejected, plain-rejected}
-
--- ---- the verdict
-module _ (public full plain : LocationSet) {stop : Stop} {b : Bool} (f : stop ≡ Finished) (e : b ≡ subset full public) where
-  pub judged-clean : b ≡ true → Clean ≡ judge public stop full plain
-  unfolding judge
-  judged-clean t = rw (f, ← e, t)
-
-  module _ {u : LocationSet} {d : Bool} (n : b ≡ false) (eu : u ≡ union public plain) (ed : d ≡ subset full u) where
-    pub judged-plain : d ≡ true → Plain ≡ judge public stop full plain
-    unfolding judge
-    judged-plain t = rw (f, ← e, n, ← eu, ← ed, t)
-
-    pub judged-speculative : d ≡ false → Speculative ≡ judge public stop full plain
-    unfolding judge
-    judged-speculative t = rw (f, ← e, n, ← eu, ← ed, t)
 
 -- ---- each way that a call ends
 exact-of : {A : Type 0} {called : Called A} {r : A} {after : Areas} (answer : A) (areas : Areas)

@@ -20,11 +20,8 @@ use rules::PlainOutcome;
 use rules::Refusal;
 use rules::RunAnswer;
 use rules::RunOutcome;
-use rules::Stop;
 use rules::Trailer;
-use rules::Verdict;
 ghost use mathlib.Core.Path.{_≡_};
-ghost use Rattle.rules.specs.Rules.Runs.{judge};
 ghost use Rattle.rules.specs.Rules.Calls.{lent, runRefused, plainRefused, runCall, plainCall};
 ghost use Rattle.rules.specs.Rules.Pairs.{pairLent, pairCall};
 ghost use Rattle.rules.specs.Rules.Demands.{Exact, RunUnaltered, PlainUnaltered, Demand2, Demand3, PairExact, PairUnaltered, PairMeaning};
@@ -50,24 +47,6 @@ fn plain_refused(n: Refusal) -> PlainAnswer
     }
 }
 
-fn verdict_of(public: LocationSet, stop: Stop, full: LocationSet, plain: LocationSet) -> Verdict
-    ensures { λ r. ⌜ r ≡ judge public stop full plain ⌝ }
-{
-    match stop {
-        Stop::Spent => Verdict::Undecided,
-        Stop::TraceFull => Verdict::Undecided,
-        Stop::Finished => {
-            if full.subset(public) {
-                return Verdict::Clean;
-            }
-            if full.subset(public.union(plain)) {
-                return Verdict::Plain;
-            }
-            Verdict::Speculative
-        }
-    }
-}
-
 // What a run returns.
 fn report(public: LocationSet, r: Ran) -> RunAnswer
     ensures { λ x. ⌜ x ≡ reportOf public (r .stop) (r .progress) ⌝ }
@@ -77,7 +56,7 @@ fn report(public: LocationSet, r: Ran) -> RunAnswer
     let c = r.progress;
     let depends = c.full;
     let plain = c.plain;
-    let verdict = verdict_of(public, stop, depends, plain);
+    let verdict = judgement::verdict_of(public, stop, depends, plain);
     RunAnswer {
         outcome: RunOutcome::Ran(counts, verdict),
         depends,

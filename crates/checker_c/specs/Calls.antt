@@ -7,7 +7,7 @@ use Rattle.rules.specs.declared.RunAnswer.{RunAnswer}
 use Rattle.rules.specs.declared.PlainAnswer.{PlainAnswer}
 use Rattle.rules.specs.Rules.Calls.{Areas, Called}
 use Rattle.rules.specs.Rules.Pairs.{PairAreas, PairCalled}
-use Rattle.checker_c.specs.Words.{runNumber, plainNumber, pairAnswerNumber, runAnswerWords, plainAnswerWords, pairAnswerWords}
+use Rattle.answer_words.specs.Words.{runNumber, plainNumber, pairAnswerNumber, runAnswerWords, plainAnswerWords, pairAnswerWords}
 
 pub record RunReturns (called : Called RunAnswer) (before : List ℕ) (r : ℕ) (after : List ℕ) (areas : Areas) : Type 0 where
   pub number : r ≡ runNumber (called .answer .outcome)

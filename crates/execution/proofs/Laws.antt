@@ -33,7 +33,8 @@ use Rattle.execution.specs.declared.Opening.the-variants as openings
 use Rattle.execution.specs.declared.Next.{Next}
 use Rattle.execution.specs.declared.Next.the-variants as next
 use Rattle.execution.specs.TurnLaws.{closed-false, not-expired}
-use Rattle.execution.specs.Turns.{locations, closedAt, roomFor, Unchanged, RollBackTried, OpeningTried, CodeOf, CarryingTried, Opens, Advanced}
+use Rattle.stops.specs.Stops.{closedAt, roomFor}
+use Rattle.execution.specs.Turns.{locations, Unchanged, RollBackTried, OpeningTried, CodeOf, CarryingTried, Opens, Advanced}
 
 -- room for k observations, as a number of words
 pub room-words : (area : List ℕ) (c : Progress) (k : ℕ) {x : Bool} → x ≡ roomFor area c k → x ≡ true → 2 * (c .observations + k) ≤ length area
@@ -105,14 +106,6 @@ module _ {p : List ℕ} {t : Trailer} {mode : Mode} {w w′ area area′ : List 
   other-advanced e k = record { tried = λ code s. rw (e p code (machineOf w (c .control) (locations t))) (k .tried code s) }
 
 -- ---- the tests of a turn
-pub closed-zero : (d last p : ℕ) → d ≡ 0 → leb last p ≡ closedAt d last p
-closed-zero zero last p e = refl
-closed-zero (suc d) last p e = absurd (omega arith)
-
-pub closed-open : (d last p : ℕ) → (d ≡ 0 → ⊥) → false ≡ closedAt d last p
-closed-open zero last p h = absurd (h refl)
-closed-open (suc d) last p h = refl
-
 -- a machine that is not at END with nothing open, and whose top has not expired, is at a place of the program
 pub inside : (last : ℕ) (w : List ℕ) (c : Control) (n : ℕ) → closedAt (c .depth) last (c .place) ≡ false
     → expiredOn last (c .place) (machineOf w c n .branches) ≡ false → c .place < last

@@ -42,7 +42,8 @@ use Rattle.execution.specs.declared.Mode.{Mode}
 use Rattle.execution.specs.declared.Mode.the-variants as modes
 use Rattle.execution.specs.declared.Next.{Next}
 use Rattle.execution.specs.declared.Next.the-variants as next
-use Rattle.execution.specs.Turns.{stepBy, codeOf, locations, Loaded, Ready, closedAt, roomFor, Unchanged, Tried, RollBackTried, CodeOf, forwardBy, Advancing, Advanced, Halts, GoesOn, Turned, Running, RanTo}
+use Rattle.stops.specs.Stops.{closedAt, roomFor}
+use Rattle.execution.specs.Turns.{stepBy, codeOf, locations, Loaded, Ready, Unchanged, Tried, RollBackTried, CodeOf, forwardBy, Advancing, Advanced, Halts, GoesOn, Turned, Running, RanTo}
 
 -- ---- the program
 pub code-end : (p : List ℕ) (t : Trailer) → readable (program (t .count) (t .count) 0 p 0) ≡ true → end (codeOf p t) ≡ t .count

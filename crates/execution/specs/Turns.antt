@@ -28,6 +28,7 @@ use Rattle.work.specs.Words.{windowIn}
 use Rattle.work.specs.Machines.{machineOf, Fit}
 use Rattle.effect.specs.Registers.{RegistersBelow}
 use Rattle.stepping.specs.declared.Progress.{Progress}
+use Rattle.stops.specs.Stops.{roomFor}
 use Rattle.stepping.specs.Progress.{logOf}
 use Rattle.stepping.specs.Steps.{Counted, Made}
 use Rattle.execution.specs.declared.Mode.{Mode}
@@ -68,16 +69,6 @@ pub record Ready (p : List ℕ) (t : Trailer) (mode : Mode) (w area : List ℕ) 
   pub counted : Counted c area
   pub budget : c .steps ≤ t .budget
   pub closed : mode ≡ modes.Plain → c .control .depth ≡ 0
-
--- ---- one turn
--- whether a machine with d branches open is at END with nothing open
-abbrev pub closedAt : ℕ → ℕ → ℕ → Bool
-closedAt zero last p = leb last p
-closedAt (suc d) last p = false
-
--- whether so many observations more fit into an area
-abbrev pub roomFor : List ℕ → Progress → ℕ → Bool
-roomFor area c k = leb (c .observations + k) (length area / 2)
 
 -- nothing has changed
 pub record Unchanged (w w′ area area′ : List ℕ) (c c′ : Progress) : Type 0 where

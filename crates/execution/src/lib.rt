@@ -16,7 +16,8 @@ ghost use Rattle.work.specs.Machines.{Fit, maxWindow};
 ghost use Rattle.effect.specs.Effects.{observations};
 ghost use Rattle.stepping.specs.Steps.{Counted};
 ghost use Rattle.execution.specs.Starts.{beginning, whole};
-ghost use Rattle.execution.specs.Turns.{roomFor, closedAt, RollBackTried, Live, OpeningTried, CarryingTried, Advancing, Opens, Advanced, Ready, Loaded, Turned, RanTo};
+ghost use Rattle.stops.specs.Stops.{roomFor, closedAt};
+ghost use Rattle.execution.specs.Turns.{RollBackTried, Live, OpeningTried, CarryingTried, Advancing, Opens, Advanced, Ready, Loaded, Turned, RanTo};
 
 // Which of the two runs.
 pub enum Mode {
@@ -36,20 +37,12 @@ pub struct Turn {
     pub progress: Progress,
 }
 
-// Whether so many observations more fit into the trace area.
-fn has_room(trace: &[u64], c: Progress, k: usize) -> bool
-    requires { ⌜ c .observations + k < 2 ^ 64 ⌝ }
-    ensures { λ r. ⌜ r ≡ roomFor (now (trace .entry)) c k ⌝ }
-{
-    c.observations + k <= trace.len() / 2
-}
-
 // Rule 1, if its observations fit.
 fn try_roll_back(work: &mut [u64], trace: &mut [u64], c: Progress) -> Turn
     requires { ⌜ Fit (now work) (c .control) × (0 < c .control .depth) × Counted c (now trace) ⌝ }
     ensures { λ r. ⌜ RollBackTried (now (work .entry)) (now (work .exit)) (now (trace .entry)) (now (trace .exit)) c (r .next) (r .progress) ⌝ }
 {
-    if has_room(&trace[..], c, 2) {
+    if stops::has_room(&trace[..], c, 2) {
         let progress = stepping::roll_back(&mut work[..], &mut trace[..], c);
         return Turn {
             next: Next::Go,
@@ -74,7 +67,7 @@ fn try_open(
     requires { ⌜ Live (now work) (now trace) c × (r < registers) × (window ≤ maxWindow) ⌝ }
     ensures { λ x. ⌜ OpeningTried (now (work .entry)) (now (work .exit)) (now (trace .entry)) (now (trace .exit)) r (l .0) window c (x .next) (x .progress) ⌝ }
 {
-    if has_room(&trace[..], c, 2) {
+    if stops::has_room(&trace[..], c, 2) {
         let progress = stepping::open_branch(&mut work[..], &mut trace[..], c, r, l, window);
         return Turn {
             next: Next::Go,
@@ -114,7 +107,7 @@ fn try_carry_out(
     let control = c.control;
     let e = effect::effect_of(p, &work[..], t.count, t.cells, control.place, i);
     let observed = e.observed;
-    if has_room(&trace[..], c, shown(observed)) {
+    if stops::has_room(&trace[..], c, shown(observed)) {
         let progress = stepping::carry_out(&mut work[..], &mut trace[..], c, i, e);
         return Turn {
             next: Next::Go,
@@ -171,16 +164,6 @@ fn advance(
     }
 }
 
-// Whether the machine is at END with nothing open.
-fn is_over(c: Control, last: usize) -> bool
-    ensures { λ r. ⌜ r ≡ closedAt (c .depth) last (c .place) ⌝ }
-{
-    if c.depth == 0 {
-        return last <= c.place;
-    }
-    false
-}
-
 // One turn: the stops in their order, else the step.
 fn take_turn(
     p: &[u8],
@@ -194,7 +177,7 @@ fn take_turn(
     ensures { λ r. ⌜ Turned (now (p .entry)) t mode (now (work .entry)) (now (work .exit)) (now (trace .entry)) (now (trace .exit)) c (r .next) (r .progress) ⌝ }
 {
     let control = c.control;
-    if is_over(control, t.count) {
+    if stops::is_over(control, t.count) {
         return Turn {
             next: Next::Halt(Stop::Finished),
             progress: c,

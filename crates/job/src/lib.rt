@@ -1,4 +1,4 @@
-// A job file: its trailer, limits and offsets, its program, state and public list; refusals 1 to 8. No offset is trusted
+// A job file: its trailer, program and public list; refusals 1 to 8 in their order. No offset is trusted
 // before it is tested: `read_job` asks nothing of the bytes.
 use location::LocationSet;
 use program::Checked;
@@ -10,76 +10,6 @@ ghost use lib.ListN.{length, getD};
 ghost use Rattle.location.specs.Sets.{registers, limit};
 ghost use Rattle.rules.specs.Rules.JobFile.{little, trailerAt, trailer, limits, offsets, wordsAt, publicOf, noneFrom, programOf, finish, parse};
 ghost use Rattle.job.specs.Answers.{jobReadOf};
-
-fn field(s: &[u8], at: usize, k: usize) -> usize
-    requires { ⌜ (k ≤ 8) × (at + k ≤ length (now s)) ⌝ }
-    ensures { λ r. ⌜ r ≡ little (now (s .entry)) at k ⌝ }
-{
-    token::number(s, at, k) as usize
-}
-
-// The numbers of the trailer, in the 16 bytes at an offset.
-fn trailer_at(s: &[u8], at: usize) -> Trailer
-    requires { ⌜ at + 16 ≤ length (now s) ⌝ }
-    ensures { λ r. ⌜ r ≡ trailerAt (now (s .entry)) at ⌝ }
-{
-    let state = field(s, at, 2);
-    let list = field(s, at + 2, 2);
-    let count = field(s, at + 4, 2);
-    let cells = field(s, at + 6, 2);
-    let window = field(s, at + 8, 2);
-    let zero = field(s, at + 10, 2);
-    let budget = field(s, at + 12, 4);
-    Trailer {
-        state,
-        list,
-        count,
-        cells,
-        window,
-        zero,
-        budget,
-    }
-}
-
-fn limits_hold(t: Trailer) -> bool
-    ensures { λ r. ⌜ r ≡ limits t ⌝ }
-{
-    if t.count < 1 {
-        return false;
-    }
-    if 512 < t.count {
-        return false;
-    }
-    if 240 < t.cells {
-        return false;
-    }
-    if 200 < t.window {
-        return false;
-    }
-    if t.zero != 0 {
-        return false;
-    }
-    t.budget <= 1000000
-}
-
-fn offsets_hold(t: Trailer, len: usize) -> bool
-    requires { ⌜ t .cells ≤ 240 ⌝ }
-    ensures { λ r. ⌜ r ≡ offsets t len ⌝ }
-{
-    if t.list < t.state {
-        return false;
-    }
-    if t.list - t.state != 128 + 8 * t.cells {
-        return false;
-    }
-    if len < 48 {
-        return false;
-    }
-    if t.list == len - 48 {
-        return true;
-    }
-    false
-}
 
 // The public list of a job file with these offsets.
 pub fn public_list(job: &[u8], t: Trailer) -> LocationSet
@@ -126,15 +56,6 @@ fn no_cell_from(set: LocationSet, first: usize) -> bool
     true
 }
 
-// Word k of a state of n words that starts at an offset, as the job's does at its state offset and a second state at 0.
-pub fn state_word(s: &[u8], start: usize, k: usize) -> u64
-    requires { ⌜ start + 8 * (k + 1) ≤ length (now s) ⌝ }
-    ensures { λ r. ⌜ ((n : ℕ) → k < n → r ≡ getD (wordsAt n (now (s .entry)) start) k 0) ⌝ }
-{
-    let at = start + 8 * k;
-    token::number(s, at, 8)
-}
-
 // What a job file is: its trailer, or the first refusal.
 pub enum JobRead {
     Accepted(Trailer),
@@ -171,9 +92,9 @@ pub fn read_job(job: &[u8]) -> JobRead
     if 16384 < len {
         return JobRead::Refused(Refusal::Length);
     }
-    let t = trailer_at(job, len - 16);
-    if limits_hold(t) {
-        if offsets_hold(t, len) {
+    let t = trailer::trailer_at(job, len - 16);
+    if trailer::limits_hold(t) {
+        if trailer::offsets_hold(t, len) {
             check_parts(job, t)
         } else {
             JobRead::Refused(Refusal::Offsets)

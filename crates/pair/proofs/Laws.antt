@@ -1,4 +1,4 @@
--- How the pair's code meets the definition of the call: the word by its tests, the two runs, and what is left in the areas.
+-- How the pair's code meets the definition of the call: the two runs, the answer on them, and what is left in the areas.
 -- Assumes nothing.
 use mathlib.Core.Path.{_≡_, refl, sym, ap, _∙_}
 use mathlib.Core.Bool.{Bool, true, false, _&&_}
@@ -17,19 +17,17 @@ use Rattle.rules.specs.declared.Counts.{Counts}
 use Rattle.rules.specs.declared.Refusal.{Refusal}
 use Rattle.rules.specs.declared.Refusal.the-variants as refusals
 use Rattle.rules.specs.declared.PairWord.{PairWord}
-use Rattle.rules.specs.declared.PairWord.the-variants as words
 use Rattle.rules.specs.declared.PairAnswer.{PairAnswer}
 use Rattle.rules.specs.declared.PairAnswer.the-variants as answers
 use Rattle.rules.specs.Rules.Instructions.{Observation}
 use Rattle.rules.specs.Rules.Runs.{Job, Result, mispredictingRun}
 use Rattle.rules.specs.Rules.JobFile.{accepted, rejected, parse, publicOf, wordsAt}
 use Rattle.rules.specs.Rules.Calls.{traceWords, written, workingWords, room, counts}
-use Rattle.rules.specs.Rules.Pairs.{withState, alikeFrom, isFinished, sameWords, pairWord, PairAreas, PairCalled, pairLent, pairAfter, pairRefused, secondFits, pairFits, pairAccepted, pairParsed, pairCall}
+use Rattle.rules.specs.Rules.Pairs.{withState, alikeFrom, pairWord, PairAreas, PairCalled, pairLent, pairAfter, pairRefused, secondFits, pairFits, pairAccepted, pairParsed, pairCall}
 use Rattle.rules.specs.Rules.Demands.{PairExact}
 use Rattle.rules.specs.Theorems.RunLaws.{mispredicting-trace}
 use Rattle.rules.specs.Theorems.CallLaws.{length-traceWords}
 use Rattle.rules.specs.Theorems.PairLaws.{Pairs, pair-runs}
-use Rattle.trace.specs.Struck.{struckWords}
 use Rattle.job.specs.Answers.{Accepts}
 use Rattle.stepping.specs.declared.Progress.{Progress}
 use Rattle.execution.specs.declared.Mode.the-variants as modes
@@ -38,7 +36,8 @@ use Rattle.job_run.specs.Accepted.{accepted-size, accepted-public, accepted-ini
 use Rattle.job_run.specs.JobRuns.{countsOf, RunOf}
 use Rattle.job_run.specs.Reports.{counts-same, cleared-same}
 use Rattle.job_run.proofs.Laws.{own-run}
-use Rattle.pair.specs.Words.{wordOf, comparedOf, Comparable, word-same}
+use Rattle.judgement.specs.Words.{wordOf, word-same}
+use Rattle.pair.specs.Runs.{comparedOf, Comparable}
 
 -- ---- a run that has ended: what it wrote fits, and stands from the front
 written-length : (ws a : List ℕ) → length ws ≤ length a → length (written ws a) ≡ length a
@@ -65,30 +64,6 @@ module _ {t : Trailer} {w₀ a w a′ : List ℕ} {x : Stop} {c : Progress} (job
   observed-words =
       ap (λ (n : ℕ). take (2 * n) a′) (r .count) ∙ ap (take (2 * length trace)) (r .trace)
       ∙ take-at (traceWords trace) _ (2 * length trace) (length-traceWords trace)
-
--- ---- the word, by the tests that the code makes
-module _ (alike : Bool) (x x′ : Stop) (a b : List ℕ) where
-  pub word-not-alike : alike ≡ false → words.NotComparable ≡ wordOf alike x x′ a b
-  word-not-alike e = rw e
-
-  module _ (e : alike ≡ true) where
-    pub word-first-open : isFinished x ≡ false → words.Undecided ≡ wordOf alike x x′ a b
-    word-first-open f = rw (e, f)
-
-    module _ (f : isFinished x ≡ true) where
-      pub word-second-open : isFinished x′ ≡ false → words.Undecided ≡ wordOf alike x x′ a b
-      word-second-open g = rw (e, f, g)
-
-      module _ (g : isFinished x′ ≡ true) where
-        pub word-plain : sameWords (struckWords a) (struckWords b) ≡ false → words.PlainDiffers ≡ wordOf alike x x′ a b
-        word-plain p = rw (e, f, g, p)
-
-        module _ (p : sameWords (struckWords a) (struckWords b) ≡ true) where
-          pub word-leak : sameWords a b ≡ false → words.LeakShown ≡ wordOf alike x x′ a b
-          word-leak s = rw (e, f, g, p, s)
-
-          pub word-equal : sameWords a b ≡ true → words.Equal ≡ wordOf alike x x′ a b
-          word-equal s = rw (e, f, g, p, s)
 
 -- ---- the answer on two runs, of what the code has found
 same-part : (n : ℕ) (xs : List ℕ) → take (n - 0) (drop 0 xs) ≡ take n xs

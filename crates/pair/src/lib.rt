@@ -1,49 +1,14 @@
-// The pair of states: both runs of an accepted job, and the word on them. The plain traces are compared without a second pair of
-// runs: where a run has finished they are its trace with each outermost wrong path struck out.
+// The pair of states: both runs of an accepted job, and the answer on them.
 use execution::Mode;
 use execution::Ran;
 use rules::PairAnswer;
-use rules::PairWord;
 use rules::Refusal;
-use rules::Stop;
 use rules::Trailer;
 ghost use mathlib.Core.Path.{_≡_};
-ghost use Rattle.rules.specs.Rules.Pairs.{isFinished, pairLent, pairCall};
+ghost use Rattle.rules.specs.Rules.Pairs.{pairLent, pairCall};
 ghost use Rattle.rules.specs.Rules.Demands.{PairExact};
 ghost use Rattle.job.specs.Answers.{Accepts};
-ghost use Rattle.pair.specs.Words.{wordOf, Judged, comparedOf, Comparable};
-
-fn finished(stop: Stop) -> bool
-    ensures { λ r. ⌜ r ≡ isFinished stop ⌝ }
-{
-    match stop {
-        Stop::Finished => true,
-        Stop::Spent => false,
-        Stop::TraceFull => false,
-    }
-}
-
-// The first word that fits, of two stops and two traces.
-fn pair_word(alike: bool, first: Stop, second: Stop, a: &[u64], b: &[u64]) -> PairWord
-    ensures { λ r. ⌜ r ≡ wordOf alike first second (now (a .entry)) (now (b .entry)) ⌝ }
-{
-    if !alike {
-        return PairWord::NotComparable;
-    }
-    if !finished(first) {
-        return PairWord::Undecided;
-    }
-    if !finished(second) {
-        return PairWord::Undecided;
-    }
-    if !trace::same_struck(a, b) {
-        return PairWord::PlainDiffers;
-    }
-    if !trace::same(a, b) {
-        return PairWord::LeakShown;
-    }
-    PairWord::Equal
-}
+ghost use Rattle.pair.specs.Runs.{Judged, comparedOf, Comparable};
 
 // The answer on two runs that have been made, by the traces that they have written.
 fn judge(
@@ -67,7 +32,7 @@ fn judge(
     let stop_other = d.stop;
     let k = 2 * c.observations;
     let l = 2 * d.observations;
-    let word = pair_word(alike, stop, stop_other, &first[0..k], &other[0..l]);
+    let word = judgement::pair_word(alike, stop, stop_other, &first[0..k], &other[0..l]);
     PairAnswer::Compared(word, c, d)
 }
 

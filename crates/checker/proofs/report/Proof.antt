@@ -11,7 +11,7 @@ use Rattle.checker.proofs.report.Statement.{statement}
 use Rattle.checker.proofs.report.Tie as tie
 use Rattle.checker.proofs.report.Reads as reads
 use Rattle.checker.proofs.report.Lts as lts
-use Rattle.checker.proofs.verdict_of.Reads as verdict-of-reads
+use Rattle.judgement.proofs.verdict_of.Reads as verdict-of-reads
 use Rattle.job_run.proofs.counts_of.Reads as counts-of-reads
 
 counts-of-requires : tie.Need-counts-of-requires

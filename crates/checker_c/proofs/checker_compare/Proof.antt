@@ -8,8 +8,8 @@ use Rattle.checker_c.proofs.checker_compare.Tie as tie
 use Rattle.checker_c.proofs.checker_compare.Reads as reads
 use Rattle.checker_c.proofs.checker_compare.Lts as lts
 use Rattle.checker.proofs.compare.Reads as compare-reads
-use Rattle.checker_c.proofs.refusal_number.Reads as refusal-number-reads
-use Rattle.checker_c.proofs.write_pair.Reads as write-pair-reads
+use Rattle.answer_words.proofs.refusal_number.Reads as refusal-number-reads
+use Rattle.answer_words.proofs.write_pair.Reads as write-pair-reads
 
 compare-requires : tie.Need-compare-requires
 compare-requires c κs = search needs

@@ -12,7 +12,7 @@ use Rattle.execution.proofs.take_turn.Tie as tie
 use Rattle.execution.proofs.take_turn.Reads as reads
 use Rattle.execution.proofs.take_turn.Lts as lts
 use Rattle.execution.proofs.advance.Reads as advance-reads
-use Rattle.execution.proofs.is_over.Reads as is-over-reads
+use Rattle.stops.proofs.is_over.Reads as is-over-reads
 use Rattle.execution.proofs.try_roll_back.Reads as try-roll-back-reads
 use Rattle.location.proofs.Label.new.Reads as new-reads
 use Rattle.program.proofs.fetch.Reads as fetch-reads

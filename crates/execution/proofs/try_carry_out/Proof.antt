@@ -11,7 +11,7 @@ use Rattle.execution.proofs.try_carry_out.Tie as tie
 use Rattle.execution.proofs.try_carry_out.Reads as reads
 use Rattle.execution.proofs.try_carry_out.Lts as lts
 use Rattle.effect.proofs.effect_of.Reads as effect-of-reads
-use Rattle.execution.proofs.has_room.Reads as has-room-reads
+use Rattle.stops.proofs.has_room.Reads as has-room-reads
 use Rattle.execution.proofs.shown.Reads as shown-reads
 use Rattle.stepping.proofs.carry_out.Reads as carry-out-reads
 

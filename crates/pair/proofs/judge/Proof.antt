@@ -11,7 +11,7 @@ use Rattle.pair.proofs.judge.Reads as reads
 use Rattle.pair.proofs.judge.Lts as lts
 use Rattle.job.proofs.public_list.Reads as public-list-reads
 use Rattle.job_run.proofs.counts_of.Reads as counts-of-reads
-use Rattle.pair.proofs.pair_word.Reads as pair-word-reads
+use Rattle.judgement.proofs.pair_word.Reads as pair-word-reads
 use Rattle.transfer.proofs.alike_bytes.Reads as alike-bytes-reads
 
 public-list-requires : tie.Need-public-list-requires

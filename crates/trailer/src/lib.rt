@@ -1,0 +1,78 @@
+// The trailer of a job file: its numbers, their limits (refusal 2) and the offsets (refusal 3).
+use rules::Trailer;
+ghost use mathlib.Core.Path.{_≡_};
+ghost use Prim.Native.Nat.{_+_, _≤_};
+ghost use lib.ListN.{length};
+ghost use Rattle.rules.specs.Rules.JobFile.{little, trailerAt, limits, offsets};
+
+fn field(s: &[u8], at: usize, k: usize) -> usize
+    requires { ⌜ (k ≤ 8) × (at + k ≤ length (now s)) ⌝ }
+    ensures { λ r. ⌜ r ≡ little (now (s .entry)) at k ⌝ }
+{
+    token::number(s, at, k) as usize
+}
+
+// The numbers of the trailer, in the 16 bytes at an offset.
+pub fn trailer_at(s: &[u8], at: usize) -> Trailer
+    requires { ⌜ at + 16 ≤ length (now s) ⌝ }
+    ensures { λ r. ⌜ r ≡ trailerAt (now (s .entry)) at ⌝ }
+{
+    let state = field(s, at, 2);
+    let list = field(s, at + 2, 2);
+    let count = field(s, at + 4, 2);
+    let cells = field(s, at + 6, 2);
+    let window = field(s, at + 8, 2);
+    let zero = field(s, at + 10, 2);
+    let budget = field(s, at + 12, 4);
+    Trailer {
+        state,
+        list,
+        count,
+        cells,
+        window,
+        zero,
+        budget,
+    }
+}
+
+// Whether each number is within its limits, and the zero is 0.
+pub fn limits_hold(t: Trailer) -> bool
+    ensures { λ r. ⌜ r ≡ limits t ⌝ }
+{
+    if t.count < 1 {
+        return false;
+    }
+    if 512 < t.count {
+        return false;
+    }
+    if 240 < t.cells {
+        return false;
+    }
+    if 200 < t.window {
+        return false;
+    }
+    if t.zero != 0 {
+        return false;
+    }
+    t.budget <= 1000000
+}
+
+// Whether the offsets of the state and of the list fit each other, the cells and the file's length.
+pub fn offsets_hold(t: Trailer, len: usize) -> bool
+    requires { ⌜ t .cells ≤ 240 ⌝ }
+    ensures { λ r. ⌜ r ≡ offsets t len ⌝ }
+{
+    if t.list < t.state {
+        return false;
+    }
+    if t.list - t.state != 128 + 8 * t.cells {
+        return false;
+    }
+    if len < 48 {
+        return false;
+    }
+    if t.list == len - 48 {
+        return true;
+    }
+    false
+}
