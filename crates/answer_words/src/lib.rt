@@ -63,7 +63,13 @@ pub fn refusal_number(n: Refusal) -> u32
 }
 
 // Stop, observations, steps, rollbacks, four words of D, four of the plain set, verdict.
-pub fn write_run(c: Counts, full: LocationSet, plain: LocationSet, v: Verdict, answer: &mut [u64; 13])
+pub fn write_run(
+    c: Counts,
+    full: LocationSet,
+    plain: LocationSet,
+    v: Verdict,
+    answer: &mut [u64; 13],
+)
     ensures { λ _. ⌜ now (answer .exit) ≡ sets (now (answer .entry)) 0 (runWords c full plain v) ⌝ }
 {
     let d = full.words;
