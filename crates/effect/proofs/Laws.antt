@@ -23,7 +23,8 @@ use Rattle.instruction.specs.Meaning.{meaning}
 use Rattle.work.specs.Words.{taggedAt}
 use Rattle.work.specs.Machines.{stateIn}
 use Rattle.effect.specs.declared.Effect.{Effect}
-use Rattle.effect.specs.States.{state-at, state-value}
+use Rattle.work.proofs.States.{state-at}
+use Rattle.effect.specs.States.{state-value}
 use Rattle.effect.specs.Effects.{Denotes, Executed}
 
 -- the state in the words, with so many cells

@@ -1,4 +1,4 @@
-// What one instruction does, shows and rests on: computed from the working words and written nowhere. The crate `execution`
+// What one instruction does, shows and rests on: computed from the working words and written nowhere. The crate `stepping`
 // carries it out.
 use instruction::Instruction;
 use location::Address;

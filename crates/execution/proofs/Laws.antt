@@ -40,8 +40,8 @@ use Rattle.execution.specs.Turns.{locations, Unchanged, RollBackTried, O
 pub room-words : (area : List ℕ) (c : Progress) (k : ℕ) {x : Bool} → x ≡ roomFor area c k → x ≡ true → 2 * (c .observations + k) ≤ length area
 room-words area c k e t = let h = leb-true (c .observations + k) (length area / 2) (sym e ∙ t) in omega arith
 
-abbrev same : (w area : List ℕ) (c : Progress) → Unchanged w w area area c c
-same w area c = record { work = refl; trace = refl; progress = refl }
+abbrev pub unchanged : (w area : List ℕ) (c : Progress) → Unchanged w w area area c c
+unchanged w area c = record { work = refl; trace = refl; progress = refl }
 
 module _ {w w′ area area′ : List ℕ} {c c′ : Progress} {x : Bool} where
   pub rolled : x ≡ roomFor area c 2 → x ≡ true → RolledBackTo w w′ area area′ c c′ → RollBackTried w w′ area area′ c next.Go c′
@@ -56,11 +56,11 @@ module _ {w w′ area area′ : List ℕ} {c c′ : Progress} {x : Bool} where
 module _ (w : List ℕ) {area : List ℕ} {c : Progress} {x : Bool} where
   pub not-rolled : x ≡ roomFor area c 2 → x ≡ false → RollBackTried w w area area c (next.Halt TraceFull) c
   unfolding rolling
-  not-rolled e f = record { tried = λ n b bs h q. (sym e ∙ f, refl, same w area c) }
+  not-rolled e f = record { tried = λ n b bs h q. (sym e ∙ f, refl, unchanged w area c) }
 
   pub not-opened : (r l window : ℕ) → x ≡ roomFor area c 2 → x ≡ false → OpeningTried w w area area r l window c (next.Halt TraceFull) c
   unfolding opening
-  not-opened r l window e f = record { tried = λ n code h k q s. (sym e ∙ f, refl, same w area c) }
+  not-opened r l window e f = record { tried = λ n code h k q s. (sym e ∙ f, refl, unchanged w area c) }
 
 -- ---- rule 3: the observations of an instruction are those of its effect
 module _ {p w : List ℕ} {t : Trailer} (c : Progress) {i : Instruction} {e : Effect}
@@ -83,7 +83,7 @@ module _ {p w : List ℕ} {t : Trailer} (c : Progress) {i : Instruction} {e : Ef
   pub not-carried : {area : List ℕ} {b : Bool} {k : ℕ} → k ≡ length (observations (e .observed)) → b ≡ roomFor area c k → b ≡ false
       → CarryingTried p t w w area area i c (next.Halt TraceFull) c
   not-carried {area = area} n r f = record {
-    tried = λ code s. (ap (roomFor area c) (sym (n ∙ observed-same code s)) ∙ sym r ∙ f, refl, same w area c);
+    tried = λ code s. (ap (roomFor area c) (sym (n ∙ observed-same code s)) ∙ sym r ∙ f, refl, unchanged w area c);
   }
 
 pub few-observations : (o : Observed) → length (observations o) ≤ 1
@@ -114,7 +114,3 @@ inside last w c n h e = go (c .depth) refl
     go : (d : ℕ) → c .depth ≡ d → c .place < last
     go zero z = closed-false (c .depth) last (c .place) h z
     go (suc d) z = not-expired last w c n e (omega arith) .1
-
--- nothing was done
-pub unchanged : (w area : List ℕ) (c : Progress) → Unchanged w w area area c c
-unchanged w area c = same w area c

@@ -291,7 +291,7 @@ observed-more os qs area area′ a₀ k e w s h =
     ∙ written-more (traceWords os) (traceWords qs) a₀ (omega arith)
     ∙ ap (λ (ws : List ℕ). written ws a₀) (sym (trace-more os qs))
 
-written-length : (ws a : List ℕ) → length ws ≤ length a → length (written ws a) ≡ length a
+pub written-length : (ws a : List ℕ) → length ws ≤ length a → length (written ws a) ≡ length a
 unfolding written
 written-length ws a h = simp (length-append, length-drop) (omega arith)
 

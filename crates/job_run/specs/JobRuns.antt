@@ -5,7 +5,6 @@ use mathlib.Core.List.{List}
 use Prim.Native.Nat.{ℕ, _+_, _-_, _*_, _<_, _≤_}
 use native.Mathlib.Omega.{arith}
 use lib.ListN.{length, take, drop, getD}
-use lib.Seq.{drop-drop}
 use Rattle.rules.specs.declared.Stop.{Stop}
 use Rattle.rules.specs.declared.Trailer.{Trailer}
 use Rattle.rules.specs.declared.Counts.{Counts}
@@ -18,6 +17,7 @@ use Rattle.rules.specs.Theorems.JobLaws.{passed, Passed, limits-hold}
 use Rattle.job.specs.Answers.{Accepts}
 use Rattle.work.specs.Layout.{labels}
 use Rattle.work.specs.Machines.{stateIn}
+use Rattle.work.proofs.Ranges.{drop-past}
 use Rattle.stepping.specs.declared.Progress.{Progress}
 use Rattle.transfer.specs.Loads.{StateLoaded, LabelsLoaded, state-loaded-after, labels-loaded-after, labels-loaded-state}
 use Rattle.execution.specs.declared.Mode.{Mode}
@@ -74,12 +74,6 @@ job-loaded {bs} {p} {t} {w} {w′} a e l =
       table = l .entry;
     }
 
--- the words from an offset on, where those from an earlier one are the same
-later : (w w′ : List ℕ) (n m : ℕ) → n ≤ m → drop n w ≡ drop n w′ → drop m w ≡ drop m w′
-later w w′ n m h e =
-    let d : m ≡ n + (m - n) = omega arith in
-    rw d (sym (drop-drop (m - n) n w) ∙ ap (drop (m - n)) e ∙ drop-drop (m - n) n w′)
-
 -- the whole run from words that hold the state is the rules' run of the job with that state
 same-result : (bs : List ℕ) (t : Trailer) → t ≡ trailer bs → (mode : Mode) (job : Job) → Passed bs job → (w a states : List ℕ) (at : ℕ)
     → stateIn w (locations t) ≡ ownFrom 0 (wordsAt (locations t) states at)
@@ -100,7 +94,7 @@ run-of {bs} {p} {t} {mode} {states} {at} {w} {w₁} {w₂} {w′} {a} {a′} {x}
       words = w₂;
       ran = λ job e.
           rw (← same-result bs t (acc .trailer) mode job (passed bs job e) w₂ a states at (labels-loaded-state l (locations t) (omega arith) ∙ s .state)) (rw ep at r);
-      past = later w′ w₂ labels workingWords (omega arith) (r .frame)
+      past = drop-past w′ w₂ labels workingWords (omega arith) (r .frame)
           ∙ labels-loaded-after l workingWords (omega arith)
           ∙ state-loaded-after s workingWords (omega arith);
       size = r .room ∙ l .size ∙ s .size;

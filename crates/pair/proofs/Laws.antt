@@ -8,7 +8,7 @@ use Prim.Native.Nat.{ℕ, _+_, _-_, _*_, _/_, _<_, _≤_}
 use native.Mathlib.Omega.{arith}
 use borrow.Author.Tests.{eq-eqb, ne-eqb, le-leb, lt-leb}
 use lib.Dec.{eqb, leb}
-use lib.ListN.{length, take, drop, replicate, length-append, length-drop}
+use lib.ListN.{length, take, drop, replicate}
 use lib.Seq.{take-at}
 use Rattle.location.specs.declared.LocationSet.{LocationSet}
 use Rattle.rules.specs.declared.Stop.{Stop}
@@ -32,18 +32,15 @@ use Rattle.job.specs.Answers.{Accepts}
 use Rattle.stepping.specs.declared.Progress.{Progress}
 use Rattle.execution.specs.declared.Mode.the-variants as modes
 use Rattle.execution.specs.Turns.{locations, RanTo}
+use Rattle.execution.specs.TurnLaws.{written-length}
 use Rattle.job_run.specs.Accepted.{accepted-size, accepted-public, accepted-init, accepted-state}
 use Rattle.job_run.specs.JobRuns.{countsOf, RunOf}
 use Rattle.job_run.specs.Reports.{counts-same, cleared-same}
-use Rattle.job_run.proofs.Laws.{own-run}
+use Rattle.job_run.proofs.Laws.{same-part, own-run}
 use Rattle.judgement.specs.Words.{wordOf, word-same}
 use Rattle.pair.specs.Runs.{comparedOf, Comparable}
 
 -- ---- a run that has ended: what it wrote fits, and stands from the front
-written-length : (ws a : List ℕ) → length ws ≤ length a → length (written ws a) ≡ length a
-unfolding written
-written-length ws a h = simp (length-append, length-drop) (omega arith)
-
 module _ {t : Trailer} {w₀ a w a′ : List ℕ} {x : Stop} {c : Progress} (job : Job) (r : RanTo t w₀ a w a′ x c (mispredictingRun job (room a))) where
   abbrev trace : List Observation
   trace = mispredictingRun job (room a) .log .trace
@@ -66,9 +63,6 @@ module _ {t : Trailer} {w₀ a w a′ : List ℕ} {x : Stop} {c : Progress} (job
       ∙ take-at (traceWords trace) _ (2 * length trace) (length-traceWords trace)
 
 -- ---- the answer on two runs, of what the code has found
-same-part : (n : ℕ) (xs : List ℕ) → take (n - 0) (drop 0 xs) ≡ take n xs
-same-part n xs = let z : n - 0 ≡ n = omega arith in rw z
-
 pub judged : (bs : List ℕ) (t : Trailer) (second a b : List ℕ) (x x′ : Stop) (c c′ : Progress) {word : PairWord} {alike : Bool}
     {public : LocationSet} {n n′ : Counts}
     → n ≡ countsOf x c → n′ ≡ countsOf x′ c′ → public ≡ publicOf t bs

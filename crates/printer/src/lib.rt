@@ -10,7 +10,7 @@ ghost use Rattle.printer.specs.Printing.{instructionCount, Prints, Liste
 // 512 observations of two words each.
 const TRACE: usize = 1024;
 
-// The longest listing of 512 observations: 30 bytes each, and 11,372 after them.
+// Enough for every listing of 512 observations: at most 30 bytes each, and at most 11,372 after them.
 pub const LINES: usize = 26732;
 
 // The number of instructions, by which END is known. A refused job shows no place: 0.

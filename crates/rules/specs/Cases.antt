@@ -1,4 +1,4 @@
--- Tables of cases, computed by the prover: a definition that is misread fails here.
+-- Tables of cases, computed by the prover: each row fails under some misreading of document 01.
 pub mod Files
 pub mod Document01
 pub mod Readings

@@ -14,3 +14,4 @@ pub mod CallLaws
 pub mod FilePlain
 pub mod FileSecrecy
 pub mod PairLaws
+pub mod SecondJobs

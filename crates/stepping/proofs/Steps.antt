@@ -30,7 +30,7 @@ use Rattle.work.specs.Moves.{topWindow, lowerTo, windowOn, ordinaryNext, openin
 use Rattle.work.proofs.Rules.{top-window}
 use Rattle.effect.specs.declared.Effect.{Effect}
 use Rattle.effect.specs.Effects.{observations, stateAfter, effectMeaning}
-use Rattle.effect.specs.States.{state-at}
+use Rattle.work.proofs.States.{state-at}
 use Rattle.stepping.specs.declared.Progress.{Progress}
 use Rattle.stepping.specs.Progress.{logOf, progressAfter}
 use Rattle.stepping.specs.Steps.{Made, Leaves, RolledBackTo, OpenedTo, CarriedOutTo}

@@ -23,7 +23,8 @@ use Rattle.work.specs.Words.{taggedAt, stored}
 use Rattle.work.specs.Machines.{stateFrom, stateIn}
 use Rattle.work.proofs.Ranges.{drop-sets}
 use Rattle.work.proofs.States.{state-more}
-use Rattle.transfer.specs.States.{state-length, values-length}
+use Rattle.rules.specs.Theorems.Sizes.{values-length}
+use Rattle.transfer.specs.States.{state-length}
 use Rattle.transfer.specs.Loads.{StateLoaded, LabelsLoaded}
 
 -- ---- a state loaded: the locations before l hold their words, and with the words left they are the whole state

@@ -6,7 +6,6 @@ use Prim.Native.Nat.{ℕ, zero, suc, _+_, _≤_}
 use native.Mathlib.Omega.{arith}
 use lib.ListN.{length, take}
 use lib.Seq.{getD-take}
-use Rattle.rules.specs.Rules.Plain.{State, values}
 use Rattle.work.specs.Layout.{operandBase}
 use Rattle.work.specs.Words.{taggedIn}
 use Rattle.work.specs.Machines.{stateFrom, stateIn}
@@ -18,11 +17,6 @@ from-length w l (suc n) = ap suc (from-length w (suc l) n)
 
 pub state-length : (w : List ℕ) (n : ℕ) → length (stateIn w n) ≡ n
 state-length w n = from-length w 0 n
-
-pub values-length : (σ : State) → length (values σ) ≡ length σ
-unfolding values
-values-length [] = refl
-values-length (t ∷ σ) = ap suc (values-length σ)
 
 -- ---- the state rests on the words of its operands
 tagged-take : (w : List ℕ) (m i : ℕ) → i + 5 ≤ m → taggedIn (take m w) i ≡ taggedIn w i

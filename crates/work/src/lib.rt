@@ -2,7 +2,6 @@
 // branches and the table of labels. specs/Layout.antt has the layout of the constants below for the proofs.
 pub mod machine;
 
-use location::Label;
 use location::Location;
 use location::LocationSet;
 use rules::Tagged;
@@ -12,7 +11,7 @@ ghost use mathlib.Core.List.{_∷_};
 ghost use lib.ListN.{length, getD, set, replicate};
 ghost use lib.Seq.{sets};
 ghost use Rattle.rules.specs.Rules.Calls.{written, workingWords};
-ghost use Rattle.work.specs.Layout.{operandBase, changeBase, firstBranch, branchBase, labelBase};
+ghost use Rattle.work.specs.Layout.{operandBase, changeBase, firstBranch, branchBase};
 ghost use Rattle.work.specs.Words.{taggedIn, taggedAt, stored, changed, undone, entryAt, entryStored};
 
 // Location l has its operand from OPERAND * l on: the value, then the words of the set.
@@ -139,14 +138,6 @@ pub fn set_window(work: &mut [u64], k: usize, window: usize)
     ensures { λ _. ⌜ now (work .exit) ≡ set (now (work .entry)) (branchBase k + 2) window ⌝ }
 {
     work[LOG + (BRANCHES - ENTRY * k) + 2] = window as u64;
-}
-
-// The byte offset of an instruction, from the table of labels.
-pub fn offset_of(work: &[u64], label: Label) -> usize
-    requires { ⌜ labelBase (label .0) < length (now work) ⌝ }
-    ensures { λ r. ⌜ r ≡ getD (now (work .entry)) (labelBase (label .0)) 0 ⌝ }
-{
-    work[LABELS + label.index()] as usize
 }
 
 // The working words become 0.

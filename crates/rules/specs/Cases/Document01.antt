@@ -89,6 +89,6 @@ document01 =
     ∷ pair (job 1 10 100) (wordBytes (state 1 1 0)) 1024 whole (0 ∷ 0 ∷ 2 ∷ 2 ∷ 3 ∷ 1 ∷ 3 ∷ 2 ∷ 1 ∷ 0 ∷ 2 ∷ 4 ∷ [])
     (answers.Compared pairs.LeakShown (counted Finished 6 5 1) (counted Finished 6 5 1))
     -- nested, w 2: start 0, pc 1, start 1, pc 2, rollback 1, pc end, rollback 0, pc end; 5 steps
-    ∷ run (file nestedProgram 3 (zeros 20) public 2 100) 1024
+    ∷ run (file nestedProgram 3 (state 0 0 1) public 2 100) 1024
     (0 ∷ 0 ∷ 2 ∷ 1 ∷ 0 ∷ 1 ∷ 2 ∷ 2 ∷ 1 ∷ 1 ∷ 2 ∷ 3 ∷ 1 ∷ 0 ∷ 2 ∷ 3 ∷ []) (ran Finished 8 5 2 r01 (0 ∷ []) Clean)
     ∷ []

@@ -80,13 +80,16 @@ plainRan stop observations steps rests = record {
 -- ---- rows
 -- A run: the job, the words of the trace area, the words written to its front, the answer. A pair: the job, the second state,
 -- the words of each trace area, the words written to each, the answer. A listing: the job and the printed bytes. A plain run:
--- as a run. All areas before a run, its answer, and all areas after it. The word with its set at a location after a run.
+-- as a run. All areas before a run, a plain run or a pair, its answer, and all areas after it. The word with its set at a location
+-- after a run.
 pub data Row : Type 0 where
   run : List ℕ → ℕ → List ℕ → RunAnswer → Row
   pair : List ℕ → List ℕ → ℕ → List ℕ → List ℕ → PairAnswer → Row
   prints : List ℕ → List ℕ → Row
   plain : List ℕ → ℕ → List ℕ → PlainAnswer → Row
   leaves : List ℕ → Areas → RunAnswer → Areas → Row
+  plainLeaves : List ℕ → Areas → PlainAnswer → Areas → Row
+  pairLeaves : List ℕ → List ℕ → PairAreas → PairAnswer → PairAreas → Row
   holds : List ℕ → ℕ → Tagged → Row
 
 -- what is compared: an answer with the whole trace areas after the call, or bytes
@@ -96,6 +99,8 @@ pub data Seen : Type 0 where
   printed : List ℕ → Seen
   plainTo : PlainAnswer → List ℕ → Seen
   left : RunAnswer → Areas → Seen
+  plainLeft : PlainAnswer → Areas → Seen
+  pairLeft : PairAnswer → PairAreas → Seen
   word : Tagged → Seen
 
 -- the lent areas hold 7 before the call
@@ -122,6 +127,8 @@ given (pair job second n trace trace′ answer) =
 given (prints job bytes) = printed (listing job)
 given (plain job n trace answer) = plainTo (plainCall job (areas n) .answer) (plainCall job (areas n) .areas .trace)
 given (leaves job before answer after) = left (runCall job before .answer) (runCall job before .areas)
+given (plainLeaves job before answer after) = plainLeft (plainCall job before .answer) (plainCall job before .areas)
+given (pairLeaves job second before answer after) = pairLeft (pairCall job second before .answer) (pairCall job second before .areas)
 given (holds job l t) = word (lastAt (parse job) l)
 
 unfoldable pub wanted : Row → Seen
@@ -130,6 +137,8 @@ wanted (pair job second n trace trace′ answer) = pairedTo answer (front n trac
 wanted (prints job bytes) = printed bytes
 wanted (plain job n trace answer) = plainTo answer (front n trace)
 wanted (leaves job before answer after) = left answer after
+wanted (plainLeaves job before answer after) = plainLeft answer after
+wanted (pairLeaves job second before answer after) = pairLeft answer after
 wanted (holds job l t) = word t
 
 unfoldable pub allGiven : List Row → List Seen

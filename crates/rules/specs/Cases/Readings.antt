@@ -10,8 +10,9 @@ use Rattle.rules.specs.declared.PairWord.the-variants as pairs
 use Rattle.rules.specs.declared.PairAnswer.the-variants as answers
 use Rattle.rules.specs.declared.Refusal.the-variants as refusals
 use Rattle.rules.specs.Rules.Expressions.{tagged}
-use Rattle.rules.specs.Rules.Calls.{Areas, runRefused}
-use Rattle.rules.specs.Cases.Files.{wordBytes, zeros, file, setOf, counted, ran, plainRan, Row, run, pair, prints, plain, leaves, holds, lines}
+use Rattle.rules.specs.Rules.Calls.{Areas, lent, runRefused, plainRefused}
+use Rattle.rules.specs.Rules.Pairs.{pairLent}
+use Rattle.rules.specs.Cases.Files.{wordBytes, zeros, file, setOf, counted, ran, plainRan, Row, run, pair, prints, plain, leaves, plainLeaves, pairLeaves, holds, lines}
 use Rattle.rules.specs.Cases.Document01.{job, state, whole, r01, r01m1, nestedProgram, public}
 
 -- a program of n instructions with nothing public
@@ -51,6 +52,17 @@ mixed = 2 ∷ 4 ∷ 1 ∷ 3 ∷ 5 ∷ 0 ∷ 3 ∷ 0 ∷ 2 ∷ 5 ∷ 1 ∷ 2 ∷ 
 -- beqz r0 3; skip; skip; load r1 r2
 unfoldable pub ending : List ℕ
 ending = 5 ∷ 0 ∷ 3 ∷ 0 ∷ 0 ∷ 0 ∷ 2 ∷ 1 ∷ 1 ∷ 2 ∷ []
+
+-- load r2, r0 op r1, for each operator
+unfoldable pub operations : List ℕ → List ℕ
+operations [] = []
+operations (op ∷ ops) = 2 ∷ 2 ∷ 3 ∷ 0 ∷ 1 ∷ op ∷ operations ops
+
+-- beqz r0 7; assign r1 r3; store r1 r1; conditional assign r1, if r1, r1; jmp 5; load r2 r3; load r2 r4
+unfoldable pub costing : List ℕ
+costing =
+    5 ∷ 0 ∷ 7 ∷ 0 ∷ 1 ∷ 1 ∷ 1 ∷ 1 ∷ 3 ∷ 1 ∷ 1 ∷ 1 ∷ 6 ∷ 1 ∷ 1 ∷ 1 ∷ 1 ∷ 1 ∷ 4 ∷ 1 ∷ 16 ∷ 5
+    ∷ zeros 7 ++ (2 ∷ 2 ∷ 1 ∷ 3 ∷ 2 ∷ 2 ∷ 1 ∷ 4 ∷ [])
 
 unfoldable pub filled : ℕ → List ℕ
 filled n = replicate n 7
@@ -101,7 +113,7 @@ readings =
     ∷ run (secretJob (0 ∷ []) 1 (zeros 16) 10) 0 [] (ran Finished 0 1 0 [] [] Clean)
     -- a rollback with room for one observation writes nothing
     ∷ run (job 1 0 100) 7 (0 ∷ 0 ∷ 2 ∷ 2 ∷ []) (ran TraceFull 2 2 0 r01 r01 Undecided)
-    -- the plain run of the printed job, and out of steps
+    -- the plain run of the printed job, out of steps, and out of room
     ∷ plain (job 1 10 100) 1024 (2 ∷ 4 ∷ []) (plainRan Finished 1 2 r01)
     ∷ plain (job 0 10 3) 1024 (2 ∷ 2 ∷ 3 ∷ 0 ∷ []) (plainRan Spent 2 3 r01)
     ∷ plain (job 0 10 100) 5 (2 ∷ 2 ∷ 3 ∷ 0 ∷ []) (plainRan TraceFull 2 3 r01)
@@ -144,4 +156,75 @@ readings =
     ∷ pair (job 1 10 100) (wordBytes (set (state 1 1 1) 18 8)) 12 whole whole
     (answers.Compared pairs.Equal (counted Finished 6 5 1) (counted Finished 6 5 1))
     ∷ pair (job 1 10 100) (zeros 159) 12 [] [] (answers.Refused refusals.SecondState)
+    ∷ []
+
+-- what each instruction, operator and constant does to values, sets and windows
+unfoldable pub details : List Row
+details =
+    -- a pair with nothing public, one run of the two not finished: each run has its own counts
+    pair (secretJob (4 ∷ 1 ∷ 0 ∷ []) 1 (set (zeros 16) 0 1) 10) (wordBytes (zeros 16)) 4 (2 ∷ 1 ∷ []) (2 ∷ 0 ∷ 2 ∷ 0 ∷ [])
+    (answers.Compared pairs.Undecided (counted Finished 1 1 0) (counted TraceFull 2 2 0))
+    ∷ pair (secretJob (4 ∷ 1 ∷ 0 ∷ []) 1 (zeros 16) 10) (wordBytes (set (zeros 16) 0 1)) 4 (2 ∷ 0 ∷ 2 ∷ 0 ∷ []) (2 ∷ 1 ∷ [])
+    (answers.Compared pairs.Undecided (counted TraceFull 2 2 0) (counted Finished 1 1 0))
+    -- the tokens of the operators: 19 to 28 on 29 and 3, and ult the other way round; 17 and 18 on 1
+    ∷ run
+    (secretJob (operations (19 ∷ 20 ∷ 21 ∷ 22 ∷ 23 ∷ 24 ∷ 25 ∷ 26 ∷ 27 ∷ 28 ∷ []) ++ (2 ∷ 2 ∷ 3 ∷ 1 ∷ 0 ∷ 28 ∷ [])) 11
+    (set (set (zeros 16) 0 29) 1 3) 10)
+    1024 (3 ∷ 32 ∷ 3 ∷ 26 ∷ 3 ∷ 87 ∷ 3 ∷ 1 ∷ 3 ∷ 31 ∷ 3 ∷ 30 ∷ 3 ∷ 232 ∷ 3 ∷ 3 ∷ 3 ∷ 0 ∷ 3 ∷ 0 ∷ 3 ∷ 1 ∷ []) (ran Finished 11 11 0 r01 r01 Plain)
+    ∷ holds (secretJob (1 ∷ 1 ∷ 2 ∷ 0 ∷ 17 ∷ []) 1 (set zero17 0 1) 10) 1 (tagged 18446744073709551615 (setOf (0 ∷ [])))
+    ∷ holds (secretJob (1 ∷ 1 ∷ 2 ∷ 0 ∷ 18 ∷ []) 1 (set zero17 0 1) 10) 1 (tagged 18446744073709551614 (setOf (0 ∷ [])))
+    -- a constant: its bytes, the lowest first, and the empty set
+    ∷ holds (secretJob (1 ∷ 1 ∷ 1 ∷ 16 ∷ 1 ∷ 2 ∷ 3 ∷ 4 ∷ 5 ∷ 6 ∷ 7 ∷ 8 ∷ []) 1 zero17 10) 1 (tagged 578437695752307201 (setOf []))
+    -- addresses near 2^64 are outside, also where 16 + address would wrap; the full address of a store is seen, and its set gathered
+    ∷ holds (secretJob (2 ∷ 1 ∷ 1 ∷ 0 ∷ []) 1 (set (set zero17 0 18446744073709551600) 1 4) 10) 1 (tagged 0 (setOf (0 ∷ [])))
+    ∷ holds (secretJob (3 ∷ 1 ∷ 1 ∷ 0 ∷ []) 1 (set zero17 0 18446744073709551600) 10) 0 (tagged 18446744073709551600 (setOf (0 ∷ [])))
+    ∷ run (secretJob (3 ∷ 1 ∷ 1 ∷ 0 ∷ []) 1 (set zero17 0 5) 10) 1024 (4 ∷ 5 ∷ []) (ran Finished 1 1 0 (0 ∷ []) (0 ∷ []) Plain)
+    -- a rollback restores memory (beqz r0 2; store r6 r5) and values
+    ∷ holds (secretJob (5 ∷ 0 ∷ 2 ∷ 0 ∷ 3 ∷ 6 ∷ 1 ∷ 5 ∷ 0 ∷ []) 3 (set zero17 6 9) 10) 16 (tagged 0 (setOf (16 ∷ [])))
+    ∷ holds (secretJob restoring 3 (set zero17 6 9) 10) 5 (tagged 0 (setOf (5 ∷ [])))
+    -- assign, store, conditional assign and jmp each cost 1 of the window: one load is left of 5
+    ∷ run (secretJob costing 7 zero17 5) 1024 (0 ∷ 0 ∷ 2 ∷ 1 ∷ 4 ∷ 0 ∷ 2 ∷ 5 ∷ 3 ∷ 0 ∷ 1 ∷ 0 ∷ 2 ∷ 7 ∷ [])
+    (ran Finished 7 7 1 (0 ∷ 1 ∷ 3 ∷ []) (0 ∷ []) Speculative)
+    -- a rollback is a step, counted against b
+    ∷ run (job 0 10 3) 1024 (0 ∷ 0 ∷ 2 ∷ 4 ∷ 1 ∷ 0 ∷ 2 ∷ 2 ∷ []) (ran Spent 4 3 1 r01 r01 Undecided)
+    ∷ []
+
+-- every word of every area, after runs and after refusals
+unfoldable pub areasLeft : List Row
+areasLeft =
+    -- a second state one byte too long
+    pair (job 1 10 100) (zeros 161) 12 [] [] (answers.Refused refusals.SecondState)
+    -- refusal 1 comes before 10; an end area of just 16 + m words is enough
+    ∷ leaves [] (lent (filled 3) [] []) (runRefused refusals.Length) (lent (filled 3) [] [])
+    ∷ leaves (job 1 10 3) (lent (filled 9) (filled 20) (filled 4096)) (ran Spent 3 3 0 r01 r01 Undecided)
+    (lent (0 ∷ 0 ∷ 2 ∷ 2 ∷ 3 ∷ 1 ∷ filled 3) (1 ∷ 1 ∷ 0 ∷ 1 ∷ zeros 13 ++ (1 ∷ zeros 2)) (zeros 4096))
+    -- all areas after a plain run, and after its refusals
+    ∷ plainLeaves (job 0 10 3) (lent (filled 9) (filled 21) (filled 4097)) (plainRan Spent 2 3 r01)
+    (lent (2 ∷ 2 ∷ 3 ∷ 0 ∷ filled 5) (0 ∷ 1 ∷ 1 ∷ zeros 14 ++ (1 ∷ zeros 2 ++ filled 1)) (zeros 4096 ++ filled 1))
+    ∷ plainLeaves (job 1 10 3) (lent (filled 9) (filled 19) (filled 4096)) (plainRefused refusals.Areas)
+    (lent (filled 9) (filled 19) (filled 4096))
+    ∷ plainLeaves (job 1 10 3) (lent (filled 9) (filled 20) (filled 4095)) (plainRefused refusals.Areas)
+    (lent (filled 9) (filled 20) (filled 4095))
+    ∷ plainLeaves [] (lent (filled 3) [] []) (plainRefused refusals.Length) (lent (filled 3) [] [])
+    -- all areas after a pair, and after its refusals: 9 before 10, a short working area, unequal trace areas
+    ∷ pairLeaves (job 1 10 100) (wordBytes (state 1 1 0)) (pairLent (filled 13) (filled 13) (filled 4097))
+    (answers.Compared pairs.LeakShown (counted Finished 6 5 1) (counted Finished 6 5 1))
+    (pairLent (whole ++ filled 1) (0 ∷ 0 ∷ 2 ∷ 2 ∷ 3 ∷ 1 ∷ 3 ∷ 2 ∷ 1 ∷ 0 ∷ 2 ∷ 4 ∷ filled 1) (zeros 4096 ++ filled 1))
+    ∷ pairLeaves (job 1 10 100) (zeros 159) (pairLent (filled 3) (filled 4) []) (answers.Refused refusals.SecondState) (pairLent (filled 3) (filled 4) [])
+    ∷ pairLeaves (job 1 10 100) (wordBytes (state 1 1 0)) (pairLent (filled 3) (filled 3) (filled 4095)) (answers.Refused refusals.Areas)
+    (pairLent (filled 3) (filled 3) (filled 4095))
+    ∷ pairLeaves (job 1 10 100) (wordBytes (state 1 1 0)) (pairLent (filled 13) (filled 12) (filled 4096)) (answers.Refused refusals.Areas)
+    (pairLent (filled 13) (filled 12) (filled 4096))
+    ∷ []
+
+-- the listing: ids and places in decimal, END as "end"; the longest number; spent; the word alone where a set is empty
+unfoldable pub listings : List Row
+listings =
+    prints (secretJob (5 ∷ 0 ∷ 0 ∷ 0 ∷ []) 1 (set (zeros 16) 0 1) 1)
+    (lines
+    ("start 0" ∷ "pc 0" ∷ "start 1" ∷ "pc 0" ∷ "rollback 1" ∷ "pc end" ∷ "rollback 0" ∷ "pc end" ∷ "stop finished" ∷ "steps 4" ∷ "rollbacks 2" ∷ "depends r0" ∷ "plain r0" ∷ "verdict plain" ∷ []))
+    ∷ prints (secretJob (3 ∷ 1 ∷ 1 ∷ 0 ∷ 3 ∷ 1 ∷ 1 ∷ 2 ∷ []) 2 (set (set (zeros 16) 0 18446744073709551615) 2 2) 10)
+    (lines
+    ("store 18446744073709551615" ∷ "store 2" ∷ "stop finished" ∷ "steps 2" ∷ "rollbacks 0" ∷ "depends r0 r2" ∷ "plain r0 r2" ∷ "verdict plain" ∷ []))
+    ∷ prints (job 1 10 0) (lines ("stop spent" ∷ "steps 0" ∷ "rollbacks 0" ∷ "depends" ∷ "plain" ∷ "verdict undecided" ∷ []))
     ∷ []

@@ -64,13 +64,19 @@ refusals =
     ∷ reads (skips 1 0 10 1 100) 2
     ∷ reads (skips 1 0 10 0 1000000) 0
     ∷ reads (skips 1 0 10 0 1000001) 2
+    -- and their high bytes
+    ∷ reads (skips 1 256 10 0 100) 2
+    ∷ reads (skips 1 0 256 0 100) 2
+    ∷ reads (skips 1 0 10 256 100) 2
+    ∷ reads (skips 1 0 10 0 16777316) 2
     -- 3: S > Q; Q − S not 128 + 8m; Q + 48 not the length, also where it would wrap in 16 bits
     ∷ reads (offsetsAt 1 129) 0
     ∷ reads (offsetsAt 130 129) 3
     ∷ reads (offsetsAt 2 129) 3
     ∷ reads (offsetsAt 2 130) 3
     ∷ reads (offsetsAt 0 128) 3
-    ∷ reads (offsetsAt 65536 65664) 3
+    ∷ reads (offsetsAt 0 129) 3
+    ∷ reads (zeros 16 ++ trailerBytes 65392 65520 1 0 10 0 100) 3
     -- 4: unknown kind or token, register over 15, token count, a kind byte or field past S
     ∷ reads (program (8 ∷ []) 1 0) 4
     ∷ reads (program (4 ∷ 1 ∷ 15 ∷ []) 1 0) 0
@@ -91,6 +97,9 @@ refusals =
     ∷ reads (program (4 ∷ 2 ∷ 0 ∷ 0 ∷ []) 1 0) 5
     ∷ reads (program (4 ∷ 15 ∷ zeros 8 ++ replicate 7 19) 1 0) 0
     ∷ reads (program (4 ∷ 16 ∷ zeros 9 ++ replicate 7 19) 1 0) 5
+    ∷ reads (program (1 ∷ 0 ∷ 1 ∷ 17 ∷ []) 1 0) 5
+    ∷ reads (program (2 ∷ 0 ∷ 1 ∷ 17 ∷ []) 1 0) 5
+    ∷ reads (program (3 ∷ 0 ∷ 1 ∷ 17 ∷ []) 1 0) 5
     -- 4 on the whole instruction before 5; 5 and 6 of an instruction before 4 of the next
     ∷ reads (program (6 ∷ 0 ∷ 1 ∷ 17 ∷ 1 ∷ 29 ∷ []) 1 0) 4
     ∷ reads (program (6 ∷ 0 ∷ 1 ∷ 17 ∷ 1 ∷ 0 ∷ []) 1 0) 5
@@ -106,6 +115,9 @@ refusals =
     ∷ reads (program (5 ∷ 0 ∷ 0 ∷ 1 ∷ 0 ∷ []) 2 0) 6
     -- 7: bytes left before S
     ∷ reads (program (0 ∷ 0 ∷ []) 1 0) 7
+    -- 4 and 7 before 8
+    ∷ reads (8 ∷ zeros 128 ++ set (zeros 32) 31 128 ++ trailerBytes 1 129 1 0 10 0 100) 4
+    ∷ reads (0 ∷ 0 ∷ zeros 128 ++ set (zeros 32) 31 128 ++ trailerBytes 2 130 1 0 10 0 100) 7
     -- 8: a public bit at 16 + m or above
     ∷ reads (listBit 2 8) 0
     ∷ reads (listBit 2 16) 8

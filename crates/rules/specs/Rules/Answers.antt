@@ -47,13 +47,6 @@ pairNumber pairs.PlainDiffers = 2
 pairNumber pairs.LeakShown = 3
 pairNumber pairs.Equal = 4
 
-abbrev pub pairText : PairWord → List ℕ
-pairText pairs.NotComparable = text "not comparable"
-pairText pairs.Undecided = text "undecided"
-pairText pairs.PlainDiffers = text "plain differs"
-pairText pairs.LeakShown = text "leak shown"
-pairText pairs.Equal = text "equal"
-
 -- the table of refusals, in its order
 abbrev pub refusalNumber : Refusal → ℕ
 refusalNumber refusals.Length = 1
