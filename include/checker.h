@@ -255,10 +255,11 @@ enum checker_compare_answer {
  *
  * Returns 0 or a refusal number (1 to 8, or 10).
  *
- * Two states that hold the same words at the locations of D give the same
- * answer and the same observations, with the same program, public list and
- * trailer. So after the verdict "clean" no observation tells anything about a
- * location that is not public.
+ * A second state that holds the same words as the job's state at the locations
+ * of D gives, in areas of the same lengths, the same answer and the same
+ * observations (same program, public list and trailer). After the verdict
+ * "clean" this holds of every state that agrees with the job's at the public
+ * locations; other public values are another job.
  */
 uint32_t checker_run(const uint8_t *job, size_t job_len,
                      uint64_t *trace, size_t trace_len,

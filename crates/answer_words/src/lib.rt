@@ -1,4 +1,5 @@
-// An answer as numbers and words, for callers that have no enums: document 01's number for each case, and the words in their order.
+// An answer as numbers and words, for callers that have no enums: a number for each case (of a refusal document 01's), and the words
+// in their order.
 use location::LocationSet;
 use rules::Counts;
 use rules::PairWord;

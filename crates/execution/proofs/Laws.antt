@@ -6,12 +6,12 @@ use mathlib.Core.List.{List, []}
 use Prim.Native.Nat.{ℕ, zero, suc, _+_, _*_, _/_, _<_, _≤_}
 use lib.Dec.{leb}
 use native.Mathlib.Omega.{arith}
-use lib.ListN.{length}
+use lib.ListN.{length, replicate, length-replicate}
 use borrow.Author.Tests.{leb-true}
 use Rattle.location.specs.Sets.{registers, limit}
 use Rattle.rules.specs.declared.Stop.the-variants.{TraceFull}
 use Rattle.rules.specs.declared.Trailer.{Trailer}
-use Rattle.rules.specs.Rules.Instructions.{Observation}
+use Rattle.rules.specs.Rules.Instructions.{Observation, skip, windowCosts}
 use Rattle.rules.specs.Rules.Plain as plain
 use Rattle.rules.specs.Rules.Plain.{Code, end, exec}
 use Rattle.location.specs.declared.Label.{Label}
@@ -27,7 +27,7 @@ use Rattle.effect.specs.declared.Observed.the-variants as shown
 use Rattle.effect.specs.declared.Effect.{Effect}
 use Rattle.effect.specs.Effects.{observations, effectMeaning, Executed}
 use Rattle.stepping.specs.declared.Progress.{Progress}
-use Rattle.stepping.specs.Steps.{Made, RolledBackTo, OpenedTo, CarriedOutTo}
+use Rattle.stepping.specs.Steps.{Made, RolledBackTo, OpenedTo, CarriedOutTo, Effective}
 use Rattle.execution.specs.declared.Mode.{Mode}
 use Rattle.execution.specs.declared.Opening.the-variants as openings
 use Rattle.execution.specs.declared.Next.{Next}
@@ -42,6 +42,21 @@ room-words area c k e t = let h = leb-true (c .observations + k) (length area / 
 
 abbrev pub unchanged : (w area : List ℕ) (c : Progress) → Unchanged w w area area c c
 unchanged w area c = record { work = refl; trace = refl; progress = refl }
+
+-- an effect that was computed is that of its instruction, whatever program of that length and those cells it stands in
+pub effective : (p : List ℕ) (t : Trailer) (c : Progress) {w : List ℕ} {i : Instruction} {e : Effect}
+    → Executed p w (t .count) (t .cells) (c .control .place) i e → t .cells ≤ 240 → Effective w c i e
+unfolding end
+effective p t c x h =
+    let code : Code = record { prog = replicate (t .count) skip; cells = t .cells; window = t .window; costs = windowCosts } in
+    record {
+      bytes = p;
+      locations = registers + t .cells;
+      code = code;
+      most = omega arith;
+      costs = refl;
+      same = x .exact code (length-replicate (t .count) skip) refl;
+    }
 
 module _ {w w′ area area′ : List ℕ} {c c′ : Progress} {x : Bool} where
   pub rolled : x ≡ roomFor area c 2 → x ≡ true → RolledBackTo w w′ area area′ c c′ → RollBackTried w w′ area area′ c next.Go c′

@@ -107,6 +107,7 @@ pub fn evaluate(p: &[u8], work: &[u64], e: Expression) -> Tagged
                 offset = next;
                 i += 1;
             }
+            // Not reached: an expression that keeps the postfix rule can be read.
             TokenRead::Refused(_) => {
                 return Tagged { value: 0, deps };
             }

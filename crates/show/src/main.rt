@@ -1,6 +1,6 @@
 // The program that prints one run: the listing of job.mua in its folder. A missing file is an empty job.
 // Where the file cannot be read, or the listing cannot be written, it says why on standard error: a program has no exit status.
-// Assumed of the system: what the kit's libraries say of open, read and write.
+// Assumed of the system: what the toolchain's libraries say of open, read and write.
 use libc::STDOUT_FILENO;
 ghost use lib.ListN.{length};
 ghost use Rattle.show.specs.Reading.{Within, FullRefused};

@@ -58,6 +58,16 @@ pub record CarriedOutTo (p w w′ t t′ : List ℕ) (i : Instruction) (e : Effe
       → effectMeaning (stateIn w n) e ≡ exec code (stateIn w n) (c .control .place) (meaning p i)
       → Made n (ordinary code (machineOf w (c .control) n) (meaning p i)) w w′ t t′ c c′
 
+-- What rule 3 asks of its effect: it is what instruction i does in the state of some n locations, for some program. Then the result
+-- is that of rule 3 for every such program (CarriedOutTo).
+pub record Effective (w : List ℕ) (c : Progress) (i : Instruction) (e : Effect) : Type 0 where
+  pub bytes : List ℕ
+  pub locations : ℕ
+  pub code : Code
+  pub most : locations ≤ limit
+  pub costs : code .costs ≡ windowCosts
+  pub same : effectMeaning (stateIn w locations) e ≡ exec code (stateIn w locations) (c .control .place) (meaning bytes i)
+
 -- What rules 2 and 3 ask in common: the words fit, the counts are small, the trace area has room for so many observations
 -- more, and an open branch has some window left.
 pub record Steppable (w t : List ℕ) (observations : ℕ) (c : Progress) : Type 0 where

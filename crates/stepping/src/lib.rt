@@ -19,7 +19,7 @@ ghost use Rattle.work.specs.Machines.{maxWindow, Fit};
 ghost use Rattle.work.specs.Moves.{Moves, ordinaryNext};
 ghost use Rattle.effect.specs.Effects.{observations, stateAfter};
 ghost use Rattle.stepping.specs.Progress.{gatherAt, progressAfter};
-ghost use Rattle.stepping.specs.Steps.{Counted, Steppable, Leaves, RolledBackTo, OpenedTo, CarriedOutTo};
+ghost use Rattle.stepping.specs.Steps.{Counted, Steppable, Leaves, RolledBackTo, OpenedTo, CarriedOutTo, Effective};
 
 // Where a run stands: the machine's control, the counts, the full set and the plain set.
 pub struct Progress {
@@ -186,7 +186,7 @@ pub fn carry_out(
     i: Instruction,
     e: Effect,
 ) -> Progress
-    requires { ⌜ Steppable (now work) (now trace) (length (observations (e .observed))) c × (e .location .0 < limit) ⌝ }
+    requires { ⌜ Steppable (now work) (now trace) (length (observations (e .observed))) c × (e .location .0 < limit) × Effective (now work) c i e ⌝ }
     ensures { λ r. ⌜ ((p : List ℕ) → CarriedOutTo p (now (work .entry)) (now (work .exit)) (now (trace .entry)) (now (trace .exit)) i e c r) ⌝ }
 {
     let control = c.control;

@@ -37,7 +37,7 @@ struct Options {
     only: Option<String>,
 }
 
-struct Session {
+struct Differential {
     options: Options,
     tally: Tally,
     failures: u64,
@@ -46,8 +46,8 @@ struct Session {
 fn main() -> ExitCode {
     match options() {
         Ok(options) => {
-            let mut session = Session { options, tally: Tally::default(), failures: 0 };
-            session.run()
+            let mut differential = Differential { options, tally: Tally::default(), failures: 0 };
+            differential.run()
         }
         Err(error) => {
             eprintln!("{error}\n{USAGE}");
@@ -87,7 +87,7 @@ fn number(text: &str) -> Result<u64, String> {
     text.parse().map_err(|error| format!("{text}: {error}"))
 }
 
-impl Session {
+impl Differential {
     fn run(&mut self) -> ExitCode {
         let start = Instant::now();
         match self.options.only.take() {

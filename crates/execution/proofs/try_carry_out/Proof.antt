@@ -4,7 +4,7 @@ use Prim.Native.Nat.{_≤_, _*_, _+_}
 use native.Mathlib.Omega.{arith}
 use lib.ListN.{length}
 use Rattle.effect.specs.Effects.{observations}
-use Rattle.execution.proofs.Laws.{room-words, few-observations, carried, not-carried}
+use Rattle.execution.proofs.Laws.{room-words, few-observations, effective, carried, not-carried}
 use borrow.Author.Needs.{needs}
 use Rattle.execution.proofs.try_carry_out.Statement.{statement}
 use Rattle.execution.proofs.try_carry_out.Tie as tie
@@ -36,8 +36,11 @@ carry-out-requires c κs =
     let l = p .limits .cells in
     let x = c .before .before .before .before .before .before .effect-of .ensures .location in
     let h = room-words (a .trace .now) (a .c) (c .before .before .before .before .shown .result) (c .before .before .before .has-room .ensures) (c .before .before .if1 .taken) in
-    let n = c .before .before .before .before .shown .ensures in
-    (record { fits = p .live .fits; counted = p .live .counted; more = omega arith; live = p .live .live }, omega arith)
+    let n = c .before .before .before .before .shown .ensures in (
+      record { fits = p .live .fits; counted = p .live .counted; more = omega arith; live = p .live .live },
+      omega arith,
+      effective (a .p .now) (a .t) (a .c) (c .before .before .before .before .before .before .effect-of .ensures) l,
+    )
 
 same-length : tie.Need-same-length
 same-length c = search needs

@@ -23,9 +23,9 @@ use Rattle.rules.specs.Cases.Refusals.{reads, numberOf, readNumbers, wan
 use Rattle.rules.specs.Cases.Operators.{computed, expected, high, all, boundaries}
 
 -- "S is 28, Q 188, the file 236 bytes."
-pub printed-length : length (job 1 10 100) ≡ 236
-unfolding bytesOf wordBytes trailerBytes file printedProgram state public job
-printed-length = refl
+pub printed-numbers : (trailer (job 1 10 100) .state ≡ 28) × (trailer (job 1 10 100) .list ≡ 188) × (length (job 1 10 100) ≡ 236)
+unfolding bytesOf wordBytes trailerBytes file printedProgram state public job little trailerAt trailer
+printed-numbers = (refl, refl, refl)
 
 -- The operators at their boundaries.
 pub operators-hold : computed boundaries ≡ expected boundaries

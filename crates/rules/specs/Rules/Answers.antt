@@ -1,4 +1,5 @@
--- The numbers and words of document 01 for each case of an answer.
+-- The number and word of each case of an answer. Refusals have document 01's numbers; stops, verdicts and the words on a pair are
+-- numbered from 0 in the order in which it names them (of a stop: finished first).
 -- Assumes nothing.
 use mathlib.Core.List.{List, [], _∷_}
 use Prim.Native.Nat.{ℕ}
