@@ -106,7 +106,7 @@ fn show_case(name: &[u8], job: &[u8], observations: usize)
     requires { ⌜ observations ≤ 512 ⌝ }
 {
     let words = 2 * observations;
-    let mut trace = [0u64; 1024];
+    let mut trace = [0u64; printer::TRACE];
     let mut lines = [0u8; printer::LINES];
     let n = printer::print_run(job, &mut trace[..words], &mut lines);
     write(b"case ");
@@ -127,9 +127,9 @@ fn write_word(word: PairWord) {
 
 // The heading, and the word on the job's state and a second one.
 fn show_pair(name: &[u8], job: &[u8], second: &[u8]) {
-    let mut first = [0u64; 1024];
-    let mut other = [0u64; 1024];
-    let mut work = [0u64; 4096];
+    let mut first = [0u64; printer::TRACE];
+    let mut other = [0u64; printer::TRACE];
+    let mut work = [0u64; work::WORDS];
     write(b"case ");
     write(name);
     write(b"\n");

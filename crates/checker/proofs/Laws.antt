@@ -18,7 +18,7 @@ use Rattle.rules.specs.declared.PlainAnswer.{PlainAnswer}
 use Rattle.rules.specs.declared.PairAnswer.{PairAnswer}
 use Rattle.rules.specs.declared.PairAnswer.the-variants as pairs
 use Rattle.rules.specs.Rules.Runs.{Job, mispredictingRun, plainRun}
-use Rattle.rules.specs.Rules.JobFile.{accepted, rejected, parse, publicOf}
+use Rattle.rules.specs.Rules.JobFile.{rejected, parse, locations, publicOf}
 use Rattle.rules.specs.Rules.Calls.{Areas, Called, lent, workingWords, room, longEnough, areasAfter, runReport, runRefused, runParsed, runCall, plainReport, plainRefused, plainParsed, plainCall}
 use Rattle.rules.specs.Rules.Pairs.{PairAreas, pairRefused, pairParsed, pairCall}
 use Rattle.rules.specs.Rules.Demands.{Exact, RunUnaltered, PlainUnaltered, Demand2, Demand3, PairExact, PairUnaltered, PairMeaning}
@@ -29,7 +29,6 @@ use Rattle.rules.specs.Theorems.PairLaws.{pair-meaning, pair-unaltered}
 use Rattle.job.specs.Answers.{Accepts}
 use Rattle.stepping.specs.declared.Progress.{Progress}
 use Rattle.execution.specs.declared.Mode.the-variants as modes
-use Rattle.execution.specs.Turns.{locations}
 use Rattle.job_run.specs.Accepted.{accepted-size, accepted-public}
 use Rattle.job_run.specs.JobRuns.{AreasFit, RunIn}
 use Rattle.checker.specs.Reports.{reportOf, plainReportOf, report-same, plain-report-same, run-short, plain-short, run-rejected, plain-rejected}

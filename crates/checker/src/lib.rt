@@ -92,7 +92,7 @@ fn run_accepted(
     requires { ⌜ Accepts (now job) t ⌝ }
     ensures { λ r. ⌜ Exact (runCall (now (job .entry)) (lent (now (trace .entry)) (now (end .entry)) (now (work .entry)))) r (lent (now (trace .exit)) (now (end .exit)) (now (work .exit))) ⌝ }
 {
-    let n = 16 + t.cells;
+    let n = t.locations();
     if !job_run::areas_fit(n, &end[..], &work[..]) {
         return run_refused(Refusal::Areas);
     }
@@ -124,7 +124,7 @@ fn plain_accepted(
     requires { ⌜ Accepts (now job) t ⌝ }
     ensures { λ r. ⌜ Exact (plainCall (now (job .entry)) (lent (now (trace .entry)) (now (end .entry)) (now (work .entry)))) r (lent (now (trace .exit)) (now (end .exit)) (now (work .exit))) ⌝ }
 {
-    let n = 16 + t.cells;
+    let n = t.locations();
     if !job_run::areas_fit(n, &end[..], &work[..]) {
         return plain_refused(Refusal::Areas);
     }

@@ -16,6 +16,7 @@ use Rattle.rules.specs.Rules.Plain as plain
 use Rattle.rules.specs.Rules.Plain.{Code, end, exec}
 use Rattle.location.specs.declared.Label.{Label}
 use Rattle.rules.specs.Rules.Mispredicting.{rolling, opening, ordinary, forward}
+use Rattle.rules.specs.Rules.JobFile.{locations}
 use Rattle.rules.specs.Theorems.JobLaws.{Limits}
 use Rattle.instruction.specs.declared.Instruction.{Instruction}
 use Rattle.instruction.specs.Meaning.{meaning}
@@ -34,7 +35,7 @@ use Rattle.execution.specs.declared.Next.{Next}
 use Rattle.execution.specs.declared.Next.the-variants as next
 use Rattle.execution.specs.TurnLaws.{closed-false, not-expired}
 use Rattle.stops.specs.Stops.{closedAt, roomFor}
-use Rattle.execution.specs.Turns.{locations, Unchanged, RollBackTried, OpeningTried, CodeOf, CarryingTried, Opens, Advanced}
+use Rattle.execution.specs.Turns.{Unchanged, RollBackTried, OpeningTried, CodeOf, CarryingTried, Opens, Advanced}
 
 -- room for k observations, as a number of words
 pub room-words : (area : List ℕ) (c : Progress) (k : ℕ) {x : Bool} → x ≡ roomFor area c k → x ≡ true → 2 * (c .observations + k) ≤ length area

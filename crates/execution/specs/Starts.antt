@@ -12,7 +12,7 @@ use Rattle.rules.specs.Rules.Instructions.{Instr, windowCosts}
 use Rattle.rules.specs.Rules.Plain.{Code, ownFrom}
 use Rattle.rules.specs.Rules.Mispredicting.{Machine, step, plainStep}
 use Rattle.rules.specs.Rules.Runs.{Result, Job, run, first, blank, mispredictingRun, plainRun}
-use Rattle.rules.specs.Rules.JobFile.{got, program, trailer, stateOf, jobOf, programOf}
+use Rattle.rules.specs.Rules.JobFile.{got, program, trailer, locations, stateOf, jobOf, programOf}
 use Rattle.rules.specs.Rules.Calls.{written, traceWords, workingWords, room}
 use Rattle.rules.specs.Rules.Pairs.{withState}
 use Rattle.rules.specs.Theorems.JobLaws.{Passed, job-init, job-budget, limits-hold}
@@ -24,7 +24,7 @@ use Rattle.stepping.specs.Progress.{logOf}
 use Rattle.stepping.specs.Steps.{Counted}
 use Rattle.execution.specs.declared.Mode.{Mode}
 use Rattle.execution.specs.declared.Mode.the-variants as modes
-use Rattle.execution.specs.Turns.{stepBy, codeOf, locations, Loaded, Running}
+use Rattle.execution.specs.Turns.{stepBy, codeOf, Loaded, Running}
 
 -- nothing is done yet
 unfoldable pub beginning : Progress

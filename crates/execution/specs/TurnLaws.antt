@@ -19,11 +19,12 @@ use Rattle.rules.specs.Rules.Plain.{Code, State, end, fetch}
 use Rattle.rules.specs.Rules.Mispredicting.{Branch, Machine, Step, expired, rolling, forward, ordinary, lower, stepOn, step, plainStep}
 use Rattle.rules.specs.Rules.Loop.{ended}
 use Rattle.rules.specs.Rules.Runs.{Log, Result, note, fits, overOn, over, run}
-use Rattle.rules.specs.Rules.JobFile.{Read, got, refused, program}
+use Rattle.rules.specs.Rules.JobFile.{Read, got, refused, program, locations}
 use Rattle.rules.specs.Rules.Calls.{written, traceWords}
 use Rattle.rules.specs.Theorems.RunLaws.{run-over, run-spent, run-full, run-step}
 use Rattle.rules.specs.Theorems.JobLaws.{Limits, length-program}
 use Rattle.rules.specs.Theorems.CallLaws.{length-traceWords}
+use Rattle.rules.specs.Theorems.Undo.{Change}
 use Rattle.token.specs.Meaning.{valueOr}
 use Rattle.instruction.specs.declared.Instruction.{Instruction}
 use Rattle.instruction.specs.Meaning.{meaning}
@@ -32,7 +33,7 @@ use Rattle.effect.specs.Registers.{instr-below}
 use Rattle.work.specs.declared.BranchEntry.{BranchEntry}
 use Rattle.work.specs.declared.machine.Control.{Control}
 use Rattle.work.specs.Layout.{labels}
-use Rattle.work.specs.Words.{Change, changeAt, entryAt, windowIn}
+use Rattle.work.specs.Words.{changeAt, entryAt, windowIn}
 use Rattle.work.specs.Machines.{stateIn, branchesOf, machineOf, Fit}
 use Rattle.work.specs.Moves.{expiredOn}
 use Rattle.stepping.specs.declared.Progress.{Progress}
@@ -43,7 +44,7 @@ use Rattle.execution.specs.declared.Mode.the-variants as modes
 use Rattle.execution.specs.declared.Next.{Next}
 use Rattle.execution.specs.declared.Next.the-variants as next
 use Rattle.stops.specs.Stops.{closedAt, roomFor}
-use Rattle.execution.specs.Turns.{stepBy, codeOf, locations, Loaded, Ready, Unchanged, Tried, RollBackTried, CodeOf, forwardBy, Advancing, Advanced, Halts, GoesOn, Turned, Running, RanTo}
+use Rattle.execution.specs.Turns.{stepBy, codeOf, Loaded, Ready, Unchanged, Tried, RollBackTried, CodeOf, forwardBy, Advancing, Advanced, Halts, GoesOn, Turned, Running, RanTo}
 
 -- ---- the program
 pub code-end : (p : List ℕ) (t : Trailer) → readable (program (t .count) (t .count) 0 p 0) ≡ true → end (codeOf p t) ≡ t .count

@@ -15,7 +15,7 @@ use Rattle.rules.specs.Rules.Plain.{Code, end}
 use Rattle.rules.specs.Rules.Mispredicting.{Branch, Machine, Step, rolling, opening, ordinary, forward, step, plainStep}
 use Rattle.rules.specs.Rules.Loop.{ended}
 use Rattle.rules.specs.Rules.Runs.{Log, Result, fits, over, run}
-use Rattle.rules.specs.Rules.JobFile.{postfix, program}
+use Rattle.rules.specs.Rules.JobFile.{postfix, program, locations}
 use Rattle.rules.specs.Rules.Calls.{written, traceWords}
 use Rattle.rules.specs.Theorems.JobLaws.{Limits}
 use Rattle.token.specs.Meaning.{valueOr}
@@ -51,10 +51,6 @@ codeOf p t = record {
   window = t .window;
   costs = windowCosts;
 }
-
--- how many locations a job has
-abbrev pub locations : Trailer → ℕ
-locations t = registers + t .cells
 
 -- The program was accepted, and the working words hold the byte offset of each of its labels.
 pub record Loaded (p : List ℕ) (t : Trailer) (w : List ℕ) : Type 0 where

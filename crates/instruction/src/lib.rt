@@ -1,5 +1,6 @@
 // Instructions: decoding them from the bytes of a program, and the window costs of their kinds.
 use location::Label;
+use location::Location;
 use rules::Refusal;
 use token::Expression;
 use token::ExpressionRead;
@@ -15,6 +16,8 @@ ghost use Rattle.rules.specs.Rules.Mispredicting.{remaining};
 ghost use Rattle.token.specs.Meaning.{readable, valueOr, tokensOf};
 ghost use Rattle.instruction.specs.Meaning.{registerReadMeaning, labelReadMeaning, meaning, withRegisterOf, instructionReadMeaning, Judged};
 
+const REGISTERS: u8 = Location::REGISTERS as u8;
+
 // A register with the offset after it.
 pub enum RegisterRead {
     Found(u8, usize),
@@ -29,7 +32,7 @@ fn read_register(p: &[u8], at: usize) -> RegisterRead
     }
     let r = p[at];
     let next = at + 1;
-    if r < 16 {
+    if r < REGISTERS {
         return RegisterRead::Found(r, next);
     }
     RegisterRead::Refused(Refusal::Encoding)

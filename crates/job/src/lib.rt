@@ -1,5 +1,6 @@
 // A job file: its trailer, program and public list; refusals 1 to 8 in their order. No offset is trusted
 // before it is tested: `read_job` asks nothing of the bytes.
+use location::Location;
 use location::LocationSet;
 use program::Checked;
 use rules::Refusal;
@@ -10,6 +11,9 @@ ghost use lib.ListN.{length, getD};
 ghost use Rattle.location.specs.Sets.{registers, limit};
 ghost use Rattle.rules.specs.Rules.JobFile.{little, trailerAt, trailer, limits, offsets, wordsAt, publicOf, noneFrom, programOf, finish, parse};
 ghost use Rattle.job.specs.Answers.{jobReadOf};
+
+// Cells are numbered after the registers.
+const REGISTERS: usize = Location::REGISTERS as usize;
 
 // The public list of a job file with these offsets.
 pub fn public_list(job: &[u8], t: Trailer) -> LocationSet
@@ -41,7 +45,7 @@ fn no_cell_from(set: LocationSet, first: usize) -> bool
     requires { ⌜ first ≤ 240 ⌝ }
     ensures { λ r. ⌜ r ≡ noneFrom set (registers + first) (limit - (registers + first)) ⌝ }
 {
-    let mut l = 16 + first;
+    let mut l = REGISTERS + first;
     while l < LocationSet::LIMIT {
         let rest = rest_of_word(set, l);
         if rest == 0 {

@@ -9,7 +9,7 @@ use Rattle.rules.specs.declared.Stop.{Stop}
 use Rattle.rules.specs.declared.Trailer.{Trailer}
 use Rattle.rules.specs.Rules.Plain.{values}
 use Rattle.rules.specs.Rules.Runs.{Job}
-use Rattle.rules.specs.Rules.JobFile.{accepted, parse, wordsAt}
+use Rattle.rules.specs.Rules.JobFile.{accepted, parse, locations}
 use Rattle.rules.specs.Rules.Calls.{lent, written, workingWords, room}
 use Rattle.rules.specs.Rules.Pairs.{withState}
 use Rattle.rules.specs.Theorems.JobLaws.{passed}
@@ -17,7 +17,7 @@ use Rattle.job.specs.Answers.{Accepts}
 use Rattle.work.specs.Machines.{stateIn}
 use Rattle.stepping.specs.declared.Progress.{Progress}
 use Rattle.execution.specs.declared.Mode.{Mode}
-use Rattle.execution.specs.Turns.{locations, RanTo}
+use Rattle.execution.specs.Turns.{RanTo}
 use Rattle.job_run.specs.Accepted.{accepted-state}
 use Rattle.job_run.specs.JobRuns.{resultOf, RunOf, RunIn}
 use Rattle.job_run.specs.Reports.{areas-same}

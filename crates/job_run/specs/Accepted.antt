@@ -5,11 +5,10 @@ use mathlib.Core.List.{List}
 use Prim.Native.Nat.{ℕ, _+_, _*_}
 use lib.ListN.{length}
 use Rattle.rules.specs.declared.Trailer.{Trailer}
-use Rattle.rules.specs.Rules.JobFile.{trailer, stateOf, publicOf, wordsAt}
+use Rattle.rules.specs.Rules.JobFile.{trailer, locations, stateOf, publicOf, wordsAt}
 use Rattle.rules.specs.Rules.Pairs.{withState}
 use Rattle.rules.specs.Theorems.JobLaws.{Passed, passed, Limits, limits-hold, job-init, job-public, length-stateOf, state-list, list-length}
 use Rattle.job.specs.Answers.{Accepts}
-use Rattle.execution.specs.Turns.{locations}
 use Rattle.execution.specs.Starts.{own-state}
 
 module _ {bs : List ℕ} {t : Trailer} (a : Accepts bs t) where

@@ -10,7 +10,7 @@ use Rattle.rules.specs.declared.Trailer.{Trailer}
 use Rattle.rules.specs.declared.Counts.{Counts}
 use Rattle.rules.specs.Rules.Plain.{ownFrom}
 use Rattle.rules.specs.Rules.Runs.{Job, Result, mispredictingRun, plainRun}
-use Rattle.rules.specs.Rules.JobFile.{accepted, parse, trailer, wordsAt}
+use Rattle.rules.specs.Rules.JobFile.{accepted, parse, trailer, locations, wordsAt}
 use Rattle.rules.specs.Rules.Calls.{Areas, workingWords, room, areasAfter}
 use Rattle.rules.specs.Rules.Pairs.{withState}
 use Rattle.rules.specs.Theorems.JobLaws.{passed, Passed, limits-hold}
@@ -22,7 +22,7 @@ use Rattle.stepping.specs.declared.Progress.{Progress}
 use Rattle.transfer.specs.Loads.{StateLoaded, LabelsLoaded, state-loaded-after, labels-loaded-after, labels-loaded-state}
 use Rattle.execution.specs.declared.Mode.{Mode}
 use Rattle.execution.specs.declared.Mode.the-variants as modes
-use Rattle.execution.specs.Turns.{locations, Loaded, RanTo}
+use Rattle.execution.specs.Turns.{Loaded, RanTo}
 use Rattle.execution.specs.Starts.{whole, program-accepted, whole-mispredicting, whole-plain}
 
 -- the rules' run of a job in each of the two modes

@@ -10,10 +10,11 @@ use Rattle.rules.specs.declared.Trailer.{Trailer}
 use Rattle.rules.specs.Rules.Plain.{State, values}
 use Rattle.rules.specs.Rules.Mispredicting.{Machine}
 use Rattle.rules.specs.Rules.Runs.{Log, Result}
+use Rattle.rules.specs.Rules.JobFile.{locations}
 use Rattle.rules.specs.Rules.Calls.{lent, written, workingWords, areasAfter, counts}
 use Rattle.work.specs.Machines.{stateIn}
 use Rattle.stepping.specs.declared.Progress.{Progress}
-use Rattle.execution.specs.Turns.{locations, RanTo}
+use Rattle.execution.specs.Turns.{RanTo}
 use Rattle.job_run.specs.JobRuns.{countsOf}
 
 -- cleared words keep only those past them

@@ -23,7 +23,7 @@ pub fn run_state(
     requires { ⌜ Runnable (now job) t (now states) at (now work) ⌝ }
     ensures { λ r. ⌜ RunOf (now (job .entry)) t mode (now (states .entry)) at (now (work .entry)) (now (work .exit)) (now (trace .entry)) (now (trace .exit)) (r .stop) (r .progress) ⌝ }
 {
-    let n = 16 + t.cells;
+    let n = t.locations();
     transfer::load_state(states, at, n, &mut work[..]);
     let s = t.state;
     let p = &job[0..s];
@@ -54,7 +54,7 @@ pub fn run_in_areas(
     ensures { λ r. ⌜ RunIn (now (job .entry)) t mode (lent (now (trace .entry)) (now (end .entry)) (now (work .entry))) (lent (now (trace .exit)) (now (end .exit)) (now (work .exit))) (r .stop) (r .progress) ⌝ }
 {
     let r = run_state(job, t, mode, job, t.state, &mut work[..], &mut trace[..]);
-    let n = 16 + t.cells;
+    let n = t.locations();
     transfer::save_values(&work[..], n, &mut end[..]);
     work::clear(&mut work[..]);
     r

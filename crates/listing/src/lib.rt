@@ -4,17 +4,20 @@ use location::Address;
 use location::Location;
 use location::LocationSet;
 use rules::Counts;
-use rules::Refusal;
 use rules::RunAnswer;
 use rules::RunOutcome;
 use rules::Stop;
 use rules::Verdict;
+use rules::observation::LOAD;
+use rules::observation::PC;
+use rules::observation::ROLLBACK;
+use rules::observation::START;
 ghost use mathlib.Core.Path.{_≡_};
 ghost use mathlib.Core.List.{_∷_, []};
 ghost use Prim.Native.Nat.{_+_, _^_, _<_};
 ghost use lib.ListN.{length, drop};
 ghost use Rattle.location.specs.Sets.{limit};
-ghost use Rattle.rules.specs.Rules.Answers.{text, stopWord, verdictWord, refusalNumber};
+ghost use Rattle.rules.specs.Rules.Answers.{text, stopWord, verdictWord};
 ghost use Rattle.rules.specs.Rules.Instructions.{pc};
 ghost use Rattle.rules.specs.Rules.Listing.{decimal, line, numberLine, observationLine, traceLines, locationText, members, setLine, summary};
 ghost use Rattle.listing.specs.Lines.{Put, observationOf, observed, memberText, printed};
@@ -99,10 +102,10 @@ fn put_observation(out: &mut [u8], at: usize, n: u64, kind: u64, value: u64) -> 
     ensures { λ r. ⌜ Put (now (out .entry)) at (observationLine n (observationOf kind value)) (now (out .exit)) r ⌝ }
 {
     match kind {
-        0 => put_number_line(out, at, b"start", value),
-        1 => put_number_line(out, at, b"rollback", value),
-        2 => put_place_line(out, at, n, value),
-        3 => put_number_line(out, at, b"load", value),
+        START => put_number_line(out, at, b"start", value),
+        ROLLBACK => put_number_line(out, at, b"rollback", value),
+        PC => put_place_line(out, at, n, value),
+        LOAD => put_number_line(out, at, b"load", value),
         _ => put_number_line(out, at, b"store", value),
     }
 }
@@ -201,23 +204,6 @@ fn put_verdict(out: &mut [u8], at: usize, verdict: Verdict) -> usize
     }
 }
 
-fn refusal_number(cause: Refusal) -> u64
-    ensures { λ r. ⌜ r ≡ refusalNumber cause ⌝ }
-{
-    match cause {
-        Refusal::Length => 1,
-        Refusal::Trailer => 2,
-        Refusal::Offsets => 3,
-        Refusal::Encoding => 4,
-        Refusal::Postfix => 5,
-        Refusal::BranchLabel => 6,
-        Refusal::Surplus => 7,
-        Refusal::PublicList => 8,
-        Refusal::SecondState => 9,
-        Refusal::Areas => 10,
-    }
-}
-
 fn put_summary(
     out: &mut [u8],
     at: usize,
@@ -246,8 +232,8 @@ pub fn write_answer(n: usize, answer: RunAnswer, trace: &[u64], out: &mut [u8]) 
     let outcome = answer.outcome;
     match outcome {
         RunOutcome::Refused(cause) => {
-            let number = refusal_number(cause);
-            put_number_line(out, 0, b"refused", number)
+            let number = answer_words::refusal_number(cause);
+            put_number_line(out, 0, b"refused", number as u64)
         }
         RunOutcome::Ran(counts, verdict) => {
             let full = answer.depends;

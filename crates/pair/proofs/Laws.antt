@@ -21,7 +21,7 @@ use Rattle.rules.specs.declared.PairAnswer.{PairAnswer}
 use Rattle.rules.specs.declared.PairAnswer.the-variants as answers
 use Rattle.rules.specs.Rules.Instructions.{Observation}
 use Rattle.rules.specs.Rules.Runs.{Job, Result, mispredictingRun}
-use Rattle.rules.specs.Rules.JobFile.{accepted, rejected, parse, publicOf, wordsAt}
+use Rattle.rules.specs.Rules.JobFile.{locations, publicOf, wordsAt}
 use Rattle.rules.specs.Rules.Calls.{traceWords, written, workingWords, room, counts}
 use Rattle.rules.specs.Rules.Pairs.{withState, alikeFrom, pairWord, PairAreas, PairCalled, pairLent, pairAfter, pairRefused, secondFits, pairFits, pairAccepted, pairParsed, pairCall}
 use Rattle.rules.specs.Rules.Demands.{PairExact}
@@ -31,7 +31,7 @@ use Rattle.rules.specs.Theorems.PairLaws.{Pairs, pair-runs}
 use Rattle.job.specs.Answers.{Accepts}
 use Rattle.stepping.specs.declared.Progress.{Progress}
 use Rattle.execution.specs.declared.Mode.the-variants as modes
-use Rattle.execution.specs.Turns.{locations, RanTo}
+use Rattle.execution.specs.Turns.{RanTo}
 use Rattle.execution.specs.TurnLaws.{written-length}
 use Rattle.job_run.specs.Accepted.{accepted-size, accepted-public, accepted-init, accepted-state}
 use Rattle.job_run.specs.JobRuns.{countsOf, RunOf}

@@ -8,13 +8,12 @@ use Rattle.rules.specs.declared.Stop.{Stop}
 use Rattle.rules.specs.declared.Trailer.{Trailer}
 use Rattle.rules.specs.declared.PairAnswer.{PairAnswer}
 use Rattle.rules.specs.declared.PairAnswer.the-variants as answers
-use Rattle.rules.specs.Rules.JobFile.{publicOf, wordsAt}
+use Rattle.rules.specs.Rules.JobFile.{locations, publicOf, wordsAt}
 use Rattle.rules.specs.Rules.Calls.{workingWords}
 use Rattle.rules.specs.Rules.Pairs.{alikeFrom}
 use Rattle.judgement.specs.Words.{wordOf}
 use Rattle.job.specs.Answers.{Accepts}
 use Rattle.stepping.specs.declared.Progress.{Progress}
-use Rattle.execution.specs.Turns.{locations}
 use Rattle.job_run.specs.JobRuns.{countsOf}
 
 -- The job was accepted, the second state has its size, and each trace area is as long as what was written there.

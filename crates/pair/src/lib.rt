@@ -24,7 +24,7 @@ fn judge(
     ensures { λ x. ⌜ x ≡ comparedOf (now (job .entry)) t (now (second .entry)) (r .stop) (r .progress) (s .stop) (s .progress) (now (first .entry)) (now (other .entry)) ⌝ }
 {
     let public = job::public_list(job, t);
-    let n = 16 + t.cells;
+    let n = t.locations();
     let alike = transfer::alike_bytes(public, job, t.state, second, n);
     let c = job_run::counts_of(r);
     let d = job_run::counts_of(s);
@@ -67,7 +67,7 @@ pub fn compare_accepted(
     requires { ⌜ Accepts (now job) t ⌝ }
     ensures { λ r. ⌜ PairExact (pairCall (now (job .entry)) (now (second .entry)) (pairLent (now (first .entry)) (now (other .entry)) (now (work .entry)))) r (pairLent (now (first .exit)) (now (other .exit)) (now (work .exit))) ⌝ }
 {
-    let n = 16 + t.cells;
+    let n = t.locations();
     if second.len() != 8 * n {
         return PairAnswer::Refused(Refusal::SecondState);
     }

@@ -16,7 +16,7 @@ use Rattle.rules.specs.Rules.Runs.{Job, mispredictingRun}
 use Rattle.rules.specs.Rules.JobFile.{Parsed, accepted, rejected, parse, trailer}
 use Rattle.rules.specs.Rules.Calls.{Areas, Called, lent, room, workingWords, longEnough, written, areasAfter, runCall}
 use Rattle.rules.specs.Rules.Demands.{Exact}
-use Rattle.rules.specs.Rules.Listing.{listing}
+use Rattle.rules.specs.Rules.Listing.{printedRoom, listingOf, listing}
 use Rattle.rules.specs.Theorems.JobLaws.{passed, job-end, init-most}
 use Rattle.rules.specs.Theorems.CallLaws.{call-runs}
 use Rattle.job.specs.declared.JobRead.the-variants as job-read
@@ -26,7 +26,7 @@ use Rattle.listing.specs.Lines.{Put, observed, count, printed}
 use Rattle.listing.specs.Areas.{put-next, put-fits}
 use Rattle.listing.specs.Traces.{printed-report, printed-refused}
 use Rattle.listing.specs.Lengths.{observed-length, answer-bound}
-use Rattle.printer.specs.Printing.{instructionCount, linesOf, lines-listing, traceAfter, Prints, Listed}
+use Rattle.printer.specs.Printing.{instructionCount, traceAfter, Prints, Listed}
 
 -- ---- the number of instructions
 pub count-accepted : (bs : List ℕ) (t : Trailer) → job-read.Accepted t ≡ jobReadOf (trailer bs) (parse bs) → t .count ≡ instructionCount (parse bs)
@@ -42,7 +42,7 @@ count-refused bs r e = rw (read-refused (trailer bs) r (parse bs) e)
 -- what a call on these areas leaves in its trace area, and the lines that are printed of it
 record Shown (n k : ℕ) (P : Parsed) (a : RunAnswer) (trace trace′ : List ℕ) : Type 0 where
   pub traced : trace′ ≡ traceAfter P trace
-  pub lines : printed n a trace′ ≡ linesOf k P
+  pub lines : printed n a trace′ ≡ listingOf k P
 
 -- areas that are long enough for a job
 enough : (job : Job) (a : Areas) → workingWords ≤ length (a .work) → length (job .init) ≤ length (a .end) → longEnough job a ≡ true
@@ -58,13 +58,13 @@ module _ (bs t e w : List ℕ) {a : RunAnswer} {t′ e′ w′ : List ℕ} (x : 
 
   module _ (he : 256 ≤ length e) (hw : 4096 ≤ length w) {n : ℕ} (k : n ≡ instructionCount (parse bs)) where
     shown-refused : (r : Refusal) → parse bs ≡ rejected r → Shown n (room t) (rejected r) a t t′
-    unfolding linesOf traceAfter
+    unfolding listingOf traceAfter
     shown-refused r p =
         let q = run-rejected bs (lent t e w) r p in
         record { traced = trace-of q; lines = rw (answer-of q) (printed-refused n r t′) }
 
     shown-run : (job : Job) → parse bs ≡ accepted job → Shown n (room t) (accepted job) a t t′
-    unfolding linesOf traceAfter areasAfter
+    unfolding listingOf traceAfter areasAfter
     shown-run job p =
         let R = mispredictingRun job (room t) in
         let s = init-most (passed bs job p) in
@@ -92,10 +92,10 @@ printed-bound n a trace p =
     omega (arith, put-next p, answer-bound n os a, observed-length (count (a .outcome)) trace)
 
 -- ---- the listing, with room for 512 observations
-pub listed : {bs t t′ out out′ : List ℕ} {r : ℕ} → room t ≡ 512 → Prints bs t t′ out out′ r → r ≤ length out → Listed bs out out′ r
+pub listed : {bs t t′ out out′ : List ℕ} {r : ℕ} → room t ≡ printedRoom → Prints bs t t′ out out′ r → r ≤ length out → Listed bs out out′ r
 unfolding written
 listed {bs} {t} {t′} {out} {out′} {r} e p h =
-    let q : Put out 0 (listing bs) out′ r = rw (e, lines-listing bs) at (p .lines) in
+    let q : Put out 0 (listing bs) out′ r = unfold listing in rw e at (p .lines) in
     let s = put-next q in
     let f = put-fits q (omega arith) in
     let m : length out′ ≡ length out = ap length (q .area) ∙ length-sets out 0 (listing bs) in

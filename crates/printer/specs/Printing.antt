@@ -1,36 +1,20 @@
 -- What printing a run leaves in the lent areas: the rules' listing, with the room that the trace area has.
 -- Assumes nothing.
-use mathlib.Core.Path.{_≡_, refl}
-use mathlib.Core.List.{List, []}
+use mathlib.Core.Path.{_≡_}
+use mathlib.Core.List.{List}
 use Prim.Native.Nat.{ℕ, _≤_}
 use lib.ListN.{length, take}
 use Rattle.rules.specs.Rules.Plain.{end}
 use Rattle.rules.specs.Rules.Runs.{mispredictingRun}
 use Rattle.rules.specs.Rules.JobFile.{Parsed, accepted, rejected, parse}
-use Rattle.rules.specs.Rules.Calls.{traceWords, room, written, runReport, runRefused}
-use Rattle.rules.specs.Rules.Listing.{answerLines, listingOf, listing}
+use Rattle.rules.specs.Rules.Calls.{traceWords, room, written}
+use Rattle.rules.specs.Rules.Listing.{listingOf, listing}
 use Rattle.listing.specs.Lines.{Put}
 
 -- the number of instructions of an accepted job
 abbrev pub instructionCount : Parsed → ℕ
 instructionCount (rejected r) = 0
 instructionCount (accepted job) = end (job .code)
-
--- the lines of a run with room for k observations
-unfoldable pub linesOf : ℕ → Parsed → List ℕ
-linesOf k (rejected r) = answerLines 0 [] (runRefused r)
-linesOf k (accepted job) =
-    let r = mispredictingRun job k in
-    answerLines (end (job .code)) (r .log .trace) (runReport job r)
-
--- with room for 512 they are the rules' listing
-pub lines-listing : (file : List ℕ) → linesOf 512 (parse file) ≡ listing file
-unfolding linesOf listing listingOf
-lines-listing file = go (parse file)
-  where
-    go : (P : Parsed) → linesOf 512 P ≡ listingOf P
-    go (rejected r) = refl
-    go (accepted job) = refl
 
 -- the trace area after the run: "written observations stand from the front", all other words keep their contents
 unfoldable pub traceAfter : Parsed → List ℕ → List ℕ
@@ -40,7 +24,7 @@ traceAfter (accepted job) trace = written (traceWords (mispredictingRun job (roo
 -- a run printed: its trace area, and its lines from the front of an area of bytes as far as they fit, with their length
 pub record Prints (job trace trace′ out out′ : List ℕ) (r : ℕ) : Type 0 where
   pub traced : trace′ ≡ traceAfter (parse job) trace
-  pub lines : Put out 0 (linesOf (room trace) (parse job)) out′ r
+  pub lines : Put out 0 (listingOf (room trace) (parse job)) out′ r
 
 -- the rules' listing stands at the front of the area, all other bytes keep their contents, and r is its length
 pub record Listed (job out out′ : List ℕ) (r : ℕ) : Type 0 where

@@ -1,6 +1,7 @@
 // A run printed whole, from any bytes as a job to the bytes of its lines. The caller lends a trace area and an area for the lines;
 // the end area and the working area are this crate's own, long enough for every job. Nothing has to be tested beforehand.
 use job::JobRead;
+use location::LocationSet;
 ghost use mathlib.Core.Path.{_≡_};
 ghost use Prim.Native.Nat.{_+_, _*_, _≤_};
 ghost use lib.ListN.{length};
@@ -8,7 +9,7 @@ ghost use Rattle.rules.specs.Rules.JobFile.{parse};
 ghost use Rattle.printer.specs.Printing.{instructionCount, Prints, Listed};
 
 // 512 observations of two words each.
-const TRACE: usize = 1024;
+pub const TRACE: usize = 1024;
 
 // Enough for every listing of 512 observations: at most 30 bytes each, and at most 11,372 after them.
 pub const LINES: usize = 26732;
@@ -28,8 +29,8 @@ pub fn print_run(job: &[u8], trace: &mut [u64], out: &mut [u8]) -> usize
     ensures exact { λ r. ⌜ Prints (now (job .entry)) (now (trace .entry)) (now (trace .exit)) (now (out .entry)) (now (out .exit)) r ⌝ }
     ensures bounded { λ r. ⌜ r ≤ 15 * length (now (trace .entry)) + 11372 ⌝ }
 {
-    let mut end = [0u64; 256];
-    let mut work = [0u64; 4096];
+    let mut end = [0u64; LocationSet::LIMIT];
+    let mut work = [0u64; work::WORDS];
     let n = instruction_count(job);
     let answer = checker::run(job, &mut trace[..], &mut end, &mut work);
     listing::write_answer(n, answer, &trace[..], &mut out[..])

@@ -1,5 +1,13 @@
 // The types that the contracts of the checker show. What they mean is said in specs/Rules.
+use location::Location;
 use location::LocationSet;
+ghost use mathlib.Core.Path.{_≡_};
+ghost use Prim.Native.Nat.{_^_, _<_};
+ghost use Rattle.rules.specs.Rules.JobFile.{locations};
+
+pub mod observation;
+
+const REGISTERS: usize = Location::REGISTERS as usize;
 
 // A word with the set of locations that it rests on.
 pub struct Tagged {
@@ -54,6 +62,16 @@ pub struct Trailer {
     pub window: usize,
     pub zero: usize,
     pub budget: usize,
+}
+
+impl Trailer {
+    // How many locations the job has: its registers and its cells.
+    pub fn locations(self) -> usize
+        requires { ⌜ locations self < 2 ^ 64 ⌝ }
+        ensures { λ r. ⌜ r ≡ locations self ⌝ }
+    {
+        REGISTERS + self.cells
+    }
 }
 
 // What a mispredicting run counts.

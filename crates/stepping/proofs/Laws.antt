@@ -16,12 +16,12 @@ use Rattle.rules.specs.Rules.Instructions.{Observation, Instr, kind, windowCost
 use Rattle.rules.specs.Rules.Plain.{State, Code}
 use Rattle.rules.specs.Rules.Mispredicting.{Branch, remaining, lower, newWindow}
 use Rattle.rules.specs.Rules.Runs.{gather}
-use Rattle.rules.specs.Theorems.Undo.{remaining-less, windowCosts-positive}
+use Rattle.rules.specs.Theorems.Undo.{Change, remaining-less, windowCosts-positive}
 use Rattle.instruction.specs.declared.Instruction.{Instruction}
 use Rattle.instruction.specs.Meaning.{meaning}
 use Rattle.work.specs.declared.BranchEntry.{BranchEntry}
 use Rattle.work.specs.declared.machine.Control.{Control}
-use Rattle.work.specs.Words.{Change, windowIn}
+use Rattle.work.specs.Words.{windowIn}
 use Rattle.work.specs.Machines.{branchesOf}
 use Rattle.work.specs.Moves.{topWindow, lowerTo, windowOn}
 use Rattle.effect.specs.declared.Observed.{Observed}

@@ -6,6 +6,11 @@ use instruction::Instruction;
 use location::Label;
 use location::Location;
 use location::LocationSet;
+use rules::observation::LOAD;
+use rules::observation::PC;
+use rules::observation::ROLLBACK;
+use rules::observation::START;
+use rules::observation::STORE;
 use work::machine::Control;
 ghost use mathlib.Core.Path.{_≡_};
 ghost use mathlib.Core.List.{List, [], _∷_};
@@ -30,17 +35,6 @@ pub struct Progress {
     pub full: LocationSet,
     pub plain: LocationSet,
 }
-
-// The kinds of observation, as the trace area has them.
-const START: u64 = 0;
-
-const ROLLBACK: u64 = 1;
-
-const PC: u64 = 2;
-
-const LOAD: u64 = 3;
-
-const STORE: u64 = 4;
 
 // Observation number k, of a kind.
 fn observe(trace: &mut [u64], k: usize, kind: u64, value: u64)

@@ -1,5 +1,7 @@
 // Two traces compared, as the words that runs have written (two an observation): word for word, and with everything from each
 // outermost start to its rollback struck out, as the plain runs' traces are.
+use rules::observation::ROLLBACK;
+use rules::observation::START;
 ghost use mathlib.Core.Path.{_≡_};
 ghost use Prim.Native.Nat.{_+_, _*_, _<_, _≤_};
 ghost use lib.Dec.{eqb};
@@ -7,11 +9,6 @@ ghost use mathlib.Core.Bool.{_&&_};
 ghost use lib.ListN.{length, getD};
 ghost use Rattle.rules.specs.Rules.Pairs.{sameWords};
 ghost use Rattle.trace.specs.Struck.{struckWords, Closed, Outside};
-
-// The kinds of observations that bound a wrong path.
-const START: u64 = 0;
-
-const ROLLBACK: u64 = 1;
 
 // Whether two traces are the same.
 pub fn same(a: &[u64], b: &[u64]) -> bool

@@ -10,9 +10,10 @@ use Rattle.location.specs.Sets.{limit}
 use Rattle.rules.specs.declared.Tagged.{Tagged}
 use Rattle.rules.specs.Rules.Calls.{workingWords}
 use Rattle.rules.specs.Rules.Plain.{State}
+use Rattle.rules.specs.Theorems.Undo.{Change}
 use Rattle.work.specs.declared.BranchEntry.{BranchEntry}
 use Rattle.work.specs.Layout.{changeBase, branchBase, firstBranch}
-use Rattle.work.specs.Words.{Change, changeAt, changed, entryAt, entryStored}
+use Rattle.work.specs.Words.{changeAt, changed, entryAt, entryStored}
 use Rattle.work.specs.Machines.{stateIn, lastChanges, restored, savedAt, branchesOf, maxWindow, Held}
 use Rattle.work.specs.Moves.{lowerTo}
 use Rattle.work.proofs.Laws.{length-changed}

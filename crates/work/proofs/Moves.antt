@@ -12,11 +12,12 @@ use Rattle.location.specs.Sets.{limit}
 use Rattle.rules.specs.declared.Tagged.{Tagged}
 use Rattle.rules.specs.Rules.Plain.{State, put}
 use Rattle.rules.specs.Rules.Mispredicting.{Branch, Machine, rolling}
+use Rattle.rules.specs.Theorems.Undo.{Change}
 use Rattle.work.specs.declared.BranchEntry.{BranchEntry}
 use Rattle.work.specs.declared.machine.Control.{Control}
 use Rattle.work.specs.declared.machine.RolledBack.{RolledBack}
 use Rattle.work.specs.Layout.{operandBase, changeBase, branchBase, labels, logBase, firstBranch}
-use Rattle.work.specs.Words.{taggedAt, stored, Change, changeAt, changed, undone, entryAt, entryStored, windowIn, loweredIn, windowAfter, taggedWords}
+use Rattle.work.specs.Words.{taggedAt, stored, changeAt, changed, undone, entryAt, entryStored, windowIn, loweredIn, windowAfter, taggedWords}
 use Rattle.work.specs.Machines.{stateIn, savedAt, branchesOf, machineOf, maxWindow, Held, Fit}
 use Rattle.work.specs.Moves.{lowerTo, windowOn, ordinaryNext, openingNext, Moves, RollsBack}
 use Rattle.work.proofs.Ranges.{drop-sets, drop-past, log-same, entries-same}

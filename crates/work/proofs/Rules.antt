@@ -13,8 +13,9 @@ use Rattle.location.specs.Sets.{registerLocation}
 use Rattle.rules.specs.Rules.Instructions.{Instr, beqz, kind}
 use Rattle.rules.specs.Rules.Plain.{State, at, Code, end, fetch, Effect, exec, branchTo}
 use Rattle.rules.specs.Rules.Mispredicting.{Branch, Machine, remaining, lower, ordinary, newWindow, opening, forward, rolling, expired, stepOn, step}
+use Rattle.rules.specs.Theorems.Undo.{Change}
 use Rattle.work.specs.declared.BranchEntry.{BranchEntry}
-use Rattle.work.specs.Words.{Change, entryAt, windowIn}
+use Rattle.work.specs.Words.{entryAt, windowIn}
 use Rattle.work.specs.Machines.{branchesOf}
 use Rattle.work.specs.Moves.{topWindow, lowerTo, windowOn, expiredOn, ordinaryNext, openingNext}
 

@@ -12,8 +12,9 @@ use Rattle.location.specs.Sets.{limit, empty}
 use Rattle.rules.specs.declared.Tagged.{Tagged}
 use Rattle.rules.specs.Rules.Expressions.{tagged}
 use Rattle.rules.specs.Rules.Plain.{State, at, put}
+use Rattle.rules.specs.Theorems.Undo.{Change}
 use Rattle.work.specs.Layout.{operandBase, changeBase, branchBase, logBase}
-use Rattle.work.specs.Words.{taggedAt, stored, Change, changeAt, changed, undone, entryAt, taggedWords}
+use Rattle.work.specs.Words.{taggedAt, stored, changeAt, changed, undone, entryAt, taggedWords}
 use Rattle.work.specs.Machines.{stateFrom, stateIn, lastChanges, restored, savedAt}
 use Rattle.work.proofs.Ranges.{same-before, same-after, tagged-same, change-same, entry-same, log-same, tagged-stored, change-stored, drop-sets}
 

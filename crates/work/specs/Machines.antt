@@ -8,9 +8,10 @@ use lib.ListN.{length}
 use Rattle.rules.specs.Rules.Calls.{workingWords}
 use Rattle.rules.specs.Rules.Plain.{State, put}
 use Rattle.rules.specs.Rules.Mispredicting.{Branch, Machine}
+use Rattle.rules.specs.Theorems.Undo.{Change}
 use Rattle.work.specs.declared.BranchEntry.{BranchEntry}
 use Rattle.work.specs.declared.machine.Control.{Control}
-use Rattle.work.specs.Words.{taggedAt, Change, changeAt, entryAt}
+use Rattle.work.specs.Words.{taggedAt, changeAt, entryAt}
 
 -- the operands of n locations from l on, and of the first n
 abbrev pub stateFrom : List ℕ → ℕ → ℕ → State

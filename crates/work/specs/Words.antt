@@ -7,6 +7,7 @@ use lib.ListN.{getD, set}
 use lib.Seq.{sets}
 use Rattle.location.specs.Sets.{limit}
 use Rattle.rules.specs.declared.Tagged.{Tagged}
+use Rattle.rules.specs.Theorems.Undo.{Change}
 use Rattle.work.specs.declared.BranchEntry.{BranchEntry}
 use Rattle.work.specs.Layout.{operandBase, changeBase, branchBase}
 
@@ -30,10 +31,6 @@ abbrev pub stored : List ℕ → ℕ → Tagged → List ℕ
 stored w l v = storedIn w (operandBase l) v
 
 -- ---- a change of a location, with its operand of before
-pub record Change : Type 0 where
-  pub location : ℕ
-  pub before : Tagged
-
 abbrev pub changeAt : List ℕ → ℕ → Change
 changeAt w k = record { location = getD w (changeBase k) 0 % limit; before = taggedIn w (changeBase k + 1) }
 

@@ -14,8 +14,8 @@ use Rattle.checker.proofs.plain_report.Reads as plain-report-reads
 use Rattle.job_run.proofs.areas_fit.Reads as areas-fit-reads
 use Rattle.job_run.proofs.run_in_areas.Reads as run-in-areas-reads
 
-add-n : tie.Need-add-n
-add-n c = let l = accepted-limits (c .before .before .before .before .before .pre) .cells in omega arith
+locations-requires : tie.Need-locations-requires
+locations-requires c κs = let l = accepted-limits (c .before .before .before .before .pre) .cells in omega arith
 
 areas-fit-requires : tie.Need-areas-fit-requires
 areas-fit-requires c κs = search needs
@@ -26,12 +26,12 @@ plain-refused-requires c κs = search needs
 returns : tie.Need-returns
 returns c =
     let a = c .before .before .before .before .before .before .before .before .before .before .args in
-    plain-short-areas (c .before .before .before .before .before .before .before .before .before .before .pre) (a .trace .now) (a .end .now) (a .work .now) (c .before .before .areas-fit .ensures) (not-true _ (c .before .if1 .taken)) (c .plain-refused .ensures)
+    plain-short-areas (c .before .before .before .before .before .before .before .before .before .before .pre) (a .trace .now) (a .end .now) (a .work .now) (rw (c .before .before .before .before .before .locations .ensures) at (c .before .before .areas-fit .ensures)) (not-true _ (c .before .if1 .taken)) (c .plain-refused .ensures)
 
 run-in-areas-requires : tie.Need-run-in-areas-requires
 run-in-areas-requires c κs =
     let a = c .before .before .before .before .before .before .before .before .before .before .before .before .args in
-    areas-fit (c .before .before .before .before .before .before .before .before .before .before .before .before .pre) (a .trace .now) (a .end .now) (a .work .now) (c .before .before .before .before .areas-fit .ensures) (not-false _ (c .before .before .before .if1 .left))
+    areas-fit (c .before .before .before .before .before .before .before .before .before .before .before .before .pre) (a .trace .now) (a .end .now) (a .work .now) (rw (c .before .before .before .before .before .before .before .locations .ensures) at (c .before .before .before .before .areas-fit .ensures)) (not-false _ (c .before .before .before .if1 .left))
 
 plain-report-requires : tie.Need-plain-report-requires
 plain-report-requires c κs = search needs
@@ -54,13 +54,13 @@ same-length-5 c = search needs
 returns-2 : tie.Need-returns-2
 returns-2 c =
     let a = c .before .before .before .before .before .before .before .before .before .before .before .before .before .before .before .before .before .before .before .before .args in
-    plain-ran (c .before .before .before .before .before .before .before .before .before .before .before .before .before .before .before .before .before .before .before .before .pre) (a .trace .now) (a .end .now) (a .work .now) (c .before .before .before .before .before .before .before .before .before .before .before .before .areas-fit .ensures) (not-false _ (c .before .before .before .before .before .before .before .before .before .before .before .if1 .left)) (c .before .before .before .before .before .before .before .run-in-areas .ensures) (c .plain-report .ensures)
+    plain-ran (c .before .before .before .before .before .before .before .before .before .before .before .before .before .before .before .before .before .before .before .before .pre) (a .trace .now) (a .end .now) (a .work .now) (rw (c .before .before .before .before .before .before .before .before .before .before .before .before .before .before .before .locations .ensures) at (c .before .before .before .before .before .before .before .before .before .before .before .before .areas-fit .ensures)) (not-false _ (c .before .before .before .before .before .before .before .before .before .before .before .if1 .left)) (c .before .before .before .before .before .before .before .run-in-areas .ensures) (c .plain-report .ensures)
 
 pub plain-accepted-spec : {M : Type 1} → statement M
 plain-accepted-spec =
     tie.close
     (tie.spec
-    add-n
+    locations-requires
     areas-fit-requires
     plain-refused-requires
     same-length

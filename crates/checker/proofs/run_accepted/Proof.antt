@@ -15,8 +15,8 @@ use Rattle.job_run.proofs.areas_fit.Reads as areas-fit-reads
 use Rattle.job_run.proofs.run_in_areas.Reads as run-in-areas-reads
 use Rattle.job.proofs.public_list.Reads as public-list-reads
 
-add-n : tie.Need-add-n
-add-n c = let l = accepted-limits (c .before .before .before .before .before .pre) .cells in omega arith
+locations-requires : tie.Need-locations-requires
+locations-requires c κs = let l = accepted-limits (c .before .before .before .before .pre) .cells in omega arith
 
 areas-fit-requires : tie.Need-areas-fit-requires
 areas-fit-requires c κs = search needs
@@ -27,12 +27,12 @@ run-refused-requires c κs = search needs
 returns : tie.Need-returns
 returns c =
     let a = c .before .before .before .before .before .before .before .before .before .before .args in
-    exact-short (c .before .before .before .before .before .before .before .before .before .before .pre) (a .trace .now) (a .end .now) (a .work .now) (c .before .before .areas-fit .ensures) (not-true _ (c .before .if1 .taken)) (c .run-refused .ensures)
+    exact-short (c .before .before .before .before .before .before .before .before .before .before .pre) (a .trace .now) (a .end .now) (a .work .now) (rw (c .before .before .before .before .before .locations .ensures) at (c .before .before .areas-fit .ensures)) (not-true _ (c .before .if1 .taken)) (c .run-refused .ensures)
 
 run-in-areas-requires : tie.Need-run-in-areas-requires
 run-in-areas-requires c κs =
     let a = c .before .before .before .before .before .before .before .before .before .before .before .before .args in
-    areas-fit (c .before .before .before .before .before .before .before .before .before .before .before .before .pre) (a .trace .now) (a .end .now) (a .work .now) (c .before .before .before .before .areas-fit .ensures) (not-false _ (c .before .before .before .if1 .left))
+    areas-fit (c .before .before .before .before .before .before .before .before .before .before .before .before .pre) (a .trace .now) (a .end .now) (a .work .now) (rw (c .before .before .before .before .before .before .before .locations .ensures) at (c .before .before .before .before .areas-fit .ensures)) (not-false _ (c .before .before .before .if1 .left))
 
 public-list-requires : tie.Need-public-list-requires
 public-list-requires c κs = let f = accepted-length (c .before .before .before .before .before .before .before .before .before .before .before .before .before .before .before .before .before .before .before .pre) in omega arith
@@ -58,13 +58,13 @@ same-length-5 c = search needs
 returns-2 : tie.Need-returns-2
 returns-2 c =
     let a = c .before .before .before .before .before .before .before .before .before .before .before .before .before .before .before .before .before .before .before .before .before .args in
-    exact-ran (c .before .before .before .before .before .before .before .before .before .before .before .before .before .before .before .before .before .before .before .before .before .pre) (a .trace .now) (a .end .now) (a .work .now) (c .before .before .before .before .before .before .before .before .before .before .before .before .before .areas-fit .ensures) (not-false _ (c .before .before .before .before .before .before .before .before .before .before .before .before .if1 .left)) (c .before .before .before .before .before .before .before .before .run-in-areas .ensures) (c .before .public-list .ensures) (c .report .ensures)
+    exact-ran (c .before .before .before .before .before .before .before .before .before .before .before .before .before .before .before .before .before .before .before .before .before .pre) (a .trace .now) (a .end .now) (a .work .now) (rw (c .before .before .before .before .before .before .before .before .before .before .before .before .before .before .before .before .locations .ensures) at (c .before .before .before .before .before .before .before .before .before .before .before .before .before .areas-fit .ensures)) (not-false _ (c .before .before .before .before .before .before .before .before .before .before .before .before .if1 .left)) (c .before .before .before .before .before .before .before .before .run-in-areas .ensures) (c .before .public-list .ensures) (c .report .ensures)
 
 pub run-accepted-spec : {M : Type 1} → statement M
 run-accepted-spec =
     tie.close
     (tie.spec
-    add-n
+    locations-requires
     areas-fit-requires
     run-refused-requires
     same-length

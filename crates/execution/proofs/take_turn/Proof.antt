@@ -3,7 +3,7 @@ use mathlib.Core.Path.{_≡_, sym, _∙_}
 use Rattle.work.specs.Words.{entryAt, changeAt}
 use Rattle.work.specs.Machines.{stateIn}
 use Rattle.work.proofs.Rules.{expired-depth}
-use Rattle.execution.specs.Turns.{locations}
+use Rattle.rules.specs.Rules.JobFile.{locations}
 use Rattle.execution.specs.TurnLaws.{closed-true, closed-false, not-expired, halts-finished, halts-spent, turned-back, turned-on, fetchable, fetched-same, advancing}
 use Rattle.execution.proofs.Laws.{inside, unchanged}
 use borrow.Author.Needs.{needs}

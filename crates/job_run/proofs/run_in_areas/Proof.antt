@@ -18,8 +18,8 @@ run-state-requires c κs =
     let f = accepted-length (k .accepts) in
     record { accepts = k .accepts; state = omega arith; room = k .work }
 
-add-n : tie.Need-add-n
-add-n c = let l = accepted-limits (c .before .before .before .before .before .before .before .before .before .before .before .before .pre .accepts) .cells in omega arith
+locations-requires : tie.Need-locations-requires
+locations-requires c κs = let l = accepted-limits (c .before .before .before .before .before .before .before .before .before .before .before .pre .accepts) .cells in omega arith
 
 save-values-requires : tie.Need-save-values-requires
 save-values-requires c κs =
@@ -43,14 +43,14 @@ same-length-3 : tie.Need-same-length-3
 same-length-3 c = search needs
 
 returns : tie.Need-returns
-returns c = run-in (c .before .before .before .before .before .before .before .before .before .before .before .before .before .before .before .before .before .before .before .before .before .pre .accepts) (c .before .before .before .before .before .before .before .before .before .before .before .before .before .before .before .before .before .before .before .before .before .args .mode) (c .before .before .before .before .before .before .before .before .before .before .before .before .before .before .run-state .ensures) (c .before .before .before .before .before .before .save-values .ensures) (c .before .before .clear .ensures)
+returns c = run-in (c .before .before .before .before .before .before .before .before .before .before .before .before .before .before .before .before .before .before .before .before .before .pre .accepts) (c .before .before .before .before .before .before .before .before .before .before .before .before .before .before .before .before .before .before .before .before .before .args .mode) (c .before .before .before .before .before .before .before .before .before .before .before .before .before .before .run-state .ensures) (rw (c .before .before .before .before .before .before .before .before .before .locations .ensures) at (c .before .before .before .before .before .before .save-values .ensures)) (c .before .before .clear .ensures)
 
 pub run-in-areas-spec : {M : Type 1} → statement M
 run-in-areas-spec =
     tie.close
     (tie.spec
     run-state-requires
-    add-n
+    locations-requires
     save-values-requires
     clear-requires
     same-length

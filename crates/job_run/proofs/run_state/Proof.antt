@@ -12,8 +12,8 @@ use Rattle.execution.proofs.run.Reads as run-reads
 use Rattle.transfer.proofs.load_labels.Reads as load-labels-reads
 use Rattle.transfer.proofs.load_state.Reads as load-state-reads
 
-add-n : tie.Need-add-n
-add-n c = search needs
+locations-requires : tie.Need-locations-requires
+locations-requires c κs = search needs
 
 load-state-requires : tie.Need-load-state-requires
 load-state-requires c κs =
@@ -62,13 +62,13 @@ same-length-2 c = search needs
 returns : tie.Need-returns
 returns c =
     let a = c .before .before .before .before .before .before .before .before .before .before .before .before .before .before .before .before .before .before .before .before .before .args in
-    run-of (c .before .before .before .before .before .before .before .before .before .before .before .before .before .before .before .before .before .before .before .before .before .pre .accepts) (same-part (a .t .state) (a .job .now)) (c .before .before .before .before .before .before .before .before .before .before .before .before .before .before .load-state .ensures) (c .before .before .before .before .before .before .before .before .before .load-labels .ensures) (c .before .before .before .before .run .ensures)
+    run-of (c .before .before .before .before .before .before .before .before .before .before .before .before .before .before .before .before .before .before .before .before .before .pre .accepts) (same-part (a .t .state) (a .job .now)) (rw (c .before .before .before .before .before .before .before .before .before .before .before .before .before .before .before .before .locations .ensures) at (c .before .before .before .before .before .before .before .before .before .before .before .before .before .before .load-state .ensures)) (c .before .before .before .before .before .before .before .before .before .load-labels .ensures) (c .before .before .before .before .run .ensures)
 
 pub run-state-spec : {M : Type 1} → statement M
 run-state-spec =
     tie.close
     (tie.spec
-    add-n
+    locations-requires
     load-state-requires
     sub-p
     part-p-start

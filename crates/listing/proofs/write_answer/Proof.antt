@@ -19,6 +19,9 @@ refusal-number-requires c κs = search needs
 slice-aggregate-put-number-line : tie.Need-slice-aggregate-put-number-line
 slice-aggregate-put-number-line c = search needs
 
+cast-put-number-line : tie.Need-cast-put-number-line
+cast-put-number-line c = search needs
+
 put-number-line-requires : tie.Need-put-number-line-requires
 unfolding text
 put-number-line-requires c κs = omega (arith, number-line-bound (text "refused") (c .before .before .refusal-number .result))
@@ -78,6 +81,7 @@ write-answer-spec =
     enum-known-outcome
     refusal-number-requires
     slice-aggregate-put-number-line
+    cast-put-number-line
     put-number-line-requires
     enum-known-outcome-2
     put-trace-requires

@@ -17,8 +17,8 @@ use Rattle.transfer.proofs.alike_bytes.Reads as alike-bytes-reads
 public-list-requires : tie.Need-public-list-requires
 public-list-requires c κs = let f = accepted-length (c .before .before .before .before .pre .accepts) in omega arith
 
-add-n : tie.Need-add-n
-add-n c = let l = accepted-limits (c .before .before .before .before .before .before .pre .accepts) .cells in omega arith
+locations-requires : tie.Need-locations-requires
+locations-requires c κs = let l = accepted-limits (c .before .before .before .before .before .pre .accepts) .cells in omega arith
 
 alike-bytes-requires : tie.Need-alike-bytes-requires
 alike-bytes-requires c κs =
@@ -65,14 +65,14 @@ returns : tie.Need-returns
 returns c =
     let a = c .before .before .before .before .before .before .before .before .before .before .before .before .before .before .args in
     judged (a .job .now) (a .t) (a .second .now) (a .first .now) (a .other .now) (a .r .stop) (a .s .stop) (a .r .progress) (a .s .progress)
-    (c .before .before .before .before .before .before .counts-of .ensures) (c .before .before .before .before .before .counts-of2 .ensures) (c .before .before .before .before .before .before .before .before .before .public-list .ensures) (c .before .before .before .before .before .before .before .alike-bytes .ensures) (c .pair-word .ensures)
+    (c .before .before .before .before .before .before .counts-of .ensures) (c .before .before .before .before .before .counts-of2 .ensures) (c .before .before .before .before .before .before .before .before .before .public-list .ensures) (rw (c .before .before .before .before .before .before .before .before .locations .ensures) at (c .before .before .before .before .before .before .before .alike-bytes .ensures)) (c .pair-word .ensures)
 
 pub judge-spec : {M : Type 1} → statement M
 judge-spec =
     tie.close
     (tie.spec
     public-list-requires
-    add-n
+    locations-requires
     alike-bytes-requires
     counts-of-requires
     counts-of-requires-2

@@ -8,7 +8,7 @@ use mathlib.Core.List.{List}
 use Prim.Native.Nat.{ℕ, _+_, _*_, _≤_}
 use lib.ListN.{length, getD, take, drop}
 use Rattle.location.specs.declared.LocationSet.{LocationSet}
-use Rattle.location.specs.Sets.{registers, member}
+use Rattle.location.specs.Sets.{member}
 use Rattle.rules.specs.declared.Stop.the-variants.{Finished}
 use Rattle.rules.specs.declared.Verdict.{Verdict}
 use Rattle.rules.specs.declared.Verdict.the-variants.{Clean}
@@ -26,7 +26,7 @@ use Rattle.rules.specs.declared.PairWord.the-variants as words
 use Rattle.rules.specs.declared.PairAnswer.{PairAnswer}
 use Rattle.rules.specs.declared.PairAnswer.the-variants as pairs
 use Rattle.rules.specs.Rules.Instructions.{Observation}
-use Rattle.rules.specs.Rules.JobFile.{trailer, stateOf, publicOf, wordsAt}
+use Rattle.rules.specs.Rules.JobFile.{trailer, locations, stateOf, publicOf, wordsAt}
 use Rattle.rules.specs.Rules.Calls.{Areas, Called, traceWords, workingWords, runCall, plainCall}
 use Rattle.rules.specs.Rules.Pairs.{PairAreas, PairCalled}
 use Rattle.rules.specs.Rules.Strike.{strike}
@@ -72,7 +72,7 @@ plainTraceOf f a = take (2 * plainObserved (plainCall f a .answer .outcome)) (pl
 
 -- the words of an end area that a call writes: "registers then cells"
 unfoldable pub endOf : List ℕ → List ℕ → List ℕ
-endOf f area = take (registers + trailer f .cells) area
+endOf f area = take (locations (trailer f)) area
 
 -- ---- demand 2: "When a run finishes, striking out all from each outermost start to its rollback gives the plain run's trace, and
 -- the end states are equal." The plain run is "of the same job, in areas of the same lengths".
@@ -132,7 +132,7 @@ pub record PairUnaltered (answer : PairAnswer) (before after : PairAreas) : Type
 
 -- "the job's state and a second one": the words of the second state's bytes
 unfoldable pub secondState : List ℕ → List ℕ → List ℕ
-secondState f second = wordsAt (registers + trailer f .cells) second 0
+secondState f second = wordsAt (locations (trailer f)) second 0
 
 abbrev pub AlikePublic : List ℕ → List ℕ → Type 0
 AlikePublic f second = AlikeOn (publicOf (trailer f) f) (stateOf (trailer f) f) (secondState f second)
@@ -145,7 +145,7 @@ pub record SecondJob (f second g : List ℕ) : Type 0 where
 -- areas for a plain run of either job: as much room for the trace as the pair has, and no shortage
 pub record RunAreas (f : List ℕ) (a : PairAreas) (p : Areas) : Type 0 where
   pub trace : length (p .trace) ≡ length (a .first)
-  pub end : registers + trailer f .cells ≤ length (p .end)
+  pub end : locations (trailer f) ≤ length (p .end)
   pub work : workingWords ≤ length (p .work)
 
 -- the plain runs of the two jobs have one trace; or two

@@ -206,6 +206,10 @@ unfoldable pub offsets : Trailer → ℕ → Bool
 offsets t len = leb (t .state) (t .list) && (eqb (t .list - t .state) (128 + 8 * t .cells) && eqb (t .list + 48) len)
 
 -- ---- the state and the public list
+-- "16 registers and m cells"
+abbrev pub locations : Trailer → ℕ
+locations t = registers + t .cells
+
 -- k words of 8 bytes each at an offset
 unfoldable pub wordsAt : ℕ → List ℕ → ℕ → List ℕ
 wordsAt zero bs at = []
@@ -213,7 +217,7 @@ wordsAt (suc k) bs at = little bs at 8 ∷ wordsAt k bs (at + 8)
 
 -- "the state (16 registers and m cells, 8 bytes each)"
 unfoldable pub stateOf : Trailer → List ℕ → List ℕ
-stateOf t bs = wordsAt (registers + t .cells) bs (t .state)
+stateOf t bs = wordsAt (locations t) bs (t .state)
 
 -- "32 bytes of public list (bit k of byte j, lowest bit 0, is location 8j + k)": four words, lowest byte first
 unfoldable pub publicOf : Trailer → List ℕ → LocationSet
@@ -226,7 +230,7 @@ noneFrom s l (suc k) = not (member s l) && noneFrom s (l + 1) k
 
 -- "public bit at 16 + m or above"
 unfoldable pub listed : Trailer → List ℕ → Bool
-listed t bs = noneFrom (publicOf t bs) (registers + t .cells) (limit - (registers + t .cells))
+listed t bs = noneFrom (publicOf t bs) (locations t) (limit - locations t)
 
 -- ---- the job
 pub data Parsed : Type 0 where

@@ -85,11 +85,12 @@ answerLines n os a = outcomeLines n os (a .depends) (a .plain) (a .outcome)
 abbrev pub printedRoom : ℕ
 printedRoom = 512
 
-unfoldable pub listingOf : Parsed → List ℕ
-listingOf (rejected r) = answerLines 0 [] (runRefused r)
-listingOf (accepted job) =
-    let r = mispredictingRun job printedRoom in
+-- the lines of a run that is lent room for k observations
+unfoldable pub listingOf : ℕ → Parsed → List ℕ
+listingOf k (rejected r) = answerLines 0 [] (runRefused r)
+listingOf k (accepted job) =
+    let r = mispredictingRun job k in
     answerLines (end (job .code)) (r .log .trace) (runReport job r)
 
 unfoldable pub listing : List ℕ → List ℕ
-listing file = listingOf (parse file)
+listing file = listingOf printedRoom (parse file)

@@ -6,14 +6,13 @@ use mathlib.Core.List.{List}
 use Prim.Native.Nat.{ℕ, _+_}
 use lib.ListN.{length}
 use lib.Seq.{take-at}
-use Rattle.location.specs.Sets.{registers}
 use Rattle.rules.specs.declared.Stop.the-variants.{Finished}
 use Rattle.rules.specs.declared.Verdict.{Verdict}
 use Rattle.rules.specs.declared.Counts.{Counts}
 use Rattle.rules.specs.declared.RunOutcome.the-variants as runs
 use Rattle.rules.specs.Rules.Plain.{State, values}
 use Rattle.rules.specs.Rules.Runs.{Result, verdict}
-use Rattle.rules.specs.Rules.JobFile.{trailer}
+use Rattle.rules.specs.Rules.JobFile.{trailer, locations}
 use Rattle.rules.specs.Rules.Calls.{traceWords, Areas, room, written, areasAfter, counts, runReport, runCall, plainReport}
 use Rattle.rules.specs.Rules.Demands.{SameLengths, traceOf, endOf, PlainMatch, Demand2}
 use Rattle.rules.specs.Theorems.PlainRun.{PlainMatches, demand2}
@@ -39,7 +38,7 @@ module _ {f : List ℕ} {a a′ : Areas} (r : Runs f a) (h : SameLengths a a′)
   front : (σ : State) (area : List ℕ) → length σ ≡ length (r .job .init) → endOf f (written (values σ) area) ≡ values σ
   unfolding endOf written
   front σ area e =
-      take-at (values σ) _ (registers + trailer f .cells)
+      take-at (values σ) _ (locations (trailer f))
       (values-length σ ∙ e ∙ ap length (job-init (passed f (r .job) (r .parsed))) ∙ length-stateOf (trailer f) f)
 
   matches : PlainMatches (result r) plain → PlainMatch f (runCall f a .answer) (runCall f a .areas) a′

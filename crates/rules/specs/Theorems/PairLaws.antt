@@ -11,7 +11,7 @@ use lib.Dec.{eqb, leb}
 use lib.ListN.{length, getD, take}
 use lib.Seq.{take-at}
 use Rattle.location.specs.declared.LocationSet.{LocationSet}
-use Rattle.location.specs.Sets.{registers, member}
+use Rattle.location.specs.Sets.{member}
 use Rattle.location.specs.SetLaws.{and-left, and-right}
 use Rattle.rules.specs.declared.Stop.{Stop}
 use Rattle.rules.specs.declared.Stop.the-variants.{Finished, Spent, TraceFull}
@@ -24,7 +24,7 @@ use Rattle.rules.specs.declared.PairAnswer.{PairAnswer}
 use Rattle.rules.specs.declared.PairAnswer.the-variants as pairs
 use Rattle.rules.specs.Rules.Instructions.{Observation}
 use Rattle.rules.specs.Rules.Runs.{Job, Result, mispredictingRun, plainRun}
-use Rattle.rules.specs.Rules.JobFile.{Parsed, accepted, rejected, parse, trailer, stateOf, publicOf, wordsAt}
+use Rattle.rules.specs.Rules.JobFile.{Parsed, accepted, rejected, parse, trailer, locations, stateOf, publicOf, wordsAt}
 use Rattle.rules.specs.Rules.Calls.{Areas, traceWords, room, workingWords, written, counts, longEnough}
 use Rattle.rules.specs.Rules.Pairs.{withState, alikeFrom, isFinished, sameWords, sameTrace, firstThatFits, pairWord, PairAreas, PairCalled, pairAfter, pairRefused, secondFits, pairFits, pairAccepted, pairParsed, pairCall}
 use Rattle.rules.specs.Rules.Demands.{AlikeOn, plainTraceOf, PairUnaltered, secondState, AlikePublic, SecondJob, RunAreas, SamePlain, OtherPlain, BothFinished, SameTraces, Means, PairMeaning}
@@ -135,7 +135,7 @@ module _ {f second : List ℕ} {a : PairAreas} (r : Pairs f second a) where
   unfolding pairCall pairParsed
   pair-runs = rw (r .parsed, r .sized, r .enough, pairParsed)
 
-  init-size : length (r .job .init) ≡ registers + trailer f .cells
+  init-size : length (r .job .init) ≡ locations (trailer f)
   init-size = ap length (job-init (passed f (r .job) (r .parsed))) ∙ length-stateOf (trailer f) f
 
   second-words : vs ≡ secondState f second

@@ -8,10 +8,10 @@ use Prim.Native.Nat.{ℕ, zero, suc, _+_, _-_, _*_, _≤_}
 use native.Mathlib.Omega.{arith}
 use lib.ListN.{length, getD, take, drop, length-append, length-drop, List·getD-append}
 use lib.Seq.{take-at, length-take-le, getD-append-add, drop-append-seam}
-use Rattle.location.specs.Sets.{registers, empty, member}
+use Rattle.location.specs.Sets.{empty, member}
 use Rattle.location.specs.SetLaws.{member-empty}
 use Rattle.rules.specs.Rules.Runs.{Job}
-use Rattle.rules.specs.Rules.JobFile.{accepted, parse, trailer, little, wordsAt, stateOf}
+use Rattle.rules.specs.Rules.JobFile.{accepted, parse, trailer, little, locations, wordsAt, stateOf}
 use Rattle.rules.specs.Rules.Demands.{AlikeOn, SameButState, secondState, SecondJob}
 use Rattle.rules.specs.Theorems.JobLaws.{passed, state-list, list-length}
 
@@ -50,7 +50,7 @@ words-before ys zs (suc n) j h =
 unfoldable pub withSecond : List ℕ → List ℕ → List ℕ
 withSecond f second = take (trailer f .state) f ++ (second ++ drop (trailer f .list) f)
 
-module _ (f second : List ℕ) (job : Job) (p : parse f ≡ accepted job) (h : length second ≡ 8 * (registers + trailer f .cells)) where
+module _ (f second : List ℕ) (job : Job) (p : parse f ≡ accepted job) (h : length second ≡ 8 * locations (trailer f)) where
   abbrev front : List ℕ
   front = take (trailer f .state) f
 
@@ -63,9 +63,9 @@ module _ (f second : List ℕ) (job : Job) (p : parse f ≡ accepted job) (h : l
       let l = list-length (passed f job p) in
       length-take-le (trailer f .state) f (omega arith)
 
-  second-state : wordsAt (registers + trailer f .cells) (front ++ (second ++ rest)) (trailer f .state) ≡ wordsAt (registers + trailer f .cells) second 0
+  second-state : wordsAt (locations (trailer f)) (front ++ (second ++ rest)) (trailer f .state) ≡ wordsAt (locations (trailer f)) second 0
   second-state =
-      let n = registers + trailer f .cells in
+      let n = locations (trailer f) in
       let z : length front + 0 ≡ trailer f .state = let s = front-size in omega arith in
       ap (wordsAt n (front ++ (second ++ rest))) (sym z) ∙ words-behind front (second ++ rest) n 0 ∙ words-before second rest n 0 (omega arith)
 
