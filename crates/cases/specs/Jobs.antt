@@ -23,6 +23,7 @@ laidOut program n m r0 r1 w b area = stores (length program) (program ++ drop (l
 abbrev pub nestedWith : ℕ → List ℕ
 nestedWith label = 5 ∷ 0 ∷ label ∷ 0 ∷ 5 ∷ 1 ∷ 3 ∷ 0 ∷ 0 ∷ []
 
+-- with label 3 it is the program of the rules' tables
 pub nested-program : nestedWith 3 ≡ nestedProgram
 unfolding nestedProgram
 nested-program = refl

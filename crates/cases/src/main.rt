@@ -127,13 +127,13 @@ fn write_word(word: PairWord) {
 
 // The heading, and the word on the job's state and a second one.
 fn show_pair(name: &[u8], job: &[u8], second: &[u8]) {
-    let mut first = [0u64; printer::TRACE];
-    let mut other = [0u64; printer::TRACE];
+    let mut first_trace = [0u64; printer::TRACE];
+    let mut second_trace = [0u64; printer::TRACE];
     let mut work = [0u64; work::WORDS];
     write(b"case ");
     write(name);
     write(b"\n");
-    match checker::compare(job, second, &mut first, &mut other, &mut work) {
+    match checker::compare(job, second, &mut first_trace, &mut second_trace, &mut work) {
         PairAnswer::Refused(_) => write(b"refused\n"),
         PairAnswer::Compared(word, _, _) => write_word(word),
     }

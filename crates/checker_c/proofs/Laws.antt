@@ -2,7 +2,7 @@
 -- Assumes nothing.
 use mathlib.Core.Path.{_≡_, refl, sym, ap, ap₂, _∙_}
 use mathlib.Core.List.{List}
-use Prim.Native.Nat.{ℕ, _<_}
+use Prim.Native.Nat.{ℕ}
 use native.Mathlib.Omega.{arith}
 use lib.Seq.{sets}
 use Rattle.location.specs.declared.LocationSet.{LocationSet}
@@ -20,7 +20,7 @@ use Rattle.rules.specs.declared.PairWord.{PairWord}
 use Rattle.rules.specs.declared.PairAnswer.{PairAnswer}
 use Rattle.rules.specs.declared.PairAnswer.the-variants as pairs
 use Rattle.rules.specs.Rules.Pairs.{PairAreas, PairCalled, pairCall}
-use Rattle.rules.specs.Rules.Demands.{Exact, RunUnaltered, PlainUnaltered, Demand2, Demand3, PairExact, PairUnaltered, PairMeaning}
+use Rattle.rules.specs.Rules.Demands.{Exact, Demand2, Demand3, PairExact, PairMeaning}
 use Rattle.answer_words.specs.Words.{runWords, plainWords, pairWords}
 use Rattle.checker_c.specs.Calls.{RunReturns, PlainReturns, PairReturns, Unaltered}
 

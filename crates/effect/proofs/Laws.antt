@@ -13,7 +13,7 @@ use Rattle.location.specs.SetLaws.{and-left, and-right}
 use Rattle.rules.specs.declared.Tagged.{Tagged}
 use Rattle.rules.specs.Rules.Expressions.{sound, tagged, eval}
 use Rattle.rules.specs.Rules.JobFile.{postfix}
-use Rattle.rules.specs.Rules.Plain.{State, put, Code, end, joined, loadedFrom, storedTo, chosen, branchTo, silent, loadEffect, storeEffect, goEffect, exec, at}
+use Rattle.rules.specs.Rules.Plain.{State, put, Code, endPlace, joined, loadedFrom, storedTo, chosen, branchTo, silent, loadEffect, storeEffect, goEffect, exec, at}
 use Rattle.rules.specs.Rules.Plain as plain
 use Rattle.token.specs.declared.Expression.{Expression}
 use Rattle.token.specs.Meaning.{tokensOf}
@@ -93,7 +93,7 @@ both-sound p {c = c} {e = e} ei h =
 -- ---- the instructions: x is the effect of what its callee was given
 module _ {p w : List ℕ} {last cells place : ℕ} {x : Effect} where
   executed : (i : Instruction) {rule : Code → State → plain.Effect} → Denotes w cells rule x
-      → ((code : Code) → end code ≡ last → rule code (stateOf w cells) ≡ exec code (stateOf w cells) place (meaning p i))
+      → ((code : Code) → endPlace code ≡ last → rule code (stateOf w cells) ≡ exec code (stateOf w cells) place (meaning p i))
       → Executed p w last cells place i x
   executed i d h = record { exact = λ code el ec. d .exact code ec ∙ h code el; location = d .location }
 

@@ -9,7 +9,7 @@ use Rattle.location.specs.declared.LocationSet.{LocationSet}
 use Rattle.location.specs.Sets.{registers}
 use Rattle.rules.specs.Rules.Instructions.{Observation, pc, loaded, stored}
 use Rattle.rules.specs.Rules.JobFile.{postfix}
-use Rattle.rules.specs.Rules.Plain.{State, put, Code, end, exec}
+use Rattle.rules.specs.Rules.Plain.{State, put, Code, endPlace, exec}
 use Rattle.rules.specs.Rules.Plain as plain
 use Rattle.instruction.specs.declared.Instruction.{Instruction}
 use Rattle.instruction.specs.Meaning.{meaning}
@@ -55,6 +55,6 @@ pub record Executable (p w : List ℕ) (cells place : ℕ) (i : Instruction) : T
 -- The effect of the instruction at a place, in every program that ends at `last` and has so many cells: the rules' effect on the
 -- state in the words, and a location of that state.
 pub record Executed (p w : List ℕ) (last cells place : ℕ) (i : Instruction) (e : Effect) : Type 0 where
-  pub exact : (code : Code) → end code ≡ last → code .cells ≡ cells
+  pub exact : (code : Code) → endPlace code ≡ last → code .cells ≡ cells
       → effectMeaning (stateIn w (registers + cells)) e ≡ exec code (stateIn w (registers + cells)) place (meaning p i)
   pub location : e .location .0 < registers + cells

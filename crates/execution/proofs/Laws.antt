@@ -13,7 +13,7 @@ use Rattle.rules.specs.declared.Stop.the-variants.{TraceFull}
 use Rattle.rules.specs.declared.Trailer.{Trailer}
 use Rattle.rules.specs.Rules.Instructions.{Observation, skip, windowCosts}
 use Rattle.rules.specs.Rules.Plain as plain
-use Rattle.rules.specs.Rules.Plain.{Code, end, exec}
+use Rattle.rules.specs.Rules.Plain.{Code, endPlace, exec}
 use Rattle.location.specs.declared.Label.{Label}
 use Rattle.rules.specs.Rules.Mispredicting.{rolling, opening, ordinary, forward}
 use Rattle.rules.specs.Rules.JobFile.{locations}
@@ -47,7 +47,7 @@ unchanged w area c = record { work = refl; trace = refl; progress = refl }
 -- an effect that was computed is that of its instruction, whatever program of that length and those cells it stands in
 pub effective : (p : List ℕ) (t : Trailer) (c : Progress) {w : List ℕ} {i : Instruction} {e : Effect}
     → Executed p w (t .count) (t .cells) (c .control .place) i e → t .cells ≤ 240 → Effective w c i e
-unfolding end
+unfolding endPlace
 effective p t c x h =
     let code : Code = record { prog = replicate (t .count) skip; cells = t .cells; window = t .window; costs = windowCosts } in
     record {
@@ -84,7 +84,7 @@ module _ {p w : List ℕ} {t : Trailer} (c : Progress) {i : Instruction} {e : Ef
   observed-same : (code : Code) → CodeOf t code
       → length (observations (e .observed)) ≡ length (ordinary code (machineOf w (c .control) (locations t)) (meaning p i) .obs)
   unfolding ordinary
-  observed-same code k = ap (λ (y : plain.Effect). length (y .obs)) (x .exact code (k .last) (k .cells))
+  observed-same code k = ap (λ (y : plain.Effect). length (y .obs)) (x .exact code (k .count) (k .cells))
 
   pub carried : {w′ area area′ : List ℕ} {c′ : Progress} {b : Bool} {k : ℕ} → k ≡ length (observations (e .observed))
       → b ≡ roomFor area c k → b ≡ true → ((q : List ℕ) → CarriedOutTo q w w′ area area′ i e c c′)
@@ -92,7 +92,7 @@ module _ {p w : List ℕ} {t : Trailer} (c : Progress) {i : Instruction} {e : Ef
   carried {area = area} n r y m = record {
     tried = λ code s. (
       ap (roomFor area c) (sym (n ∙ observed-same code s)) ∙ sym r ∙ y,
-      m p .made (locations t) code (let h = limits .cells in omega arith) (s .costs) (x .exact code (s .last) (s .cells)),
+      m p .made (locations t) code (let h = limits .cells in omega arith) (s .costs) (x .exact code (s .count) (s .cells)),
     );
   }
 

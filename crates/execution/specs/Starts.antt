@@ -50,7 +50,7 @@ running-start p t mode w a l h =
     record {
       ready = record {
         loaded = l;
-        fits = record { room = h; held = refl };
+        fits = record { room = h; bound = refl };
         counted = record { opened = omega arith; rollbacks = omega arith; steps = omega arith; room = omega arith };
         budget = omega arith;
         closed = λ e. refl;

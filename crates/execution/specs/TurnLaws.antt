@@ -15,7 +15,7 @@ use Rattle.rules.specs.declared.Stop.{Stop}
 use Rattle.rules.specs.declared.Stop.the-variants.{Finished, Spent, TraceFull}
 use Rattle.rules.specs.declared.Trailer.{Trailer}
 use Rattle.rules.specs.Rules.Instructions.{Instr, skip, Observation, start, rollback, pc, loaded, stored}
-use Rattle.rules.specs.Rules.Plain.{Code, State, end, fetch}
+use Rattle.rules.specs.Rules.Plain.{Code, State, endPlace, fetch}
 use Rattle.rules.specs.Rules.Mispredicting.{Branch, Machine, Step, expired, rolling, forward, ordinary, lower, stepOn, step, plainStep}
 use Rattle.rules.specs.Rules.Loop.{ended}
 use Rattle.rules.specs.Rules.Runs.{Log, Result, note, fits, overOn, over, run}
@@ -47,8 +47,8 @@ use Rattle.stops.specs.Stops.{closedAt, roomFor}
 use Rattle.execution.specs.Turns.{stepBy, codeOf, Loaded, Ready, Unchanged, Tried, RollBackTried, CodeOf, forwardBy, Advancing, Advanced, Halts, GoesOn, Turned, Running, RanTo}
 
 -- ---- the program
-pub code-end : (p : List ℕ) (t : Trailer) → readable (program (t .count) (t .count) 0 p 0) ≡ true → end (codeOf p t) ≡ t .count
-unfolding end codeOf readable
+pub code-end : (p : List ℕ) (t : Trailer) → readable (program (t .count) (t .count) 0 p 0) ≡ true → endPlace (codeOf p t) ≡ t .count
+unfolding endPlace codeOf readable
 code-end p t h = go (program (t .count) (t .count) 0 p 0) refl h
   where
     go : (R : Read (List Instr)) → program (t .count) (t .count) 0 p 0 ≡ R → readable R ≡ true → length (valueOr [] R) ≡ t .count
@@ -62,23 +62,23 @@ branches-length e g σ k (suc d) = ap suc (branches-length e g _ _ d)
 
 -- END with nothing open, and not so
 module _ (code : Code) (w : List ℕ) (c : Control) (n : ℕ) where
-  over-on-branches : (e : ℕ → BranchEntry) (g : ℕ → Change) (σ : State) (k d : ℕ) → d ≡ 0 → end code ≤ c .place
+  over-on-branches : (e : ℕ → BranchEntry) (g : ℕ → Change) (σ : State) (k d : ℕ) → d ≡ 0 → endPlace code ≤ c .place
       → overOn code (c .place) (branchesOf e g σ k d) ≡ true
   unfolding overOn
-  over-on-branches e g σ k zero h le = le-leb (end code) (c .place) le
+  over-on-branches e g σ k zero h le = le-leb (endPlace code) (c .place) le
   over-on-branches e g σ k (suc d) h le = absurd (omega arith)
 
-  pub over-closed : c .depth ≡ 0 → end code ≤ c .place → over code (machineOf w c n) ≡ true
+  pub over-closed : c .depth ≡ 0 → endPlace code ≤ c .place → over code (machineOf w c n) ≡ true
   unfolding over
   over-closed = over-on-branches (entryAt w) (changeAt w) (stateIn w n) (c .log) (c .depth)
 
-  on-branches : (e : ℕ → BranchEntry) (g : ℕ → Change) (σ : State) (k d : ℕ) → (d ≡ 0 → c .place < end code)
+  on-branches : (e : ℕ → BranchEntry) (g : ℕ → Change) (σ : State) (k d : ℕ) → (d ≡ 0 → c .place < endPlace code)
       → overOn code (c .place) (branchesOf e g σ k d) ≡ false
   unfolding overOn
-  on-branches e g σ k zero h = lt-leb (end code) (c .place) (h refl)
+  on-branches e g σ k zero h = lt-leb (endPlace code) (c .place) (h refl)
   on-branches e g σ k (suc d) h = refl
 
-  pub over-not : (c .depth ≡ 0 → c .place < end code) → over code (machineOf w c n) ≡ false
+  pub over-not : (c .depth ≡ 0 → c .place < endPlace code) → over code (machineOf w c n) ≡ false
   unfolding over
   over-not = on-branches (entryAt w) (changeAt w) (stateIn w n) (c .log) (c .depth)
 
@@ -89,20 +89,20 @@ pub record Top (code : Code) (M : Machine) : Type 0 where
   pub branches : M .branches ≡ top ∷ others
   pub rolls : step code M ≡ rolling M top others
 
-pub step-expired : (code : Code) (M : Machine) → expiredOn (end code) (M .place) (M .branches) ≡ true → Top code M
+pub step-expired : (code : Code) (M : Machine) → expiredOn (endPlace code) (M .place) (M .branches) ≡ true → Top code M
 unfolding step
 step-expired code M = go (M .branches) refl
   where
-    go : (bs : List Branch) → M .branches ≡ bs → expiredOn (end code) (M .place) bs ≡ true → Top code M
+    go : (bs : List Branch) → M .branches ≡ bs → expiredOn (endPlace code) (M .place) bs ≡ true → Top code M
     go [] e h = absurd (true≢false (sym h))
     go (b ∷ bs) e h = record { top = b; others = bs; branches = e; rolls = unfold step stepOn expired in rw (e, stepOn, h) }
 
-pub step-forward : (code : Code) (M : Machine) → expiredOn (end code) (M .place) (M .branches) ≡ false
+pub step-forward : (code : Code) (M : Machine) → expiredOn (endPlace code) (M .place) (M .branches) ≡ false
     → step code M ≡ forward code M (fetch code (M .place))
 unfolding step
 step-forward code M = go (M .branches) refl
   where
-    go : (bs : List Branch) → M .branches ≡ bs → expiredOn (end code) (M .place) bs ≡ false
+    go : (bs : List Branch) → M .branches ≡ bs → expiredOn (endPlace code) (M .place) bs ≡ false
         → stepOn code M (M .branches) ≡ forward code M (fetch code (M .place))
     go [] e h = unfold stepOn in rw (e, stepOn)
     go (b ∷ bs) e h = unfold stepOn expired in rw (e, stepOn, h)
@@ -113,29 +113,29 @@ pub closed-not-expired : (end : ℕ) (w : List ℕ) (c : Control) (n : ℕ) → 
 closed-not-expired end w c n h = rw h
 
 -- a machine with a top branch that has not expired: it has some window left, and the place is one of the program's
-pub not-expired : (last : ℕ) (w : List ℕ) (c : Control) (n : ℕ) → expiredOn last (c .place) (machineOf w c n .branches) ≡ false
-    → 0 < c .depth → (0 < windowIn w (c .depth)) × (c .place < last)
-not-expired last w c n h = go (stateIn w n) (c .log) (c .depth) h
+pub not-expired : (end : ℕ) (w : List ℕ) (c : Control) (n : ℕ) → expiredOn end (c .place) (machineOf w c n .branches) ≡ false
+    → 0 < c .depth → (0 < windowIn w (c .depth)) × (c .place < end)
+not-expired end w c n h = go (stateIn w n) (c .log) (c .depth) h
   where
-    pick : (v : ℕ) (a b : Bool) → eqb v 0 ≡ a → leb last (c .place) ≡ b → (a || b) ≡ false → (0 < v) × (c .place < last)
+    pick : (v : ℕ) (a b : Bool) → eqb v 0 ≡ a → leb end (c .place) ≡ b → (a || b) ≡ false → (0 < v) × (c .place < end)
     pick v true b e f h = absurd (true≢false h)
     pick v false true e f h = absurd (true≢false h)
-    pick v false false e f h = let z = eqb-false v 0 e in (omega arith, leb-false last (c .place) f)
+    pick v false false e f h = let z = eqb-false v 0 e in (omega arith, leb-false end (c .place) f)
 
-    go : (σ : State) (k d : ℕ) → expiredOn last (c .place) (branchesOf (entryAt w) (changeAt w) σ k d) ≡ false → 0 < d
-        → (0 < windowIn w d) × (c .place < last)
+    go : (σ : State) (k d : ℕ) → expiredOn end (c .place) (branchesOf (entryAt w) (changeAt w) σ k d) ≡ false → 0 < d
+        → (0 < windowIn w d) × (c .place < end)
     go σ k zero h lt = absurd (omega arith)
     go σ k (suc d) h lt =
-        pick (entryAt w d .window) (eqb (entryAt w d .window) 0) (leb last (c .place)) refl refl h
+        pick (entryAt w d .window) (eqb (entryAt w d .window) 0) (leb end (c .place)) refl refl h
 
 -- the test of END with nothing open
-pub closed-true : (d last p : ℕ) → closedAt d last p ≡ true → (d ≡ 0) × (last ≤ p)
-closed-true zero last p e = (refl, leb-true last p e)
-closed-true (suc d) last p e = absurd (true≢false (sym e))
+pub closed-true : (d end p : ℕ) → closedAt d end p ≡ true → (d ≡ 0) × (end ≤ p)
+closed-true zero end p e = (refl, leb-true end p e)
+closed-true (suc d) end p e = absurd (true≢false (sym e))
 
-pub closed-false : (d last p : ℕ) → closedAt d last p ≡ false → d ≡ 0 → p < last
-closed-false zero last p e z = leb-false last p e
-closed-false (suc d) last p e z = absurd (omega arith)
+pub closed-false : (d end p : ℕ) → closedAt d end p ≡ false → d ≡ 0 → p < end
+closed-false zero end p e z = leb-false end p e
+closed-false (suc d) end p e z = absurd (omega arith)
 
 -- ---- a turn
 module _ (p : List ℕ) (t : Trailer) (mode : Mode) (w area : List ℕ) (c : Progress) (r : Ready p t mode w area c) where
@@ -189,7 +189,7 @@ locations-most l = let h = l .cells in omega arith
 
 pub code-of : (p : List ℕ) (t : Trailer) → readable (program (t .count) (t .count) 0 p 0) ≡ true → CodeOf t (codeOf p t)
 unfolding codeOf
-code-of p t h = record { last = code-end p t h; cells = refl; window = refl; costs = refl }
+code-of p t h = record { count = code-end p t h; cells = refl; window = refl; costs = refl }
 
 -- a turn that tried rule 1 where the top branch has expired
 pub turned-back : (p : List ℕ) (t : Trailer) (mode : Mode) (w w′ area area′ : List ℕ) (c : Progress) (x : Next) (c′ : Progress)
@@ -206,7 +206,7 @@ turned-back p t modes.Mispredicting w w′ area area′ c x c′ r h b e k =
 
 -- where no branch has expired, the step is that of the instruction at the place
 forward-step : (mode : Mode) (code : Code) (M : Machine) (i : Instr) → i ≡ fetch code (M .place)
-    → expiredOn (end code) (M .place) (M .branches) ≡ false → forwardBy mode code M i ≡ stepBy mode code M
+    → expiredOn (endPlace code) (M .place) (M .branches) ≡ false → forwardBy mode code M i ≡ stepBy mode code M
 unfolding plainStep
 forward-step modes.Plain code M i f e = ap (ordinary code M) f
 forward-step modes.Mispredicting code M i f e = ap (forward code M) f ∙ sym (step-forward code M e)

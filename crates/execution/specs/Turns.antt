@@ -11,7 +11,7 @@ use Rattle.rules.specs.declared.Stop.{Stop}
 use Rattle.rules.specs.declared.Stop.the-variants.{Finished, Spent, TraceFull}
 use Rattle.rules.specs.declared.Trailer.{Trailer}
 use Rattle.rules.specs.Rules.Instructions.{Instr, Observation, windowCosts}
-use Rattle.rules.specs.Rules.Plain.{Code, end}
+use Rattle.rules.specs.Rules.Plain.{Code, endPlace}
 use Rattle.rules.specs.Rules.Mispredicting.{Branch, Machine, Step, rolling, opening, ordinary, forward, step, plainStep}
 use Rattle.rules.specs.Rules.Loop.{ended}
 use Rattle.rules.specs.Rules.Runs.{Log, Result, fits, over, run}
@@ -84,7 +84,7 @@ pub record RollBackTried (w w′ area area′ : List ℕ) (c : Progress) (x : Ne
       → Tried n (rolling (machineOf w (c .control) n) b bs) w w′ area area′ c x c′
 
 -- What rules 2 and 3 ask, beside room for their observations.
-pub record Live (w area : List ℕ) (c : Progress) : Type 0 where
+pub record CanStep (w area : List ℕ) (c : Progress) : Type 0 where
   pub fits : Fit w (c .control)
   pub counted : Counted c area
   pub place : c .control .place < 512
@@ -97,7 +97,7 @@ pub record OpeningTried (w w′ area area′ : List ℕ) (r l window : ℕ) (c :
 
 -- the job's code: what the rules are given, by its trailer
 pub record CodeOf (t : Trailer) (code : Code) : Type 0 where
-  pub last : end code ≡ t .count
+  pub count : endPlace code ≡ t .count
   pub cells : code .cells ≡ t .cells
   pub window : code .window ≡ t .window
   pub costs : code .costs ≡ windowCosts
@@ -109,7 +109,7 @@ pub record CarryingTried (p : List ℕ) (t : Trailer) (w w′ area area′ : Lis
 
 -- What an instruction that is next asks: rules 2 and 3 can be tried, and its expressions and registers are those of a job.
 pub record Advancing (p : List ℕ) (t : Trailer) (w area : List ℕ) (i : Instruction) (c : Progress) : Type 0 where
-  pub live : Live w area c
+  pub live : CanStep w area c
   pub limits : Limits t
   pub sound : postfix (meaning p i) ≡ true
   pub below : RegistersBelow registers (meaning p i)

@@ -8,7 +8,7 @@ use rules::Trailer;
 use stepping::Progress;
 use work::machine::Control;
 ghost use mathlib.Core.Path.{_≡_};
-ghost use Prim.Native.Nat.{ℕ, _+_, _^_, _<_, _≤_};
+ghost use Prim.Native.Nat.{_<_, _≤_};
 ghost use lib.ListN.{length};
 ghost use Rattle.location.specs.Sets.{registers};
 ghost use Rattle.rules.specs.Rules.Calls.{workingWords};
@@ -16,8 +16,7 @@ ghost use Rattle.work.specs.Machines.{Fit, maxWindow};
 ghost use Rattle.effect.specs.Effects.{observations};
 ghost use Rattle.stepping.specs.Steps.{Counted};
 ghost use Rattle.execution.specs.Starts.{beginning, whole};
-ghost use Rattle.stops.specs.Stops.{roomFor, closedAt};
-ghost use Rattle.execution.specs.Turns.{RollBackTried, Live, OpeningTried, CarryingTried, Advancing, Opens, Advanced, Ready, Loaded, Turned, RanTo};
+ghost use Rattle.execution.specs.Turns.{RollBackTried, CanStep, OpeningTried, CarryingTried, Advancing, Opens, Advanced, Ready, Loaded, Turned, RanTo};
 
 // Which of the two runs.
 pub enum Mode {
@@ -64,7 +63,7 @@ fn try_open(
     l: Label,
     window: usize,
 ) -> Turn
-    requires { ⌜ Live (now work) (now trace) c × (r < registers) × (window ≤ maxWindow) ⌝ }
+    requires { ⌜ CanStep (now work) (now trace) c × (r < registers) × (window ≤ maxWindow) ⌝ }
     ensures { λ x. ⌜ OpeningTried (now (work .entry)) (now (work .exit)) (now (trace .entry)) (now (trace .exit)) r (l .0) window c (x .next) (x .progress) ⌝ }
 {
     if stops::has_room(&trace[..], c, 2) {

@@ -46,6 +46,6 @@ instructionReadMeaning p (instruction-read.Found d) = got (meaning p (d .instruc
 instructionReadMeaning p (instruction-read.Refused r) = refused r
 
 -- an instruction that was found comes with its answer to the postfix rule
-abbrev pub Judged : List ℕ → InstructionRead → Type 0
-Judged p (instruction-read.Found d) = d .sound ≡ postfix (meaning p (d .instruction))
-Judged p (instruction-read.Refused r) = Unit {0}
+abbrev pub InstructionTested : List ℕ → InstructionRead → Type 0
+InstructionTested p (instruction-read.Found d) = d .sound ≡ postfix (meaning p (d .instruction))
+InstructionTested p (instruction-read.Refused r) = Unit {0}

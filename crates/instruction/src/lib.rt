@@ -14,7 +14,7 @@ ghost use Rattle.rules.specs.Rules.JobFile.{wordOf, register, withRegister, jum
 ghost use Rattle.rules.specs.Rules.Plain.{Code};
 ghost use Rattle.rules.specs.Rules.Mispredicting.{remaining};
 ghost use Rattle.token.specs.Meaning.{readable, valueOr, tokensOf};
-ghost use Rattle.instruction.specs.Meaning.{registerReadMeaning, labelReadMeaning, meaning, withRegisterOf, instructionReadMeaning, Judged};
+ghost use Rattle.instruction.specs.Meaning.{registerReadMeaning, labelReadMeaning, meaning, withRegisterOf, instructionReadMeaning, InstructionTested};
 
 const REGISTERS: u8 = Location::REGISTERS as u8;
 
@@ -96,7 +96,7 @@ fn with_register(kind: u8, r: u8, e: Expression) -> Instruction
 }
 
 fn read_with_register(p: &[u8], at: usize, kind: u8) -> InstructionRead
-    ensures { λ r. ⌜ (instructionReadMeaning (now (p .entry)) r ≡ withRegister (withRegisterOf kind) (now (p .entry)) at) × Judged (now (p .entry)) r ⌝ }
+    ensures { λ r. ⌜ (instructionReadMeaning (now (p .entry)) r ≡ withRegister (withRegisterOf kind) (now (p .entry)) at) × InstructionTested (now (p .entry)) r ⌝ }
 {
     match read_register(p, at) {
         RegisterRead::Found(r, start) => match token::read_expression(p, start) {
@@ -115,7 +115,7 @@ fn read_with_register(p: &[u8], at: usize, kind: u8) -> InstructionRead
 }
 
 fn read_jump(p: &[u8], at: usize) -> InstructionRead
-    ensures { λ r. ⌜ (instructionReadMeaning (now (p .entry)) r ≡ jump (now (p .entry)) at) × Judged (now (p .entry)) r ⌝ }
+    ensures { λ r. ⌜ (instructionReadMeaning (now (p .entry)) r ≡ jump (now (p .entry)) at) × InstructionTested (now (p .entry)) r ⌝ }
 {
     match token::read_expression(p, at) {
         ExpressionRead::Found(e, next, sound) => {
@@ -131,7 +131,7 @@ fn read_jump(p: &[u8], at: usize) -> InstructionRead
 }
 
 fn read_branch(p: &[u8], at: usize) -> InstructionRead
-    ensures { λ r. ⌜ (instructionReadMeaning (now (p .entry)) r ≡ branch (now (p .entry)) at) × Judged (now (p .entry)) r ⌝ }
+    ensures { λ r. ⌜ (instructionReadMeaning (now (p .entry)) r ≡ branch (now (p .entry)) at) × InstructionTested (now (p .entry)) r ⌝ }
 {
     match read_register(p, at) {
         RegisterRead::Found(r, start) => match read_label(p, start) {
@@ -150,7 +150,7 @@ fn read_branch(p: &[u8], at: usize) -> InstructionRead
 }
 
 fn read_conditional(p: &[u8], at: usize) -> InstructionRead
-    ensures { λ r. ⌜ (instructionReadMeaning (now (p .entry)) r ≡ conditional (now (p .entry)) at) × Judged (now (p .entry)) r ⌝ }
+    ensures { λ r. ⌜ (instructionReadMeaning (now (p .entry)) r ≡ conditional (now (p .entry)) at) × InstructionTested (now (p .entry)) r ⌝ }
 {
     match read_register(p, at) {
         RegisterRead::Found(r, start) => match token::read_expression(p, start) {
@@ -173,7 +173,7 @@ fn read_conditional(p: &[u8], at: usize) -> InstructionRead
 
 // The instruction at an offset.
 pub fn decode(p: &[u8], at: usize) -> InstructionRead
-    ensures { λ r. ⌜ (instructionReadMeaning (now (p .entry)) r ≡ instr (now (p .entry)) at) × Judged (now (p .entry)) r ⌝ }
+    ensures { λ r. ⌜ (instructionReadMeaning (now (p .entry)) r ≡ instr (now (p .entry)) at) × InstructionTested (now (p .entry)) r ⌝ }
 {
     if p.len() <= at {
         return InstructionRead::Refused(Refusal::Encoding);

@@ -6,10 +6,10 @@ use program::Checked;
 use rules::Refusal;
 use rules::Trailer;
 ghost use mathlib.Core.Path.{_≡_};
-ghost use Prim.Native.Nat.{ℕ, _+_, _-_, _*_, _/_, _%_, _^_, _<_, _≤_};
+ghost use Prim.Native.Nat.{_+_, _-_, _/_, _%_, _^_, _<_, _≤_};
 ghost use lib.ListN.{length, getD};
 ghost use Rattle.location.specs.Sets.{registers, limit};
-ghost use Rattle.rules.specs.Rules.JobFile.{little, trailerAt, trailer, limits, offsets, wordsAt, publicOf, noneFrom, programOf, finish, parse};
+ghost use Rattle.rules.specs.Rules.JobFile.{trailer, publicOf, noneFrom, programOf, finish, parse};
 ghost use Rattle.job.specs.Answers.{jobReadOf};
 
 // Cells are numbered after the registers.

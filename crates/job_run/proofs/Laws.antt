@@ -1,6 +1,6 @@
 -- How the run of a job in lent areas comes from the run of a state.
 -- Assumes nothing.
-use mathlib.Core.Path.{_≡_, refl, sym, ap, _∙_}
+use mathlib.Core.Path.{_≡_}
 use mathlib.Core.List.{List}
 use Prim.Native.Nat.{ℕ, _-_}
 use native.Mathlib.Omega.{arith}
@@ -11,8 +11,6 @@ use Rattle.rules.specs.Rules.Plain.{values}
 use Rattle.rules.specs.Rules.Runs.{Job}
 use Rattle.rules.specs.Rules.JobFile.{accepted, parse, locations}
 use Rattle.rules.specs.Rules.Calls.{lent, written, workingWords, room}
-use Rattle.rules.specs.Rules.Pairs.{withState}
-use Rattle.rules.specs.Theorems.JobLaws.{passed}
 use Rattle.job.specs.Answers.{Accepts}
 use Rattle.work.specs.Machines.{stateIn}
 use Rattle.stepping.specs.declared.Progress.{Progress}
@@ -36,7 +34,7 @@ module _ {bs : List ℕ} {t : Trailer} (k : Accepts bs t) (mode : Mode) {w w′ 
       → w″ ≡ written (replicate workingWords 0) w′ → RunIn bs t mode (lent a e w) (lent a′ e′ w″) x c
   run-in {e} o ee ew = record {
     words = o .words;
-    last = w′;
+    final = w′;
     ran = own-run o;
     areas = λ job p. rw (ee, ew) (areas-same (own-run o job p) w e (o .past));
   }

@@ -1,10 +1,10 @@
 -- One of the two runs of an accepted job: with a state that stands somewhere in some bytes, and with its own in lent areas.
 -- Assumes nothing.
-use mathlib.Core.Path.{_≡_, refl, sym, ap, _∙_}
+use mathlib.Core.Path.{_≡_, _∙_}
 use mathlib.Core.List.{List}
-use Prim.Native.Nat.{ℕ, _+_, _-_, _*_, _<_, _≤_}
+use Prim.Native.Nat.{ℕ, _+_, _*_, _≤_}
 use native.Mathlib.Omega.{arith}
-use lib.ListN.{length, take, drop, getD}
+use lib.ListN.{length, take, drop}
 use Rattle.rules.specs.declared.Stop.{Stop}
 use Rattle.rules.specs.declared.Trailer.{Trailer}
 use Rattle.rules.specs.declared.Counts.{Counts}
@@ -57,9 +57,9 @@ pub record AreasFit (bs : List ℕ) (t : Trailer) (ends w : List ℕ) : Type 0 w
 -- The run of the job, as it has ended, with every area as the rules leave it.
 pub record RunIn (bs : List ℕ) (t : Trailer) (mode : Mode) (before after : Areas) (x : Stop) (c : Progress) : Type 0 where
   pub words : List ℕ
-  pub last : List ℕ
+  pub final : List ℕ
   pub ran : (job : Job) → parse bs ≡ accepted job
-      → RanTo t words (before .trace) last (after .trace) x c (resultOf mode job (room (before .trace)))
+      → RanTo t words (before .trace) final (after .trace) x c (resultOf mode job (room (before .trace)))
   pub areas : (job : Job) → parse bs ≡ accepted job → after ≡ areasAfter (resultOf mode job (room (before .trace))) before
 
 -- ---- laws

@@ -3,11 +3,10 @@
 use mathlib.Core.Path.{_≡_, sym, ap, _∙_}
 use mathlib.Core.List.{List, _++_}
 use Prim.Native.Nat.{ℕ}
-use lib.ListN.{length, drop, replicate, length-replicate}
-use Rattle.location.specs.declared.LocationSet.{LocationSet}
+use lib.ListN.{drop, replicate, length-replicate}
 use Rattle.rules.specs.declared.Stop.{Stop}
 use Rattle.rules.specs.declared.Trailer.{Trailer}
-use Rattle.rules.specs.Rules.Plain.{State, values}
+use Rattle.rules.specs.Rules.Plain.{values}
 use Rattle.rules.specs.Rules.Mispredicting.{Machine}
 use Rattle.rules.specs.Rules.Runs.{Log, Result}
 use Rattle.rules.specs.Rules.JobFile.{locations}

@@ -13,7 +13,7 @@ use Rattle.rules.specs.declared.PairWord.the-variants as words
 use Rattle.rules.specs.Rules.Runs.{judge}
 use Rattle.rules.specs.Rules.Pairs.{isFinished, sameWords}
 use Rattle.trace.specs.Struck.{struckWords}
-use Rattle.judgement.specs.Words.{wordOf}
+use Rattle.judgement.specs.Words.{pairWordOf}
 
 -- ---- the verdict
 module _ (public full plain : LocationSet) {stop : Stop} {b : Bool} (f : stop ≡ Finished) (e : b ≡ subset full public) where
@@ -32,24 +32,24 @@ module _ (public full plain : LocationSet) {stop : Stop} {b : Bool} (f : stop �
 
 -- ---- the word, by the tests that the code makes
 module _ (alike : Bool) (x x′ : Stop) (a b : List ℕ) where
-  pub word-not-alike : alike ≡ false → words.NotComparable ≡ wordOf alike x x′ a b
+  pub word-not-alike : alike ≡ false → words.NotComparable ≡ pairWordOf alike x x′ a b
   word-not-alike e = rw e
 
   module _ (e : alike ≡ true) where
-    pub word-first-open : isFinished x ≡ false → words.Undecided ≡ wordOf alike x x′ a b
+    pub word-first-open : isFinished x ≡ false → words.Undecided ≡ pairWordOf alike x x′ a b
     word-first-open f = rw (e, f)
 
     module _ (f : isFinished x ≡ true) where
-      pub word-second-open : isFinished x′ ≡ false → words.Undecided ≡ wordOf alike x x′ a b
+      pub word-second-open : isFinished x′ ≡ false → words.Undecided ≡ pairWordOf alike x x′ a b
       word-second-open g = rw (e, f, g)
 
       module _ (g : isFinished x′ ≡ true) where
-        pub word-plain : sameWords (struckWords a) (struckWords b) ≡ false → words.PlainDiffers ≡ wordOf alike x x′ a b
+        pub word-plain : sameWords (struckWords a) (struckWords b) ≡ false → words.PlainDiffers ≡ pairWordOf alike x x′ a b
         word-plain p = rw (e, f, g, p)
 
         module _ (p : sameWords (struckWords a) (struckWords b) ≡ true) where
-          pub word-leak : sameWords a b ≡ false → words.LeakShown ≡ wordOf alike x x′ a b
+          pub word-leak : sameWords a b ≡ false → words.LeakShown ≡ pairWordOf alike x x′ a b
           word-leak s = rw (e, f, g, p, s)
 
-          pub word-equal : sameWords a b ≡ true → words.Equal ≡ wordOf alike x x′ a b
+          pub word-equal : sameWords a b ≡ true → words.Equal ≡ pairWordOf alike x x′ a b
           word-equal s = rw (e, f, g, p, s)

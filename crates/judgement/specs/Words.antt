@@ -15,8 +15,8 @@ use Rattle.rules.specs.Theorems.PlainRun.{demand2}
 use Rattle.rules.specs.Theorems.PairLaws.{finished-stop}
 use Rattle.trace.specs.Struck.{struckWords, struck-trace}
 
-abbrev pub wordOf : Bool → Stop → Stop → List ℕ → List ℕ → PairWord
-wordOf alike x x′ a b =
+abbrev pub pairWordOf : Bool → Stop → Stop → List ℕ → List ℕ → PairWord
+pairWordOf alike x x′ a b =
     firstThatFits alike (isFinished x && isFinished x′) (sameWords (struckWords a) (struckWords b)) (sameWords a b)
 
 -- ---- the word is the rules'
@@ -33,7 +33,7 @@ module _ (job : Job) (k : ℕ) where
   struck-plain e = struck-trace (mispredictingRun job k .log .trace) ∙ ap traceWords (sym (demand2 job k e .trace))
 
 pub word-same : (job : Job) (vs : List ℕ) (k : ℕ)
-    → wordOf (alikeFrom (job .public) 0 (job .init) vs) (mispredictingRun job k .stop) (mispredictingRun (withState job vs) k .stop)
+    → pairWordOf (alikeFrom (job .public) 0 (job .init) vs) (mispredictingRun job k .stop) (mispredictingRun (withState job vs) k .stop)
     (traceWords (mispredictingRun job k .log .trace)) (traceWords (mispredictingRun (withState job vs) k .log .trace))
     ≡ pairWord job vs k
 unfolding pairWord sameTrace

@@ -7,7 +7,7 @@ use rules::Verdict;
 ghost use mathlib.Core.Path.{_≡_};
 ghost use Rattle.rules.specs.Rules.Runs.{judge};
 ghost use Rattle.rules.specs.Rules.Pairs.{isFinished};
-ghost use Rattle.judgement.specs.Words.{wordOf};
+ghost use Rattle.judgement.specs.Words.{pairWordOf};
 
 // The verdict on a run, by its stop, D and the plain set.
 pub fn verdict_of(public: LocationSet, stop: Stop, full: LocationSet, plain: LocationSet) -> Verdict
@@ -40,7 +40,7 @@ fn finished(stop: Stop) -> bool
 
 // The first word that fits, of two stops and two traces.
 pub fn pair_word(alike: bool, first: Stop, second: Stop, a: &[u64], b: &[u64]) -> PairWord
-    ensures { λ r. ⌜ r ≡ wordOf alike first second (now (a .entry)) (now (b .entry)) ⌝ }
+    ensures { λ r. ⌜ r ≡ pairWordOf alike first second (now (a .entry)) (now (b .entry)) ⌝ }
 {
     if !alike {
         return PairWord::NotComparable;

@@ -5,7 +5,6 @@ use mathlib.Core.Bool.{Bool, true, false, cond}
 use mathlib.Core.List.{List, [], _∷_, _++_}
 use Prim.Native.Nat.{ℕ, zero, suc, _+_, _-_, _<_, _≤_}
 use native.Mathlib.Omega.{arith}
-use lib.Dec.{eqb, ltb}
 use lib.ListN.{length, getD, drop, length-drop, List·getD-eq-default}
 use lib.Seq.{drop-cons}
 use borrow.Author.Tests.{lt-ltb, le-ltb, eq-eqb, ne-eqb}
@@ -19,8 +18,9 @@ use Rattle.rules.specs.declared.RunOutcome.the-variants as runs
 use Rattle.rules.specs.declared.RunAnswer.{RunAnswer}
 use Rattle.rules.specs.Rules.Instructions.{start, rollback, pc, loaded, stored}
 use Rattle.rules.specs.Rules.Answers.{text, refusalNumber}
+use Rattle.rules.specs.Rules.Demands.{observationCount}
 use Rattle.rules.specs.Rules.Listing.{decimal, line, numberLine, placeText, observationLine, traceLines, locationText, members, summary, outcomeLines, answerLines}
-use Rattle.listing.specs.Lines.{observationOf, observed, memberText, count, printed}
+use Rattle.listing.specs.Lines.{observationOf, observationsIn, memberText, printed}
 
 -- ---- places
 pub place-end : (n p : ℕ) → p ≡ n → observationLine n (pc p) ≡ text "pc end\n"
@@ -55,9 +55,9 @@ module _ (n k v : ℕ) where
 
 -- ---- a trace observation by observation
 pub trace-next : (n left : ℕ) (ws : List ℕ) (i : ℕ) → 0 < left → i + 1 < length ws
-    → traceLines n (observed left (drop i ws))
-    ≡ observationLine n (observationOf (getD ws i 0) (getD ws (i + 1) 0)) ++ traceLines n (observed (left - 1) (drop (i + 2) ws))
-unfolding traceLines observed
+    → traceLines n (observationsIn left (drop i ws))
+    ≡ observationLine n (observationOf (getD ws i 0) (getD ws (i + 1) 0)) ++ traceLines n (observationsIn (left - 1) (drop (i + 2) ws))
+unfolding traceLines observationsIn
 trace-next n zero ws i h r = absurd (omega arith)
 trace-next n (suc k) ws i h r =
     let p : suc k - 1 ≡ k = omega arith in
@@ -67,18 +67,18 @@ trace-next n (suc k) ws i h r =
     let two : i + 2 ≡ suc (suc i) = omega arith in
     rw (p, one, two, e)
 
-pub trace-counted : (n : ℕ) (ws : List ℕ) → traceLines n (observed 0 ws) ≡ []
-unfolding traceLines observed
+pub trace-counted : (n : ℕ) (ws : List ℕ) → traceLines n (observationsIn 0 ws) ≡ []
+unfolding traceLines observationsIn
 trace-counted n ws = refl
 
-no-pair : (n k : ℕ) (ws : List ℕ) → length ws ≤ 1 → traceLines n (observed k ws) ≡ []
-unfolding traceLines observed
+no-pair : (n k : ℕ) (ws : List ℕ) → length ws ≤ 1 → traceLines n (observationsIn k ws) ≡ []
+unfolding traceLines observationsIn
 no-pair n zero ws h = refl
 no-pair n (suc k) [] h = refl
 no-pair n (suc k) (x ∷ []) h = refl
 no-pair n (suc k) (x ∷ v ∷ ws) h = absurd (omega arith)
 
-pub trace-over : (n left : ℕ) (ws : List ℕ) (i : ℕ) → length ws ≤ i + 1 → traceLines n (observed left (drop i ws)) ≡ []
+pub trace-over : (n left : ℕ) (ws : List ℕ) (i : ℕ) → length ws ≤ i + 1 → traceLines n (observationsIn left (drop i ws)) ≡ []
 trace-over n left ws i h = no-pair n left (drop i ws) (omega (arith, length-drop i ws))
 
 -- ---- the members of a set, location by location
@@ -110,9 +110,9 @@ members-next s (suc k) h r =
 module _ (n : ℕ) (a : RunAnswer) (trace : List ℕ) where
   pub printed-refusal : (cause : Refusal) → a .outcome ≡ runs.Refused cause → printed n a trace ≡ numberLine (text "refused") (refusalNumber cause)
   unfolding printed answerLines
-  printed-refusal cause e = ap (λ (o : RunOutcome). outcomeLines n (observed (count o) trace) (a .depends) (a .plain) o) e
+  printed-refusal cause e = ap (λ (o : RunOutcome). outcomeLines n (observationsIn (observationCount o) trace) (a .depends) (a .plain) o) e
 
   pub printed-run : (c : Counts) (v : Verdict) → a .outcome ≡ runs.Ran c v
-      → printed n a trace ≡ traceLines n (observed (c .observations) trace) ++ summary c (a .depends) (a .plain) v
+      → printed n a trace ≡ traceLines n (observationsIn (c .observations) trace) ++ summary c (a .depends) (a .plain) v
   unfolding printed answerLines
-  printed-run c v e = ap (λ (o : RunOutcome). outcomeLines n (observed (count o) trace) (a .depends) (a .plain) o) e
+  printed-run c v e = ap (λ (o : RunOutcome). outcomeLines n (observationsIn (observationCount o) trace) (a .depends) (a .plain) o) e

@@ -20,7 +20,7 @@ use Rattle.rules.specs.declared.RunAnswer.{RunAnswer}
 use Rattle.rules.specs.Rules.Instructions.{Observation, start, rollback, pc, loaded, stored}
 use Rattle.rules.specs.Rules.Answers.{text, stopWord, verdictWord, refusalNumber}
 use Rattle.rules.specs.Rules.Listing.{digits, decimal, line, numberLine, placeText, observationLine, traceLines, locationText, members, setLine, summary, outcomeLines, answerLines}
-use Rattle.listing.specs.Lines.{observed}
+use Rattle.listing.specs.Lines.{observationsIn}
 
 -- one of two texts
 either-length : (b : Bool) (x y : List ℕ) (m : ℕ) → length x ≤ m → length y ≤ m → length (cond b x y) ≤ m
@@ -65,8 +65,8 @@ trace-length n [] = omega arith
 trace-length n (o ∷ os) = omega (arith, length-append (observationLine n o) (traceLines n os), observation-length n o, trace-length n os)
 
 -- two words an observation
-pub observed-length : (k : ℕ) (ws : List ℕ) → 2 * length (observed k ws) ≤ length ws
-unfolding observed
+pub observed-length : (k : ℕ) (ws : List ℕ) → 2 * length (observationsIn k ws) ≤ length ws
+unfolding observationsIn
 observed-length zero ws = omega arith
 observed-length (suc k) [] = omega arith
 observed-length (suc k) (x ∷ []) = omega arith

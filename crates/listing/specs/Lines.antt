@@ -8,10 +8,9 @@ use lib.ListN.{length, getD}
 use lib.Seq.{sets}
 use Rattle.location.specs.declared.LocationSet.{LocationSet}
 use Rattle.location.specs.Sets.{member}
-use Rattle.rules.specs.declared.RunOutcome.{RunOutcome}
-use Rattle.rules.specs.declared.RunOutcome.the-variants as runs
 use Rattle.rules.specs.declared.RunAnswer.{RunAnswer}
 use Rattle.rules.specs.Rules.Instructions.{Observation, start, rollback, pc, loaded, stored}
+use Rattle.rules.specs.Rules.Demands.{observationCount}
 use Rattle.rules.specs.Rules.Listing.{locationText, answerLines}
 
 -- The bytes are written from a place of an area on, as far as the area goes; all its other bytes keep their contents. The next
@@ -25,21 +24,16 @@ unfoldable pub observationOf : ℕ → ℕ → Observation
 observationOf k v = getD (start ∷ rollback ∷ pc ∷ loaded ∷ []) k stored v
 
 -- the first k observations of these words, or as many as there are
-unfoldable pub observed : ℕ → List ℕ → List Observation
-observed zero ws = []
-observed (suc k) [] = []
-observed (suc k) (x ∷ []) = []
-observed (suc k) (x ∷ v ∷ ws) = observationOf x v ∷ observed k ws
+unfoldable pub observationsIn : ℕ → List ℕ → List Observation
+observationsIn zero ws = []
+observationsIn (suc k) [] = []
+observationsIn (suc k) (x ∷ []) = []
+observationsIn (suc k) (x ∷ v ∷ ws) = observationOf x v ∷ observationsIn k ws
 
 -- what is printed of a location in the line of a set
 abbrev pub memberText : LocationSet → ℕ → List ℕ
 memberText s l = cond (member s l) (locationText l) []
 
--- how many observations an outcome counts
-abbrev pub count : RunOutcome → ℕ
-count (runs.Refused r) = 0
-count (runs.Ran c v) = c .observations
-
 -- the lines of an answer whose trace stands at the front of these words
 unfoldable pub printed : ℕ → RunAnswer → List ℕ → List ℕ
-printed n a trace = answerLines n (observed (count (a .outcome)) trace) a
+printed n a trace = answerLines n (observationsIn (observationCount (a .outcome)) trace) a

@@ -9,12 +9,13 @@ use Rattle.rules.specs.declared.RunAnswer.{RunAnswer}
 use Rattle.rules.specs.Rules.Instructions.{Observation, start, rollback, pc, loaded, stored}
 use Rattle.rules.specs.Rules.Runs.{Job, Result}
 use Rattle.rules.specs.Rules.Calls.{traceWords, written, counts, runReport, runRefused}
+use Rattle.rules.specs.Rules.Demands.{observationCount}
 use Rattle.rules.specs.Rules.Listing.{answerLines}
-use Rattle.listing.specs.Lines.{observationOf, observed, count, printed}
+use Rattle.listing.specs.Lines.{observationOf, observationsIn, printed}
 
 -- the words of a trace stand for the trace
-pub observed-words : (os : List Observation) (rest : List ℕ) → observed (length os) (traceWords os ++ rest) ≡ os
-unfolding observationOf observed traceWords
+pub observed-words : (os : List Observation) (rest : List ℕ) → observationsIn (length os) (traceWords os ++ rest) ≡ os
+unfolding observationOf observationsIn traceWords
 observed-words [] rest = refl
 observed-words (start i ∷ os) rest = ap (λ (later : List Observation). start i ∷ later) (observed-words os rest)
 observed-words (rollback i ∷ os) rest = ap (λ (later : List Observation). rollback i ∷ later) (observed-words os rest)
@@ -23,11 +24,11 @@ observed-words (loaded a ∷ os) rest = ap (λ (later : List Observation). loade
 observed-words (stored a ∷ os) rest = ap (λ (later : List Observation). stored a ∷ later) (observed-words os rest)
 
 -- an answer that counts the observations whose words stand at the front
-pub printed-words : (n : ℕ) (os : List Observation) (rest : List ℕ) (a : RunAnswer) → count (a .outcome) ≡ length os
+pub printed-words : (n : ℕ) (os : List Observation) (rest : List ℕ) (a : RunAnswer) → observationCount (a .outcome) ≡ length os
     → printed n a (traceWords os ++ rest) ≡ answerLines n os a
 unfolding printed
 printed-words n os rest a e =
-    ap (λ (trace : List Observation). answerLines n trace a) (ap (λ (k : ℕ). observed k (traceWords os ++ rest)) e ∙ observed-words os rest)
+    ap (λ (trace : List Observation). answerLines n trace a) (ap (λ (k : ℕ). observationsIn k (traceWords os ++ rest)) e ∙ observed-words os rest)
 
 -- what a run reports, with its trace area after the call
 pub printed-report : (n : ℕ) (job : Job) (r : Result) (area : List ℕ)

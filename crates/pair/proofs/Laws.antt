@@ -1,13 +1,12 @@
 -- How the pair's code meets the definition of the call: the two runs, the answer on them, and what is left in the areas.
 -- Assumes nothing.
 use mathlib.Core.Path.{_≡_, refl, sym, ap, _∙_}
-use mathlib.Core.Bool.{Bool, true, false, _&&_}
+use mathlib.Core.Bool.{Bool, true, false}
 use mathlib.Core.List.{List}
 use Prim.{⊥}
-use Prim.Native.Nat.{ℕ, _+_, _-_, _*_, _/_, _<_, _≤_}
+use Prim.Native.Nat.{ℕ, _-_, _*_, _/_, _<_, _≤_}
 use native.Mathlib.Omega.{arith}
 use borrow.Author.Tests.{eq-eqb, ne-eqb, le-leb, lt-leb}
-use lib.Dec.{eqb, leb}
 use lib.ListN.{length, take, drop, replicate}
 use lib.Seq.{take-at}
 use Rattle.location.specs.declared.LocationSet.{LocationSet}
@@ -23,7 +22,7 @@ use Rattle.rules.specs.Rules.Instructions.{Observation}
 use Rattle.rules.specs.Rules.Runs.{Job, Result, mispredictingRun}
 use Rattle.rules.specs.Rules.JobFile.{locations, publicOf, wordsAt}
 use Rattle.rules.specs.Rules.Calls.{traceWords, written, workingWords, room, counts}
-use Rattle.rules.specs.Rules.Pairs.{withState, alikeFrom, pairWord, PairAreas, PairCalled, pairLent, pairAfter, pairRefused, secondFits, pairFits, pairAccepted, pairParsed, pairCall}
+use Rattle.rules.specs.Rules.Pairs.{withState, alikeFrom, PairAreas, pairLent, pairAfter, pairRefused, secondFits, pairFits, pairAccepted, pairParsed, pairCall}
 use Rattle.rules.specs.Rules.Demands.{PairExact}
 use Rattle.rules.specs.Theorems.RunLaws.{mispredicting-trace}
 use Rattle.rules.specs.Theorems.CallLaws.{length-traceWords}
@@ -33,11 +32,11 @@ use Rattle.stepping.specs.declared.Progress.{Progress}
 use Rattle.execution.specs.declared.Mode.the-variants as modes
 use Rattle.execution.specs.Turns.{RanTo}
 use Rattle.execution.specs.TurnLaws.{written-length}
-use Rattle.job_run.specs.Accepted.{accepted-size, accepted-public, accepted-init, accepted-state}
+use Rattle.job_run.specs.Accepted.{accepted-size, accepted-public, accepted-init}
 use Rattle.job_run.specs.JobRuns.{countsOf, RunOf}
 use Rattle.job_run.specs.Reports.{counts-same, cleared-same}
 use Rattle.job_run.proofs.Laws.{same-part, own-run}
-use Rattle.judgement.specs.Words.{wordOf, word-same}
+use Rattle.judgement.specs.Words.{pairWordOf, word-same}
 use Rattle.pair.specs.Runs.{comparedOf, Comparable}
 
 -- ---- a run that has ended: what it wrote fits, and stands from the front
@@ -63,13 +62,13 @@ module _ {t : Trailer} {w₀ a w a′ : List ℕ} {x : Stop} {c : Progress} (job
       ∙ take-at (traceWords trace) _ (2 * length trace) (length-traceWords trace)
 
 -- ---- the answer on two runs, of what the code has found
-pub judged : (bs : List ℕ) (t : Trailer) (second a b : List ℕ) (x x′ : Stop) (c c′ : Progress) {word : PairWord} {alike : Bool}
+pub compared-same : (bs : List ℕ) (t : Trailer) (second a b : List ℕ) (x x′ : Stop) (c c′ : Progress) {word : PairWord} {alike : Bool}
     {public : LocationSet} {n n′ : Counts}
     → n ≡ countsOf x c → n′ ≡ countsOf x′ c′ → public ≡ publicOf t bs
     → alike ≡ alikeFrom public 0 (wordsAt (locations t) bs (t .state)) (wordsAt (locations t) second 0)
-    → word ≡ wordOf alike (n .stop) (n′ .stop) (take (2 * n .observations - 0) (drop 0 a)) (take (2 * n′ .observations - 0) (drop 0 b))
+    → word ≡ pairWordOf alike (n .stop) (n′ .stop) (take (2 * n .observations - 0) (drop 0 a)) (take (2 * n′ .observations - 0) (drop 0 b))
     → answers.Compared word n n′ ≡ comparedOf bs t second x c x′ c′ a b
-judged bs t second a b x x′ c c′ en en′ ep ea ew =
+compared-same bs t second a b x x′ c c′ en en′ ep ea ew =
     rw (ew, ea, ep, en, en′, same-part (2 * c .observations) a, same-part (2 * c′ .observations) b)
 
 -- ---- both runs
@@ -123,10 +122,10 @@ module _ {bs : List ℕ} {t : Trailer} {second a b w w₁ w₂ a′ b′ : List 
   -- the answer is that of the rules' two runs
   answer-same : comparedOf bs t second x c x′ c′ a′ b′
       ≡ answers.Compared
-      (wordOf (alikeFrom (job .public) 0 (job .init) vs) (run₁ .stop) (run₂ .stop) (traceWords (run₁ .log .trace)) (traceWords (run₂ .log .trace)))
+      (pairWordOf (alikeFrom (job .public) 0 (job .init) vs) (run₁ .stop) (run₂ .stop) (traceWords (run₁ .log .trace)) (traceWords (run₂ .log .trace)))
       (counts run₁) (counts run₂)
   answer-same = λ i. answers.Compared
-      (wordOf (alikeFrom (accepted-public (q .accepts) i) 0 (accepted-init (q .accepts) i) (second-words i)) (first-ran .stop i)
+      (pairWordOf (alikeFrom (accepted-public (q .accepts) i) 0 (accepted-init (q .accepts) i) (second-words i)) (first-ran .stop i)
       (second-ran .stop i) (observed-words job first-ran i) (observed-words (withState job vs) second-ran i))
       (counts-same first-ran i) (counts-same second-ran i)
 

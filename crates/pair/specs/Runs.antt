@@ -11,23 +11,23 @@ use Rattle.rules.specs.declared.PairAnswer.the-variants as answers
 use Rattle.rules.specs.Rules.JobFile.{locations, publicOf, wordsAt}
 use Rattle.rules.specs.Rules.Calls.{workingWords}
 use Rattle.rules.specs.Rules.Pairs.{alikeFrom}
-use Rattle.judgement.specs.Words.{wordOf}
+use Rattle.judgement.specs.Words.{pairWordOf}
 use Rattle.job.specs.Answers.{Accepts}
 use Rattle.stepping.specs.declared.Progress.{Progress}
 use Rattle.job_run.specs.JobRuns.{countsOf}
 
 -- The job was accepted, the second state has its size, and each trace area is as long as what was written there.
-pub record Judged (bs : List ℕ) (t : Trailer) (second : List ℕ) (c c′ : Progress) (a b : List ℕ) : Type 0 where
+pub record BothRan (bs : List ℕ) (t : Trailer) (second : List ℕ) (c c′ : Progress) (a b : List ℕ) : Type 0 where
   pub accepts : Accepts bs t
   pub sized : length second ≡ 8 * locations t
-  pub first : 2 * c .observations ≤ length a
-  pub other : 2 * c′ .observations ≤ length b
+  pub first-fits : 2 * c .observations ≤ length a
+  pub second-fits : 2 * c′ .observations ≤ length b
 
 -- the answer on two runs
 abbrev pub comparedOf : List ℕ → Trailer → List ℕ → Stop → Progress → Stop → Progress → List ℕ → List ℕ → PairAnswer
 comparedOf bs t second x c x′ c′ a b =
     answers.Compared
-    (wordOf (alikeFrom (publicOf t bs) 0 (wordsAt (locations t) bs (t .state)) (wordsAt (locations t) second 0)) x x′
+    (pairWordOf (alikeFrom (publicOf t bs) 0 (wordsAt (locations t) bs (t .state)) (wordsAt (locations t) second 0)) x x′
     (take (2 * c .observations) a) (take (2 * c′ .observations) b))
     (countsOf x c) (countsOf x′ c′)
 

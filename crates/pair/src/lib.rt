@@ -8,31 +8,37 @@ ghost use mathlib.Core.Path.{_≡_};
 ghost use Rattle.rules.specs.Rules.Pairs.{pairLent, pairCall};
 ghost use Rattle.rules.specs.Rules.Demands.{PairExact};
 ghost use Rattle.job.specs.Answers.{Accepts};
-ghost use Rattle.pair.specs.Runs.{Judged, comparedOf, Comparable};
+ghost use Rattle.pair.specs.Runs.{BothRan, comparedOf, Comparable};
 
 // The answer on two runs that have been made, by the traces that they have written.
-fn judge(
+fn compared(
     job: &[u8],
     t: Trailer,
     second: &[u8],
     r: Ran,
     s: Ran,
-    first: &[u64],
-    other: &[u64],
+    first_trace: &[u64],
+    second_trace: &[u64],
 ) -> PairAnswer
-    requires { ⌜ Judged (now job) t (now second) (r .progress) (s .progress) (now first) (now other) ⌝ }
-    ensures { λ x. ⌜ x ≡ comparedOf (now (job .entry)) t (now (second .entry)) (r .stop) (r .progress) (s .stop) (s .progress) (now (first .entry)) (now (other .entry)) ⌝ }
+    requires { ⌜ BothRan (now job) t (now second) (r .progress) (s .progress) (now «first_trace») (now «second_trace») ⌝ }
+    ensures { λ x. ⌜ x ≡ comparedOf (now (job .entry)) t (now (second .entry)) (r .stop) (r .progress) (s .stop) (s .progress) (now («first_trace» .entry)) (now («second_trace» .entry)) ⌝ }
 {
     let public = job::public_list(job, t);
     let n = t.locations();
     let alike = transfer::alike_bytes(public, job, t.state, second, n);
     let c = job_run::counts_of(r);
     let d = job_run::counts_of(s);
-    let stop = c.stop;
-    let stop_other = d.stop;
+    let first_stop = c.stop;
+    let second_stop = d.stop;
     let k = 2 * c.observations;
     let l = 2 * d.observations;
-    let word = judgement::pair_word(alike, stop, stop_other, &first[0..k], &other[0..l]);
+    let word = judgement::pair_word(
+        alike,
+        first_stop,
+        second_stop,
+        &first_trace[0..k],
+        &second_trace[0..l],
+    );
     PairAnswer::Compared(word, c, d)
 }
 
@@ -41,18 +47,18 @@ fn compare_runs(
     job: &[u8],
     t: Trailer,
     second: &[u8],
-    first: &mut [u64],
-    other: &mut [u64],
+    first_trace: &mut [u64],
+    second_trace: &mut [u64],
     work: &mut [u64],
 ) -> PairAnswer
-    requires { ⌜ Comparable (now job) t (now second) (now first) (now other) (now work) ⌝ }
-    ensures { λ r. ⌜ PairExact (pairCall (now (job .entry)) (now (second .entry)) (pairLent (now (first .entry)) (now (other .entry)) (now (work .entry)))) r (pairLent (now (first .exit)) (now (other .exit)) (now (work .exit))) ⌝ }
+    requires { ⌜ Comparable (now job) t (now second) (now «first_trace») (now «second_trace») (now work) ⌝ }
+    ensures { λ r. ⌜ PairExact (pairCall (now (job .entry)) (now (second .entry)) (pairLent (now («first_trace» .entry)) (now («second_trace» .entry)) (now (work .entry)))) r (pairLent (now («first_trace» .exit)) (now («second_trace» .exit)) (now (work .exit))) ⌝ }
 {
-    let mode = Mode::Mispredicting;
-    let r = job_run::run_state(job, t, mode, job, t.state, &mut work[..], &mut first[..]);
-    let s = job_run::run_state(job, t, mode, second, 0, &mut work[..], &mut other[..]);
+    let m = Mode::Mispredicting;
+    let r = job_run::run_state(job, t, m, job, t.state, &mut work[..], &mut first_trace[..]);
+    let s = job_run::run_state(job, t, m, second, 0, &mut work[..], &mut second_trace[..]);
     work::clear(&mut work[..]);
-    judge(job, t, second, r, s, &first[..], &other[..])
+    compared(job, t, second, r, s, &first_trace[..], &second_trace[..])
 }
 
 // The pair of an accepted job: too short or unequal areas and a second state of another size are refused before anything is written.
@@ -60,12 +66,12 @@ pub fn compare_accepted(
     job: &[u8],
     t: Trailer,
     second: &[u8],
-    first: &mut [u64],
-    other: &mut [u64],
+    first_trace: &mut [u64],
+    second_trace: &mut [u64],
     work: &mut [u64],
 ) -> PairAnswer
     requires { ⌜ Accepts (now job) t ⌝ }
-    ensures { λ r. ⌜ PairExact (pairCall (now (job .entry)) (now (second .entry)) (pairLent (now (first .entry)) (now (other .entry)) (now (work .entry)))) r (pairLent (now (first .exit)) (now (other .exit)) (now (work .exit))) ⌝ }
+    ensures { λ r. ⌜ PairExact (pairCall (now (job .entry)) (now (second .entry)) (pairLent (now («first_trace» .entry)) (now («second_trace» .entry)) (now (work .entry)))) r (pairLent (now («first_trace» .exit)) (now («second_trace» .exit)) (now (work .exit))) ⌝ }
 {
     let n = t.locations();
     if second.len() != 8 * n {
@@ -74,15 +80,15 @@ pub fn compare_accepted(
     if work.len() < work::WORDS {
         return PairAnswer::Refused(Refusal::Areas);
     }
-    if first.len() != other.len() {
+    if first_trace.len() != second_trace.len() {
         return PairAnswer::Refused(Refusal::Areas);
     }
     compare_runs(
         job,
         t,
         second,
-        &mut first[..],
-        &mut other[..],
+        &mut first_trace[..],
+        &mut second_trace[..],
         &mut work[..],
     )
 }

@@ -11,18 +11,18 @@ use lib.Seq.{take-append-seam, length-sets}
 use Rattle.rules.specs.declared.Trailer.{Trailer}
 use Rattle.rules.specs.declared.Refusal.{Refusal}
 use Rattle.rules.specs.declared.RunAnswer.{RunAnswer}
-use Rattle.rules.specs.Rules.Plain.{end}
+use Rattle.rules.specs.Rules.Plain.{endPlace}
 use Rattle.rules.specs.Rules.Runs.{Job, mispredictingRun}
 use Rattle.rules.specs.Rules.JobFile.{Parsed, accepted, rejected, parse, trailer}
 use Rattle.rules.specs.Rules.Calls.{Areas, Called, lent, room, workingWords, longEnough, written, areasAfter, runCall}
-use Rattle.rules.specs.Rules.Demands.{Exact}
+use Rattle.rules.specs.Rules.Demands.{observationCount, Exact}
 use Rattle.rules.specs.Rules.Listing.{printedRoom, listingOf, listing}
 use Rattle.rules.specs.Theorems.JobLaws.{passed, job-end, init-most}
 use Rattle.rules.specs.Theorems.CallLaws.{call-runs}
 use Rattle.job.specs.declared.JobRead.the-variants as job-read
 use Rattle.job.specs.Answers.{jobReadOf, read-accepted, read-refused}
 use Rattle.checker.specs.Reports.{run-rejected}
-use Rattle.listing.specs.Lines.{Put, observed, count, printed}
+use Rattle.listing.specs.Lines.{Put, observationsIn, printed}
 use Rattle.listing.specs.Areas.{put-next, put-fits}
 use Rattle.listing.specs.Traces.{printed-report, printed-refused}
 use Rattle.listing.specs.Lengths.{observed-length, answer-bound}
@@ -30,7 +30,7 @@ use Rattle.printer.specs.Printing.{instructionCount, traceAfter, Prints,
 
 -- ---- the number of instructions
 pub count-accepted : (bs : List ℕ) (t : Trailer) → job-read.Accepted t ≡ jobReadOf (trailer bs) (parse bs) → t .count ≡ instructionCount (parse bs)
-unfolding end
+unfolding endPlace
 count-accepted bs t e =
     let a = read-accepted bs t e in
     ap (λ (u : Trailer). u .count) (a .trailer) ∙ sym (job-end (passed bs (a .job) (a .parsed))) ∙ sym (ap instructionCount (a .parsed))
@@ -70,7 +70,7 @@ module _ (bs t e w : List ℕ) {a : RunAnswer} {t′ e′ w′ : List ℕ} (x : 
         let s = init-most (passed bs job p) in
         let l = enough job (lent t e w) hw (omega arith) in
         let q = call-runs (record { job = job; parsed = p; enough = l }) in
-        let m : n ≡ end (job .code) = k ∙ ap instructionCount p in
+        let m : n ≡ endPlace (job .code) = k ∙ ap instructionCount p in
         record { traced = trace-of q; lines = rw (answer-of q, trace-of q, ← m) (printed-report n job R t) }
 
     shown : Shown n (room t) (parse bs) a t t′
@@ -88,8 +88,8 @@ pub printed-bound : (n : ℕ) (a : RunAnswer) (trace : List ℕ) {out out′ : L
     → r ≤ 15 * length trace + 11372
 unfolding printed
 printed-bound n a trace p =
-    let os = observed (count (a .outcome)) trace in
-    omega (arith, put-next p, answer-bound n os a, observed-length (count (a .outcome)) trace)
+    let os = observationsIn (observationCount (a .outcome)) trace in
+    omega (arith, put-next p, answer-bound n os a, observed-length (observationCount (a .outcome)) trace)
 
 -- ---- the listing, with room for 512 observations
 pub listed : {bs t t′ out out′ : List ℕ} {r : ℕ} → room t ≡ printedRoom → Prints bs t t′ out out′ r → r ≤ length out → Listed bs out out′ r

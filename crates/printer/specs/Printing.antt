@@ -4,7 +4,7 @@ use mathlib.Core.Path.{_≡_}
 use mathlib.Core.List.{List}
 use Prim.Native.Nat.{ℕ, _≤_}
 use lib.ListN.{length, take}
-use Rattle.rules.specs.Rules.Plain.{end}
+use Rattle.rules.specs.Rules.Plain.{endPlace}
 use Rattle.rules.specs.Rules.Runs.{mispredictingRun}
 use Rattle.rules.specs.Rules.JobFile.{Parsed, accepted, rejected, parse}
 use Rattle.rules.specs.Rules.Calls.{traceWords, room, written}
@@ -14,7 +14,7 @@ use Rattle.listing.specs.Lines.{Put}
 -- the number of instructions of an accepted job
 abbrev pub instructionCount : Parsed → ℕ
 instructionCount (rejected r) = 0
-instructionCount (accepted job) = end (job .code)
+instructionCount (accepted job) = endPlace (job .code)
 
 -- the trace area after the run: "written observations stand from the front", all other words keep their contents
 unfoldable pub traceAfter : Parsed → List ℕ → List ℕ

@@ -10,7 +10,7 @@ use lib.Seq.{sets, sets-eq, length-take-le, getD-append-add}
 use Rattle.rules.specs.declared.Refusal.{Refusal}
 use Rattle.rules.specs.declared.Refusal.the-variants as refusals
 use Rattle.rules.specs.Rules.Instructions.{Instr, skip}
-use Rattle.rules.specs.Rules.JobFile.{Read, got, refused, andThen, instr, postfix, target, instruction, program}
+use Rattle.rules.specs.Rules.JobFile.{Read, got, refused, andThen, instr, postfix, branchLabelHolds, instruction, program}
 use Rattle.token.specs.Meaning.{valueOr}
 unfoldable pub use Rattle.token.specs.Meaning.{readable, nextOffset}
 
@@ -24,7 +24,7 @@ offsetsFrom (suc k) p at = at ∷ offsetsFrom k p (nextOffset (instr p at))
 pub record Stands (n i : ℕ) (p : List ℕ) (at : ℕ) (x : Instr) : Type 0 where
   pub read : instr p at ≡ got x (nextOffset (instr p at))
   pub sound : postfix x ≡ true
-  pub label : target n i x ≡ true
+  pub label : branchLabelHolds n i x ≡ true
 
 -- What `fetch` asks: the label is one of the program's, its entry of the table holds its offset, and the program was accepted.
 pub record Fetchable (p : List ℕ) (n : ℕ) (table : List ℕ) (base label : ℕ) : Type 0 where
@@ -57,21 +57,18 @@ entry-offset n p table base i h g =
 pub got-not-refused : {A P : Type 0} {a : A} {q : ℕ} {r : Refusal} → refused r ≡ got a q → P
 got-not-refused {A} {P} {a} {q} {r} e = absurd (let z : _≡_ {A = ℕ} 0 1 = cc in omega arith)
 
-pub got-same : {A : Type 0} {a b : A} {q r : ℕ} → got a q ≡ got b r → a ≡ b
-got-same e = cc
-
 pub instruction-got : (n i : ℕ) (p : List ℕ) (at : ℕ) (x : Instr) (q : ℕ) → instruction n i p at ≡ got x q
     → Stands n i p at x × (q ≡ nextOffset (instr p at))
 unfolding instruction nextOffset
 instruction-got n i p at x q e = first (instr p at) refl e
   where
     branchTest : Instr → ℕ → Read Instr
-    branchTest y q′ = cond (target n i y) (got y q′) (refused refusals.BranchLabel)
+    branchTest y q′ = cond (branchLabelHolds n i y) (got y q′) (refused refusals.BranchLabel)
 
     tests : Instr → ℕ → Read Instr
     tests y q′ = andThen (cond (postfix y) (got y q′) (refused refusals.Postfix)) branchTest
 
-    second : (y : Instr) (q′ : ℕ) (a b : Bool) → postfix y ≡ a → target n i y ≡ b → instr p at ≡ got y q′
+    second : (y : Instr) (q′ : ℕ) (a b : Bool) → postfix y ≡ a → branchLabelHolds n i y ≡ b → instr p at ≡ got y q′
         → andThen (cond a (got y q′) (refused refusals.Postfix)) branchTest ≡ got x q → Stands n i p at x × (q ≡ nextOffset (instr p at))
     second y q′ false b ea eb r e = got-not-refused e
     second y q′ true false ea eb r e = got-not-refused (rw eb at e)
@@ -82,7 +79,7 @@ instruction-got n i p at x q e = first (instr p at) refl e
         (record { read = rw r (ap (λ (z : Instr). got z q′) fx); sound = rw fx at ea; label = rw fx at eb }, rw r (sym fq))
 
     first : (R : Read Instr) → instr p at ≡ R → andThen R tests ≡ got x q → Stands n i p at x × (q ≡ nextOffset (instr p at))
-    first (got y q′) r e = second y q′ (postfix y) (target n i y) refl refl r e
+    first (got y q′) r e = second y q′ (postfix y) (branchLabelHolds n i y) refl refl r e
     first (refused r′) r e = got-not-refused e
 
 -- each of k instructions, the first with label i, stands at its offset

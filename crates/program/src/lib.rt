@@ -9,7 +9,7 @@ ghost use Prim.Native.Nat.{ℕ, _+_, _<_, _≤_};
 ghost use lib.ListN.{length, getD};
 ghost use lib.Seq.{sets};
 ghost use Rattle.rules.specs.Rules.Instructions.{skip};
-ghost use Rattle.rules.specs.Rules.JobFile.{instr, target, instruction, program};
+ghost use Rattle.rules.specs.Rules.JobFile.{instr, branchLabelHolds, instruction, program};
 ghost use Rattle.token.specs.Meaning.{valueOr};
 ghost use Rattle.instruction.specs.Meaning.{meaning};
 ghost use Rattle.program.specs.Checks.{checkedOf};
@@ -18,7 +18,7 @@ ghost use Rattle.program.specs.Offsets.{nextOffset, offsetsFrom, Fetchab
 // Whether the branch label, if it has one, of the instruction with a label is allowed: at most n, and not the next label.
 fn branch_label_holds(i: Instruction, n: usize, label: usize) -> bool
     requires { ⌜ label < n ⌝ }
-    ensures { λ r. ⌜ ((p : List ℕ) → r ≡ target n label (meaning p i)) ⌝ }
+    ensures { λ r. ⌜ ((p : List ℕ) → r ≡ branchLabelHolds n label (meaning p i)) ⌝ }
 {
     match i {
         Instruction::Skip => true,

@@ -4,7 +4,6 @@ pub mod RunLaws
 pub mod StepLaws
 pub mod PlainRun
 pub mod Undo
-pub mod Bounds
 pub mod Sizes
 pub mod Alike
 pub mod AlikeSteps

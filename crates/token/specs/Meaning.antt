@@ -57,6 +57,6 @@ expressionReadMeaning p (expression-read.Found e q b) = got (tokensOf p e) q
 expressionReadMeaning p (expression-read.Refused r) = refused r
 
 -- an expression that was found comes with its answer to the postfix rule
-abbrev pub Judged : List ℕ → ExpressionRead → Type 0
-Judged p (expression-read.Found e q b) = b ≡ sound (tokensOf p e)
-Judged p (expression-read.Refused r) = Unit {0}
+abbrev pub ExpressionTested : List ℕ → ExpressionRead → Type 0
+ExpressionTested p (expression-read.Found e q b) = b ≡ sound (tokensOf p e)
+ExpressionTested p (expression-read.Refused r) = Unit {0}

@@ -9,7 +9,7 @@ use lib.Dec.{leb, ltb}
 use lib.ListN.{length, getD}
 use borrow.Author.Tests.{leb-true, ltb-true}
 use Rattle.rules.specs.declared.Refusal.the-variants as refusals
-use Rattle.rules.specs.Rules.JobFile.{Read, got, refused, andThen, refuse, little, wordOf, byte, register, tokens, expr}
+use Rattle.rules.specs.Rules.JobFile.{Read, got, refused, andThen, refuse, little, wordOf, byte, tokens, expr}
 use Rattle.token.specs.Bytes.{byte-got}
 use Rattle.token.specs.Meaning.{readable, nextOffset, valueOr}
 

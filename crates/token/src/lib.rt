@@ -7,7 +7,7 @@ ghost use Prim.Native.Nat.{_+_, _*_, _^_, _<_, _≤_};
 ghost use lib.ListN.{length};
 ghost use Rattle.rules.specs.Rules.Expressions.{takes, after};
 ghost use Rattle.rules.specs.Rules.JobFile.{little, token, tokens, expr};
-ghost use Rattle.token.specs.Meaning.{tokenMeaning, tokenReadMeaning, scanOf, readable, nextOffset, expressionReadMeaning, Judged};
+ghost use Rattle.token.specs.Meaning.{tokenMeaning, tokenReadMeaning, scanOf, readable, nextOffset, expressionReadMeaning, ExpressionTested};
 
 fn wide(b: u8) -> u64
     ensures { λ r. ⌜ (r ≡ b) × (r < 256) ⌝ }
@@ -142,7 +142,7 @@ pub enum ExpressionRead {
 
 // The expression at an offset: its tokens are read once, for their extent and for the postfix rule.
 pub fn read_expression(p: &[u8], at: usize) -> ExpressionRead
-    ensures { λ r. ⌜ (expressionReadMeaning (now (p .entry)) r ≡ expr (now (p .entry)) at) × Judged (now (p .entry)) r ⌝ }
+    ensures { λ r. ⌜ (expressionReadMeaning (now (p .entry)) r ≡ expr (now (p .entry)) at) × ExpressionTested (now (p .entry)) r ⌝ }
 {
     if p.len() <= at {
         return ExpressionRead::Refused(Refusal::Encoding);

@@ -1,10 +1,10 @@
 -- How each loop goes on from one word or observation to the next, and what is left when it is done.
 -- Assumes nothing.
-use mathlib.Core.Path.{_≡_, refl, sym, ap, ap₂, _∙_}
+use mathlib.Core.Path.{_≡_, refl, ap, _∙_}
 use mathlib.Core.Bool.{Bool, true, false, _&&_, cond}
 use mathlib.Core.List.{List, [], _∷_}
 use Prim.{⊥}
-use Prim.Native.Nat.{ℕ, zero, suc, _+_, _-_, _*_, _/_, _<_, _≤_}
+use Prim.Native.Nat.{ℕ, suc, _+_, _*_, _/_, _<_, _≤_}
 use native.Mathlib.Nat.{le-refl}
 use native.Mathlib.Numerals.{add-one}
 use native.Mathlib.Omega.{arith}
@@ -13,7 +13,7 @@ use lib.Dec.{eqb, leb}
 use lib.ListN.{length, getD, drop, length-drop, drop-of-length-le}
 use lib.Seq.{drop-cons}
 use Rattle.rules.specs.Rules.Pairs.{sameWords}
-use Rattle.trace.specs.Struck.{struckWords, struckTo, from, Closed, Outside}
+use Rattle.trace.specs.Struck.{struckWords, struckTo, from, Outside}
 
 -- ---- two lists of words compared
 pub same-step : (a b : List ℕ) (i : ℕ) → i < length a → i < length b

@@ -1,20 +1,20 @@
 -- How each loop goes on from one location or word to the next, and what the words are when it is done.
 -- Assumes nothing.
 use mathlib.Core.Path.{_≡_, refl, sym, ap, _∙_}
-use mathlib.Core.Bool.{Bool, true, false, not, _&&_, _||_}
+use mathlib.Core.Bool.{Bool, not, _&&_, _||_}
 use mathlib.Core.List.{List, [], _∷_, _++_, append-nil, append-assoc}
-use Prim.Native.Nat.{ℕ, zero, suc, zero-le, _+_, _-_, _*_, _/_, _%_, _^_, _<_, _≤_}
-use native.Mathlib.Nat.{add-zero, zero-add, le-refl}
+use Prim.Native.Nat.{ℕ, suc, zero-le, _+_, _-_, _*_, _/_, _%_, _^_, _<_, _≤_}
+use native.Mathlib.Nat.{zero-add}
 use native.Mathlib.Numerals.{add-one}
 use native.Mathlib.Omega.{arith}
 use lib.Dec.{eqb}
 use lib.ListN.{length, getD, take, drop, set, replicate, length-set, length-replicate}
-use lib.Seq.{sets, length-sets, sets-eq, drop-cons, getD-set-same, getD-set-other, take-set-le}
+use lib.Seq.{sets, length-sets, sets-eq, take-set-le}
 use Rattle.location.specs.declared.LocationSet.{LocationSet}
 use Rattle.location.specs.Sets.{none, only, single, member}
 use Rattle.rules.specs.Rules.Expressions.{tagged}
 use Rattle.rules.specs.Rules.Plain.{State, ownFrom, values}
-use Rattle.rules.specs.Rules.JobFile.{little, wordsAt, instr}
+use Rattle.rules.specs.Rules.JobFile.{little, wordsAt}
 use Rattle.rules.specs.Rules.Calls.{written}
 use Rattle.rules.specs.Rules.Pairs.{alikeFrom}
 use Rattle.program.specs.Offsets.{offsetsFrom, length-offsetsFrom, entry-offset}

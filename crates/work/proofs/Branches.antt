@@ -14,7 +14,7 @@ use Rattle.rules.specs.Theorems.Undo.{Change}
 use Rattle.work.specs.declared.BranchEntry.{BranchEntry}
 use Rattle.work.specs.Layout.{changeBase, branchBase, firstBranch}
 use Rattle.work.specs.Words.{changeAt, changed, entryAt, entryStored}
-use Rattle.work.specs.Machines.{stateIn, lastChanges, restored, savedAt, branchesOf, maxWindow, Held}
+use Rattle.work.specs.Machines.{stateIn, lastChanges, restored, savedAt, branchesOf, maxWindow, WindowBound}
 use Rattle.work.specs.Moves.{lowerTo}
 use Rattle.work.proofs.Laws.{length-changed}
 use Rattle.work.proofs.Ranges.{same-before, same-after, change-same, entry-same, entry-stored, withWindow, entry-window}
@@ -22,7 +22,7 @@ use Rattle.work.proofs.States.{state-before, changes-agree, changed-bef
 
 -- ---- branches with the same entries, and with the same changes below the log's length, are the same
 pub branches-agree : (e e′ : ℕ → BranchEntry) (g g′ : ℕ → Change) (σ : State) (k d : ℕ) → ((j : ℕ) → j < d → e j ≡ e′ j)
-    → ((j : ℕ) → j < k → g j ≡ g′ j) → Held e d k → branchesOf e g σ k d ≡ branchesOf e′ g′ σ k d
+    → ((j : ℕ) → j < k → g j ≡ g′ j) → WindowBound e d k → branchesOf e g σ k d ≡ branchesOf e′ g′ σ k d
 branches-agree e e′ g g′ σ k zero he hg h = refl
 branches-agree e e′ g g′ σ k (suc d) he hg h =
     let m = e d .mark in
@@ -34,12 +34,12 @@ branches-agree e e′ g g′ σ k (suc d) he hg h =
     let R′ = R ∙ (λ t. branchesOf e′ g′ (S t) (E t .mark) d) in
     λ t. record { id = E t .id; saved = S t; target = E t .target; window = E t .window } ∷ R′ t
 
-pub held-agree : (e e′ : ℕ → BranchEntry) (k d : ℕ) → ((j : ℕ) → j < d → e j ≡ e′ j) → Held e d k → Held e′ d k
-held-agree e e′ k zero he h = h
-held-agree e e′ k (suc d) he h =
+pub bound-agree : (e e′ : ℕ → BranchEntry) (k d : ℕ) → ((j : ℕ) → j < d → e j ≡ e′ j) → WindowBound e d k → WindowBound e′ d k
+bound-agree e e′ k zero he h = h
+bound-agree e e′ k (suc d) he h =
     let E = he d (le-refl (suc d)) in
-    let h′ = subst (λ (b : BranchEntry). (b .mark ≤ k) × (k + d + b .window ≤ maxWindow) × Held e d (b .mark)) E h in
-    (h′ .0, h′ .1, held-agree e e′ (e′ d .mark) d (λ j i. he j (omega arith)) (h′ .2))
+    let h′ = subst (λ (b : BranchEntry). (b .mark ≤ k) × (k + d + b .window ≤ maxWindow) × WindowBound e d (b .mark)) E h in
+    (h′ .0, h′ .1, bound-agree e e′ (e′ d .mark) d (λ j i. he j (omega arith)) (h′ .2))
 
 -- ---- Words w₁ that have the branches of w up to number d, the k changes of w and perhaps more: undoing these too gives what w
 -- saved.
@@ -67,7 +67,7 @@ extends-changed w n k d l v r hn hl e a =
 
 -- ---- there the window of branch number d, the top one, is lowered
 module _ (w w₁ : List ℕ) (n k k₁ d v : ℕ) (x : Extends w w₁ n k k₁ d) (hn : n ≤ limit) (apart : 6 * k₁ + 4 * d ≤ firstBranch)
-    (h : Held (entryAt w) (suc d) k) where
+    (h : WindowBound (entryAt w) (suc d) k) where
   abbrev w₂ : List ℕ
   w₂ = set w₁ (branchBase d + 2) v
 
@@ -111,16 +111,16 @@ module _ (w w₁ : List ℕ) (n k k₁ d v : ℕ) (x : Extends w w₁ n k k₁ d
       let R = (λ t. branchesOf (entryAt w₂) (changeAt w₂) (saved₂ t) (top t .mark) d) ∙ rest in
       λ t. record { id = top t .id; saved = saved₂ t; target = top t .target; window = top t .window } ∷ R t
 
-  pub lowered-held : k₁ + d + v ≤ maxWindow → Held (entryAt w₂) (suc d) k₁
-  lowered-held b =
+  pub lowered-bound : k₁ + d + v ≤ maxWindow → WindowBound (entryAt w₂) (suc d) k₁
+  lowered-bound b =
       let l = h .0 in
       let l₁ : m ≤ k₁ = omega (arith, x .more) in
-      let H = held-agree (entryAt w) (entryAt w₂) m d below (h .2) in
-      subst (λ (y : BranchEntry). (y .mark ≤ k₁) × (k₁ + d + y .window ≤ maxWindow) × Held (entryAt w₂) d (y .mark)) (sym top) (l₁, b, H)
+      let H = bound-agree (entryAt w) (entryAt w₂) m d below (h .2) in
+      subst (λ (y : BranchEntry). (y .mark ≤ k₁) × (k₁ + d + y .window ≤ maxWindow) × WindowBound (entryAt w₂) d (y .mark)) (sym top) (l₁, b, H)
 
 -- ---- an entry pushed as branch number d, with the log's length as its mark
 module _ (w : List ℕ) (n k d : ℕ) (b : BranchEntry) (hn : n ≤ limit) (room : workingWords ≤ length w) (apart : 6 * k + 4 * d ≤ firstBranch)
-    (mark : b .mark ≡ k) (h : Held (entryAt w) d k) where
+    (mark : b .mark ≡ k) (h : WindowBound (entryAt w) d k) where
   abbrev w₃ : List ℕ
   w₃ = entryStored w d b
 
@@ -156,8 +156,8 @@ module _ (w : List ℕ) (n k d : ℕ) (b : BranchEntry) (hn : n ≤ limit) (room
       let R = (λ t. branchesOf (entryAt w₃) (changeAt w₃) (saved₃ t) (mark₃ t) d) ∙ sym A in
       λ t. record { id = new t .id; saved = saved₃ t; target = new t .target; window = new t .window } ∷ R t
 
-  pub pushed-held : k + d + b .window ≤ maxWindow → Held (entryAt w₃) (suc d) k
-  pushed-held l =
+  pub pushed-bound : k + d + b .window ≤ maxWindow → WindowBound (entryAt w₃) (suc d) k
+  pushed-bound l =
       let m : b .mark ≤ k = omega arith in
-      let H = subst (Held (entryAt w₃) d) (sym mark) (held-agree (entryAt w) (entryAt w₃) k d old h) in
-      subst (λ (x : BranchEntry). (x .mark ≤ k) × (k + d + x .window ≤ maxWindow) × Held (entryAt w₃) d (x .mark)) (sym new) (m, l, H)
+      let H = subst (WindowBound (entryAt w₃) d) (sym mark) (bound-agree (entryAt w) (entryAt w₃) k d old h) in
+      subst (λ (x : BranchEntry). (x .mark ≤ k) × (k + d + x .window ≤ maxWindow) × WindowBound (entryAt w₃) d (x .mark)) (sym new) (m, l, H)

@@ -18,19 +18,19 @@ use Rattle.work.specs.declared.machine.Control.{Control}
 use Rattle.work.specs.declared.machine.RolledBack.{RolledBack}
 use Rattle.work.specs.Layout.{operandBase, changeBase, branchBase, labels, logBase, firstBranch}
 use Rattle.work.specs.Words.{taggedAt, stored, changeAt, changed, undone, entryAt, entryStored, windowIn, loweredIn, windowAfter, taggedWords}
-use Rattle.work.specs.Machines.{stateIn, savedAt, branchesOf, machineOf, maxWindow, Held, Fit}
+use Rattle.work.specs.Machines.{stateIn, savedAt, branchesOf, machineOf, maxWindow, WindowBound, Fit}
 use Rattle.work.specs.Moves.{lowerTo, windowOn, ordinaryNext, openingNext, Moves, RollsBack}
 use Rattle.work.proofs.Ranges.{drop-sets, drop-past, log-same, entries-same}
 use Rattle.work.proofs.States.{state-stored, drop-undone, length-undone, state-undone, changed-state}
-use Rattle.work.proofs.Branches.{Extends, extends-self, extends-changed, lowered-state, lowered-branches, lowered-held, pushed-state, pushed-branches, pushed-held}
+use Rattle.work.proofs.Branches.{Extends, extends-self, extends-changed, lowered-state, lowered-branches, lowered-bound, pushed-state, pushed-branches, pushed-bound}
 
-held-bound : (e : ℕ → BranchEntry) (d k : ℕ) → Held e d k → k + d ≤ maxWindow + 1
-held-bound e zero k h = omega arith
-held-bound e (suc d) k h = let b = h .1 in omega arith
+together-bound : (e : ℕ → BranchEntry) (d k : ℕ) → WindowBound e d k → k + d ≤ maxWindow + 1
+together-bound e zero k h = omega arith
+together-bound e (suc d) k h = let b = h .1 in omega arith
 
 -- how many changes and branches there are together
 pub fit-bound : {w : List ℕ} {c : Control} → Fit w c → c .log + c .depth ≤ maxWindow + 1
-fit-bound {w} {c} f = held-bound (entryAt w) (c .depth) (c .log) (f .held)
+fit-bound {w} {c} f = together-bound (entryAt w) (c .depth) (c .log) (f .bound)
 
 -- the same move, to words that are equal
 pub moved-to : {w u u′ : List ℕ} {c c′ : Control} {next : Machine → Machine} → u′ ≡ u → Moves w u c c′ next → Moves w u′ c c′ next
@@ -53,9 +53,9 @@ after-above (suc d) u v h = refl
 pub go-law : (w : List ℕ) (p₀ d k o p v : ℕ) → Fit w (record { place = p₀; depth = d; log = k; opened = o }) → (0 < d → v ≤ windowIn w d)
     → Moves w (loweredIn w d v) (record { place = p₀; depth = d; log = k; opened = o }) (record { place = p; depth = d; log = k; opened = o })
     (λ M. ordinaryNext M (M .state) p v)
-go-law w p₀ zero k o p v f b = record { machine = λ n hn. refl; fits = record { room = f .room; held = f .held }; frame = refl }
+go-law w p₀ zero k o p v f b = record { machine = λ n hn. refl; fits = record { room = f .room; bound = f .bound }; frame = refl }
 go-law w p₀ (suc d) k o p v f b =
-    let h = f .held in
+    let h = f .bound in
     let h₁ = h .1 in
     let l = b (omega arith) in
     let a : 6 * k + 4 * d ≤ firstBranch = omega arith in
@@ -66,7 +66,7 @@ go-law w p₀ (suc d) k o p v f b =
           λ t. record { state = S t; place = p; branches = B t; opened = o };
       fits = record {
         room = rw (length-set w (branchBase d + 2) v) (f .room);
-        held = lowered-held w w 0 k k d v (extends-self w 0 k d (f .room)) (omega arith) a h (omega arith);
+        bound = lowered-bound w w 0 k k d v (extends-self w 0 k d (f .room)) (omega arith) a h (omega arith);
       };
       frame = drop-sets (v ∷ []) w (branchBase d + 2) labels (omega arith);
     }
@@ -88,13 +88,13 @@ module _ (w : List ℕ) (c : Control) (l p v : ℕ) (x : Tagged) (f : Fit w c) (
       → Moves w (stored w l x) c (record { place = p; depth = c .depth; log = k; opened = c .opened }) (λ M. ordinaryNext M (put (M .state) l x) p v)
   assign-plain z =
       let w₁ = stored w l x in
-      let h = subst (λ (d : ℕ). Held (entryAt w) d k) z (f .held) in
+      let h = subst (λ (d : ℕ). WindowBound (entryAt w) d k) z (f .bound) in
       record {
         machine = λ n hn.
             let S = state-stored w n l x e (omega (arith, f .room)) in
             let B = subst (Lowered w₁ k n) (sym z) refl in
             λ t. record { state = S t; place = p; branches = B t; opened = c .opened };
-        fits = record { room = rw (length-sets w (operandBase l) xs) (f .room); held = subst (λ (d : ℕ). Held (entryAt w₁) d k) (sym z) h };
+        fits = record { room = rw (length-sets w (operandBase l) xs) (f .room); bound = subst (λ (d : ℕ). WindowBound (entryAt w₁) d k) (sym z) h };
         frame = drop-sets xs w (operandBase l) labels (omega (arith, e));
       }
 
@@ -109,12 +109,12 @@ module _ (w : List ℕ) (c : Control) (l p v : ℕ) (x : Tagged) (f : Fit w c) (
       let w₁ = changed w k l x in
       let w₂ = set w₁ (branchBase d + 2) v in
       let ls = l ∷ taggedWords (taggedAt w l) in
-      let h : Held (entryAt w) (suc d) k = subst (λ (j : ℕ). Held (entryAt w) j k) s (f .held) in
+      let h : WindowBound (entryAt w) (suc d) k = subst (λ (j : ℕ). WindowBound (entryAt w) j k) s (f .bound) in
       let h₁ = h .1 in
       let a : 6 * (k + 1) + 4 * d ≤ firstBranch = omega arith in
       let X : (n : ℕ) → n ≤ limit → Extends w w₁ n k (k + 1) d = λ n hn. extends-changed w n k d l x (f .room) hn hl e (omega arith) in
       let X₀ = X 0 (omega arith) in
-      let H = lowered-held w w₁ 0 k (k + 1) d v X₀ (omega arith) a h (omega arith) in
+      let H = lowered-bound w w₁ 0 k (k + 1) d v X₀ (omega arith) a h (omega arith) in
       moved-to {u = w₂} (sym (lowered-above w₁ (c .depth) v o))
       (record {
         machine = λ n hn.
@@ -124,7 +124,7 @@ module _ (w : List ℕ) (c : Control) (l p v : ℕ) (x : Tagged) (f : Fit w c) (
             λ t. record { state = S t; place = p; branches = B t; opened = c .opened };
         fits = record {
           room = rw (length-set w₁ (branchBase d + 2) v) (X₀ .room);
-          held = subst (λ (j : ℕ). Held (entryAt w₂) j (k + 1)) (sym s) H;
+          bound = subst (λ (j : ℕ). WindowBound (entryAt w₂) j (k + 1)) (sym s) H;
         };
         frame =
             drop-sets (v ∷ []) w₁ (branchBase d + 2) labels (omega arith)
@@ -137,14 +137,14 @@ new-window : (e : ℕ → BranchEntry) (g : ℕ → Change) (σ : State) (k d u 
 new-window e g σ k zero u v = refl
 new-window e g σ k (suc d) u v = refl
 
-new-bound : (w : List ℕ) (d k u v : ℕ) → Held (entryAt w) d k → (0 < d → v < windowIn w d) → u ≤ maxWindow
+new-bound : (w : List ℕ) (d k u v : ℕ) → WindowBound (entryAt w) d k → (0 < d → v < windowIn w d) → u ≤ maxWindow
     → k + d + windowAfter d u v ≤ maxWindow
 new-bound w zero k u v h b a = omega arith
 new-bound w (suc d) k u v h b a = let x = h .1 in let y = b (omega arith) in omega arith
 
 module _ (w : List ℕ) (c : Control) (p t u v : ℕ) (f : Fit w c) (b : 0 < c .depth → v < windowIn w (c .depth)) (a : u ≤ maxWindow) where
   pub open-bound : c .log + c .depth + windowAfter (c .depth) u v ≤ maxWindow
-  open-bound = new-bound w (c .depth) (c .log) u v (f .held) b a
+  open-bound = new-bound w (c .depth) (c .log) u v (f .bound) b a
 
   abbrev new : BranchEntry
   new = record { id = c .opened; target = t; window = windowAfter (c .depth) u v; mark = c .log }
@@ -162,9 +162,9 @@ module _ (w : List ℕ) (c : Control) (p t u v : ℕ) (f : Fit w c) (b : 0 < c .
       let ns = c .opened ∷ t ∷ windowAfter d u v ∷ k ∷ [] in
       let G = go-law w (c .place) d k (c .opened) p v f (λ h. let l = b h in omega arith) in
       let r = G .fits .room in
-      let h = G .fits .held in
+      let h = G .fits .bound in
       let i : 6 * k + 4 * d ≤ firstBranch = omega (arith, open-bound) in
-      let H = pushed-held w₁ 0 k d new (omega arith) r i refl h open-bound in
+      let H = pushed-bound w₁ 0 k d new (omega arith) r i refl h open-bound in
       record {
         machine = λ n hn.
             let M = G .machine n hn in
@@ -176,7 +176,7 @@ module _ (w : List ℕ) (c : Control) (p t u v : ℕ) (f : Fit w c) (b : 0 < c .
             λ j. record { state = S j; place = p; branches = B j; opened = add-one (c .opened) j };
         fits = record {
           room = rw (length-sets w₁ (branchBase d) ns) r;
-          held = subst (λ (j : ℕ). Held (entryAt w₂) j k) (sym (add-one d)) H;
+          bound = subst (λ (j : ℕ). WindowBound (entryAt w₂) j k) (sym (add-one d)) H;
         };
         frame = drop-sets ns w₁ (branchBase d) labels (omega arith) ∙ G .frame;
       }
@@ -192,9 +192,9 @@ pub open-branches : (e : ℕ → BranchEntry) (g : ℕ → Change) (σ : State) 
 open-branches e g σ k zero h = absurd (omega arith)
 open-branches e g σ k (suc d) h = let s : suc d - 1 ≡ d = omega arith in rw s
 
-held-rest : (e : ℕ → BranchEntry) (d k : ℕ) → 0 < d → Held e d k → Held e (d - 1) (e (d - 1) .mark)
-held-rest e zero k h t = absurd (omega arith)
-held-rest e (suc d) k h t = let s : suc d - 1 ≡ d = omega arith in rw s (t .2)
+rest-bound : (e : ℕ → BranchEntry) (d k : ℕ) → 0 < d → WindowBound e d k → WindowBound e (d - 1) (e (d - 1) .mark)
+rest-bound e zero k h t = absurd (omega arith)
+rest-bound e (suc d) k h t = let s : suc d - 1 ≡ d = omega arith in rw s (t .2)
 
 heads : {x y : Branch} {xs ys : List Branch} → x ∷ xs ≡ y ∷ ys → x ≡ y
 heads e = cc
@@ -250,7 +250,7 @@ module _ (w w₁ : List ℕ) (c : Control) (y : BranchEntry) (f : Fit w c) (h : 
 
   pub roll-law : RollsBack w w₁ c after
   roll-law =
-      let T = held-rest (entryAt w) (c .depth) (c .log) h (f .held) in
+      let T = rest-bound (entryAt w) (c .depth) (c .log) h (f .bound) in
       let E = entries-same w w₁ (sym past) in
       record {
         machine = rolled;
@@ -258,7 +258,7 @@ module _ (w w₁ : List ℕ) (c : Control) (y : BranchEntry) (f : Fit w c) (h : 
         target = target-is;
         fits = record {
           room = rw (ew, length-undone w (c .log) (c .log - y .mark)) (f .room);
-          held = subst₂ (λ (e : ℕ → BranchEntry) (b : BranchEntry). Held e (c .depth - 1) (b .mark)) E (sym ey) T;
+          bound = subst₂ (λ (e : ℕ → BranchEntry) (b : BranchEntry). WindowBound e (c .depth - 1) (b .mark)) E (sym ey) T;
         };
         frame = drop-past w₁ w logBase labels (omega arith) past;
       }

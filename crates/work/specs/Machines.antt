@@ -58,11 +58,11 @@ maxWindow = 200
 -- Of d open branches and a log of k changes: the marks rise with the branches, and with nothing open the log is empty. A change
 -- or a branch costs the top at least 1 of its window, so that there are at most 200 changes and 201 branches, and changes and
 -- branches are at most 201 together.
-abbrev pub Held : (ℕ → BranchEntry) → ℕ → ℕ → Type 0
-Held e zero k = k ≡ 0
-Held e (suc d) k = (e d .mark ≤ k) × (k + d + e d .window ≤ maxWindow) × Held e d (e d .mark)
+abbrev pub WindowBound : (ℕ → BranchEntry) → ℕ → ℕ → Type 0
+WindowBound e zero k = k ≡ 0
+WindowBound e (suc d) k = (e d .mark ≤ k) × (k + d + e d .window ≤ maxWindow) × WindowBound e d (e d .mark)
 
 -- the working area is long enough, and the log and the branches do not meet
 pub record Fit (w : List ℕ) (c : Control) : Type 0 where
   pub room : workingWords ≤ length w
-  pub held : Held (entryAt w) (c .depth) (c .log)
+  pub bound : WindowBound (entryAt w) (c .depth) (c .log)

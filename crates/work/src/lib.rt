@@ -8,7 +8,7 @@ use rules::Tagged;
 ghost use mathlib.Core.Path.{_≡_};
 ghost use Prim.Native.Nat.{_+_, _-_, _*_, _<_, _≤_};
 ghost use mathlib.Core.List.{_∷_};
-ghost use lib.ListN.{length, getD, set, replicate};
+ghost use lib.ListN.{length, set, replicate};
 ghost use lib.Seq.{sets};
 ghost use Rattle.rules.specs.Rules.Calls.{written, workingWords};
 ghost use Rattle.work.specs.Layout.{operandBase, changeBase, firstBranch, branchBase};

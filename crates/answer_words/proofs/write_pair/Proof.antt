@@ -3,10 +3,6 @@ use Rattle.answer_words.proofs.Laws.{pair-written}
 use borrow.Author.Needs.{needs}
 use Rattle.answer_words.proofs.write_pair.Statement.{statement}
 use Rattle.answer_words.proofs.write_pair.Tie as tie
-use Rattle.answer_words.proofs.write_pair.Reads as reads
-use Rattle.answer_words.proofs.write_pair.Lts as lts
-use Rattle.answer_words.proofs.pair_number.Reads as pair-number-reads
-use Rattle.answer_words.proofs.stop_number.Reads as stop-number-reads
 
 pair-number-requires : tie.Need-pair-number-requires
 pair-number-requires c κs = search needs

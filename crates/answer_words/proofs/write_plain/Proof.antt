@@ -3,9 +3,6 @@ use Rattle.answer_words.proofs.Laws.{plain-written}
 use borrow.Author.Needs.{needs}
 use Rattle.answer_words.proofs.write_plain.Statement.{statement}
 use Rattle.answer_words.proofs.write_plain.Tie as tie
-use Rattle.answer_words.proofs.write_plain.Reads as reads
-use Rattle.answer_words.proofs.write_plain.Lts as lts
-use Rattle.answer_words.proofs.stop_number.Reads as stop-number-reads
 
 stop-number-requires : tie.Need-stop-number-requires
 stop-number-requires c κs = search needs

@@ -3,10 +3,6 @@ use Rattle.answer_words.proofs.Laws.{run-written}
 use borrow.Author.Needs.{needs}
 use Rattle.answer_words.proofs.write_run.Statement.{statement}
 use Rattle.answer_words.proofs.write_run.Tie as tie
-use Rattle.answer_words.proofs.write_run.Reads as reads
-use Rattle.answer_words.proofs.write_run.Lts as lts
-use Rattle.answer_words.proofs.stop_number.Reads as stop-number-reads
-use Rattle.answer_words.proofs.verdict_number.Reads as verdict-number-reads
 
 stop-number-requires : tie.Need-stop-number-requires
 stop-number-requires c κs = search needs

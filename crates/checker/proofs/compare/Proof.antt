@@ -8,10 +8,6 @@ use Rattle.checker.proofs.Laws.{pair-rejected, pair-unaltered-by, pair-
 use borrow.Author.Needs.{needs}
 use Rattle.checker.proofs.compare.Statement.{statement}
 use Rattle.checker.proofs.compare.Tie as tie
-use Rattle.checker.proofs.compare.Reads as reads
-use Rattle.checker.proofs.compare.Lts as lts
-use Rattle.job.proofs.read_job.Reads as read-job-reads
-use Rattle.pair.proofs.compare_accepted.Reads as compare-accepted-reads
 
 read-job-requires : tie.Need-read-job-requires
 read-job-requires c κs = search needs

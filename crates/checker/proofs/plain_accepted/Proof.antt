@@ -1,18 +1,11 @@
 -- `plain_accepted` meets its contract: too short an area is refused before anything is written, else the run is made. Assumes nothing.
-use mathlib.Core.Path.{sym, _∙_}
 use native.Mathlib.Omega.{arith}
 use borrow.Author.Tests.{not-true, not-false}
-use Rattle.job_run.specs.Accepted.{accepted-limits, accepted-length}
+use Rattle.job_run.specs.Accepted.{accepted-limits}
 use Rattle.checker.proofs.Laws.{plain-short-areas, areas-fit, plain-ran}
 use borrow.Author.Needs.{needs}
 use Rattle.checker.proofs.plain_accepted.Statement.{statement}
 use Rattle.checker.proofs.plain_accepted.Tie as tie
-use Rattle.checker.proofs.plain_accepted.Reads as reads
-use Rattle.checker.proofs.plain_accepted.Lts as lts
-use Rattle.checker.proofs.plain_refused.Reads as plain-refused-reads
-use Rattle.checker.proofs.plain_report.Reads as plain-report-reads
-use Rattle.job_run.proofs.areas_fit.Reads as areas-fit-reads
-use Rattle.job_run.proofs.run_in_areas.Reads as run-in-areas-reads
 
 locations-requires : tie.Need-locations-requires
 locations-requires c κs = let l = accepted-limits (c .before .before .before .before .pre) .cells in omega arith

@@ -7,11 +7,6 @@ use Rattle.checker.proofs.Laws.{plain-exact-rejected, plain-unaltered}
 use borrow.Author.Needs.{needs}
 use Rattle.checker.proofs.plain_run.Statement.{statement}
 use Rattle.checker.proofs.plain_run.Tie as tie
-use Rattle.checker.proofs.plain_run.Reads as reads
-use Rattle.checker.proofs.plain_run.Lts as lts
-use Rattle.checker.proofs.plain_accepted.Reads as plain-accepted-reads
-use Rattle.checker.proofs.plain_refused.Reads as plain-refused-reads
-use Rattle.job.proofs.read_job.Reads as read-job-reads
 
 read-job-requires : tie.Need-read-job-requires
 read-job-requires c κs = search needs

@@ -1,18 +1,11 @@
 -- `report` meets its contract. Assumes nothing.
-use mathlib.Core.Path.{_≡_, ap, _∙_}
-use Rattle.rules.specs.declared.Stop.{Stop}
-use Rattle.rules.specs.declared.Verdict.{Verdict}
+use mathlib.Core.Path.{ap, _∙_}
 use Rattle.rules.specs.declared.Counts.{Counts}
 use Rattle.rules.specs.declared.RunOutcome.the-variants as runs
-use Rattle.rules.specs.declared.RunAnswer.{RunAnswer}
 use Rattle.rules.specs.Rules.Runs.{judge}
 use borrow.Author.Needs.{needs}
 use Rattle.checker.proofs.report.Statement.{statement}
 use Rattle.checker.proofs.report.Tie as tie
-use Rattle.checker.proofs.report.Reads as reads
-use Rattle.checker.proofs.report.Lts as lts
-use Rattle.judgement.proofs.verdict_of.Reads as verdict-of-reads
-use Rattle.job_run.proofs.counts_of.Reads as counts-of-reads
 
 counts-of-requires : tie.Need-counts-of-requires
 counts-of-requires c κs = search needs

@@ -7,11 +7,6 @@ use Rattle.checker.proofs.Laws.{exact-rejected, run-unaltered, run-plai
 use borrow.Author.Needs.{needs}
 use Rattle.checker.proofs.run.Statement.{statement}
 use Rattle.checker.proofs.run.Tie as tie
-use Rattle.checker.proofs.run.Reads as reads
-use Rattle.checker.proofs.run.Lts as lts
-use Rattle.checker.proofs.run_accepted.Reads as run-accepted-reads
-use Rattle.checker.proofs.run_refused.Reads as run-refused-reads
-use Rattle.job.proofs.read_job.Reads as read-job-reads
 
 read-job-requires : tie.Need-read-job-requires
 read-job-requires c κs = search needs

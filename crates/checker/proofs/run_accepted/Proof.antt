@@ -1,5 +1,4 @@
 -- `run_accepted` meets its contract: too short an area is refused before anything is written, else the run is made. Assumes nothing.
-use mathlib.Core.Path.{sym, _∙_}
 use native.Mathlib.Omega.{arith}
 use borrow.Author.Tests.{not-true, not-false}
 use Rattle.job_run.specs.Accepted.{accepted-limits, accepted-length}
@@ -7,13 +6,6 @@ use Rattle.checker.proofs.Laws.{exact-short, areas-fit, exact-ran}
 use borrow.Author.Needs.{needs}
 use Rattle.checker.proofs.run_accepted.Statement.{statement}
 use Rattle.checker.proofs.run_accepted.Tie as tie
-use Rattle.checker.proofs.run_accepted.Reads as reads
-use Rattle.checker.proofs.run_accepted.Lts as lts
-use Rattle.checker.proofs.run_refused.Reads as run-refused-reads
-use Rattle.checker.proofs.report.Reads as report-reads
-use Rattle.job_run.proofs.areas_fit.Reads as areas-fit-reads
-use Rattle.job_run.proofs.run_in_areas.Reads as run-in-areas-reads
-use Rattle.job.proofs.public_list.Reads as public-list-reads
 
 locations-requires : tie.Need-locations-requires
 locations-requires c κs = let l = accepted-limits (c .before .before .before .before .pre) .cells in omega arith

@@ -1,15 +1,9 @@
 -- `checker_compare` meets its contract. Assumes nothing.
-use mathlib.Core.Path.{sym, _∙_}
 use Rattle.rules.specs.Rules.Pairs.{pairLent}
 use Rattle.checker_c.proofs.Laws.{carried-out, left-alone, pair-refused, pair-returned, pair-demand}
 use borrow.Author.Needs.{needs}
 use Rattle.checker_c.proofs.checker_compare.Statement.{statement}
 use Rattle.checker_c.proofs.checker_compare.Tie as tie
-use Rattle.checker_c.proofs.checker_compare.Reads as reads
-use Rattle.checker_c.proofs.checker_compare.Lts as lts
-use Rattle.checker.proofs.compare.Reads as compare-reads
-use Rattle.answer_words.proofs.refusal_number.Reads as refusal-number-reads
-use Rattle.answer_words.proofs.write_pair.Reads as write-pair-reads
 
 compare-requires : tie.Need-compare-requires
 compare-requires c κs = search needs

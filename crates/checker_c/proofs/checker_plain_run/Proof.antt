@@ -4,11 +4,6 @@ use Rattle.checker_c.proofs.Laws.{carried-out, left-alone, plain-refuse
 use borrow.Author.Needs.{needs}
 use Rattle.checker_c.proofs.checker_plain_run.Statement.{statement}
 use Rattle.checker_c.proofs.checker_plain_run.Tie as tie
-use Rattle.checker_c.proofs.checker_plain_run.Reads as reads
-use Rattle.checker_c.proofs.checker_plain_run.Lts as lts
-use Rattle.checker.proofs.plain_run.Reads as plain-run-reads
-use Rattle.answer_words.proofs.refusal_number.Reads as refusal-number-reads
-use Rattle.answer_words.proofs.write_plain.Reads as write-plain-reads
 
 plain-run-requires : tie.Need-plain-run-requires
 plain-run-requires c κs = search needs

@@ -4,11 +4,6 @@ use Rattle.checker_c.proofs.Laws.{carried-out, left-alone, run-refused,
 use borrow.Author.Needs.{needs}
 use Rattle.checker_c.proofs.checker_run.Statement.{statement}
 use Rattle.checker_c.proofs.checker_run.Tie as tie
-use Rattle.checker_c.proofs.checker_run.Reads as reads
-use Rattle.checker_c.proofs.checker_run.Lts as lts
-use Rattle.checker.proofs.run.Reads as run-reads
-use Rattle.answer_words.proofs.refusal_number.Reads as refusal-number-reads
-use Rattle.answer_words.proofs.write_run.Reads as write-run-reads
 
 run-requires : tie.Need-run-requires
 run-requires c κs = search needs

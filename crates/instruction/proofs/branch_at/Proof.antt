@@ -1,9 +1,6 @@
 -- `instruction::branch_at` meets its contract: the register and the label stand where the rules read them. Assumes nothing.
 use mathlib.Core.Path.{sym}
-use Prim.Native.Nat.{_+_}
-use lib.ListN.{getD}
 use native.Mathlib.Omega.{arith}
-use Rattle.rules.specs.Rules.Instructions.{beqz}
 use Rattle.instruction.proofs.Laws.{branch-parts}
 use borrow.Author.Needs.{needs}
 use Rattle.instruction.proofs.branch_at.Statement.{statement}

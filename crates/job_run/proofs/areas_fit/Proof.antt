@@ -2,8 +2,6 @@
 use borrow.Author.Tests.{le-leb, lt-leb}
 use Rattle.job_run.proofs.areas_fit.Statement.{statement}
 use Rattle.job_run.proofs.areas_fit.Tie as tie
-use Rattle.job_run.proofs.areas_fit.Reads as reads
-use Rattle.job_run.proofs.areas_fit.Lts as lts
 
 returns : tie.Need-returns
 returns c = rw (lt-leb _ _ (c .if1 .taken))

@@ -5,11 +5,6 @@ use Rattle.job_run.proofs.Laws.{run-in}
 use borrow.Author.Needs.{needs}
 use Rattle.job_run.proofs.run_in_areas.Statement.{statement}
 use Rattle.job_run.proofs.run_in_areas.Tie as tie
-use Rattle.job_run.proofs.run_in_areas.Reads as reads
-use Rattle.job_run.proofs.run_in_areas.Lts as lts
-use Rattle.job_run.proofs.run_state.Reads as run-state-reads
-use Rattle.transfer.proofs.save_values.Reads as save-values-reads
-use Rattle.work.proofs.clear.Reads as clear-reads
 
 run-state-requires : tie.Need-run-state-requires
 run-state-requires c κs =

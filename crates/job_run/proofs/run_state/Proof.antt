@@ -6,11 +6,6 @@ use Rattle.job_run.proofs.Laws.{same-part}
 use borrow.Author.Needs.{needs}
 use Rattle.job_run.proofs.run_state.Statement.{statement}
 use Rattle.job_run.proofs.run_state.Tie as tie
-use Rattle.job_run.proofs.run_state.Reads as reads
-use Rattle.job_run.proofs.run_state.Lts as lts
-use Rattle.execution.proofs.run.Reads as run-reads
-use Rattle.transfer.proofs.load_labels.Reads as load-labels-reads
-use Rattle.transfer.proofs.load_state.Reads as load-state-reads
 
 locations-requires : tie.Need-locations-requires
 locations-requires c κs = search needs

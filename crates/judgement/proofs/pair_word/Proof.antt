@@ -5,11 +5,6 @@ use Rattle.judgement.proofs.Laws.{word-not-alike, word-first-open, word
 use borrow.Author.Needs.{needs}
 use Rattle.judgement.proofs.pair_word.Statement.{statement}
 use Rattle.judgement.proofs.pair_word.Tie as tie
-use Rattle.judgement.proofs.pair_word.Reads as reads
-use Rattle.judgement.proofs.pair_word.Lts as lts
-use Rattle.judgement.proofs.finished.Reads as finished-reads
-use Rattle.trace.proofs.same.Reads as same-reads
-use Rattle.trace.proofs.same_struck.Reads as same-struck-reads
 
 returns : tie.Need-returns
 returns c = word-not-alike (c .before .before .before .args .alike) (c .before .before .before .args .first) (c .before .before .before .args .second) (c .before .before .before .args .a .now) (c .before .before .before .args .b .now) (not-true _ (c .if1 .taken))

@@ -1,14 +1,9 @@
 -- `verdict_of` meets its contract: undecided unless finished, else by the two inclusions. Assumes nothing.
-use mathlib.Core.Path.{sym}
 use Rattle.rules.specs.Rules.Runs.{judge}
 use Rattle.judgement.proofs.Laws.{judged-clean, judged-plain, judged-speculative}
 use borrow.Author.Needs.{needs}
 use Rattle.judgement.proofs.verdict_of.Statement.{statement}
 use Rattle.judgement.proofs.verdict_of.Tie as tie
-use Rattle.judgement.proofs.verdict_of.Reads as reads
-use Rattle.judgement.proofs.verdict_of.Lts as lts
-use Rattle.location.proofs.LocationSet.subset.Reads as subset-reads
-use Rattle.location.proofs.LocationSet.union.Reads as union-reads
 
 enum-told : tie.Need-enum-told
 enum-told c = search needs

@@ -3,7 +3,7 @@
 use mathlib.Core.Path.{_≡_, sym, _∙_}
 use native.Mathlib.Omega.{arith}
 use lib.ListN.{length, length-set}
-use Rattle.rules.specs.Rules.Listing.{decimal, digits}
+use Rattle.rules.specs.Rules.Listing.{decimal}
 use Rattle.listing.proofs.Digits.{Found, found-none, found-positive, found-more, found-all}
 use Rattle.listing.proofs.find_digits.Statement.{statement}
 use Rattle.listing.proofs.find_digits.Tie as tie

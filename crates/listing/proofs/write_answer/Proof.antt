@@ -2,7 +2,7 @@
 -- Assumes nothing.
 use native.Mathlib.Omega.{arith}
 use Rattle.rules.specs.Rules.Answers.{text}
-use Rattle.listing.specs.Lines.{observed}
+use Rattle.listing.specs.Lines.{observationsIn}
 use Rattle.listing.specs.Lengths.{number-line-bound, trace-length, observed-length, summary-bound}
 use Rattle.listing.proofs.Laws.{put-append}
 use Rattle.listing.proofs.Texts.{printed-refusal, printed-run}
@@ -35,7 +35,7 @@ put-trace-requires c κs =
     let k = c .before .before .before .before .outcome2 .given .0 .0 .observations in
     omega (
       arith,
-      trace-length (a .n) (observed k (a .trace .now)),
+      trace-length (a .n) (observationsIn k (a .trace .now)),
       observed-length k (a .trace .now),
       c .before .before .before .before .before .before .before .before .good,
     )
@@ -46,7 +46,7 @@ put-summary-requires c κs =
     let o = c .before .before .before .before .before .before .before .before .outcome2 .given .0 in
     omega (
       arith,
-      trace-length (a .n) (observed (o .0 .observations) (a .trace .now)),
+      trace-length (a .n) (observationsIn (o .0 .observations) (a .trace .now)),
       observed-length (o .0 .observations) (a .trace .now),
       summary-bound (o .0) (a .answer .depends) (a .answer .plain) (o .1 .0),
       c .before .before .before .before .before .before .before .before .before .before .before .before .good,

@@ -5,9 +5,6 @@ use Rattle.pair.proofs.Laws.{other-size, short-work, unequal-traces}
 use borrow.Author.Needs.{needs}
 use Rattle.pair.proofs.compare_accepted.Statement.{statement}
 use Rattle.pair.proofs.compare_accepted.Tie as tie
-use Rattle.pair.proofs.compare_accepted.Reads as reads
-use Rattle.pair.proofs.compare_accepted.Lts as lts
-use Rattle.pair.proofs.compare_runs.Reads as compare-runs-reads
 
 locations-requires : tie.Need-locations-requires
 locations-requires c κs = let l = accepted-limits (c .before .before .before .before .before .pre) .cells in omega arith
@@ -16,13 +13,13 @@ mul-if1 : tie.Need-mul-if1
 mul-if1 c = let l = accepted-limits (c .before .before .before .before .before .before .pre) .cells in omega arith
 
 returns : tie.Need-returns
-returns c = let a = c .before .before .before .before .before .before .before .args in other-size (c .before .before .before .before .before .before .before .pre) (a .second .now) (a .first .now) (a .other .now) (a .work .now) (rw (c .before .locations .ensures) at (c .if1 .taken))
+returns c = let a = c .before .before .before .before .before .before .before .args in other-size (c .before .before .before .before .before .before .before .pre) (a .second .now) (a .first-trace .now) (a .second-trace .now) (a .work .now) (rw (c .before .locations .ensures) at (c .if1 .taken))
 
 returns-2 : tie.Need-returns-2
-returns-2 c = let a = c .before .before .before .before .before .before .before .before .args in short-work (c .before .before .before .before .before .before .before .before .pre) (a .second .now) (a .first .now) (a .other .now) (a .work .now) (rw (c .before .before .locations .ensures) at (c .before .if1 .left)) (c .if2 .taken)
+returns-2 c = let a = c .before .before .before .before .before .before .before .before .args in short-work (c .before .before .before .before .before .before .before .before .pre) (a .second .now) (a .first-trace .now) (a .second-trace .now) (a .work .now) (rw (c .before .before .locations .ensures) at (c .before .if1 .left)) (c .if2 .taken)
 
 returns-3 : tie.Need-returns-3
-returns-3 c = let a = c .before .before .before .before .before .before .before .before .before .args in unequal-traces (c .before .before .before .before .before .before .before .before .before .pre) (a .second .now) (a .first .now) (a .other .now) (a .work .now) (rw (c .before .before .before .locations .ensures) at (c .before .before .if1 .left)) (c .before .if2 .left) (c .if3 .taken)
+returns-3 c = let a = c .before .before .before .before .before .before .before .before .before .args in unequal-traces (c .before .before .before .before .before .before .before .before .before .pre) (a .second .now) (a .first-trace .now) (a .second-trace .now) (a .work .now) (rw (c .before .before .before .locations .ensures) at (c .before .before .if1 .left)) (c .before .if2 .left) (c .if3 .taken)
 
 compare-runs-requires : tie.Need-compare-runs-requires
 compare-runs-requires c κs = search needs

@@ -5,11 +5,6 @@ use Rattle.pair.proofs.Laws.{first-fits, second-fits, exact-compared}
 use borrow.Author.Needs.{needs}
 use Rattle.pair.proofs.compare_runs.Statement.{statement}
 use Rattle.pair.proofs.compare_runs.Tie as tie
-use Rattle.pair.proofs.compare_runs.Reads as reads
-use Rattle.pair.proofs.compare_runs.Lts as lts
-use Rattle.job_run.proofs.run_state.Reads as run-state-reads
-use Rattle.pair.proofs.judge.Reads as judge-reads
-use Rattle.work.proofs.clear.Reads as clear-reads
 
 run-state-requires : tie.Need-run-state-requires
 run-state-requires c κs =
@@ -29,12 +24,12 @@ run-state-requires-2 c κs =
 clear-requires : tie.Need-clear-requires
 clear-requires c κs = let k = c .before .before .before .before .before .before .before .before .before .before .before .before .before .before .before .before .before .before .before .before .pre .work in let y = c .before .before .before .before .before .before .before .before .before .before .before .before .run-state .ensures .size in let z = c .before .before .before .before .before .run-state2 .ensures .size in omega arith
 
-judge-requires : tie.Need-judge-requires
-judge-requires c κs =
+compared-requires : tie.Need-compared-requires
+compared-requires c κs =
     let k = c .before .before .before .before .before .before .before .before .before .before .before .before .before .before .before .before .before .before .before .before .before .before .before .before .before .pre in
     let o = c .before .before .before .before .before .before .before .before .before .before .before .before .before .before .before .before .before .run-state .ensures in
     let o′ = c .before .before .before .before .before .before .before .before .before .before .run-state2 .ensures in
-    record { accepts = k .accepts; sized = k .sized; first = first-fits k o o′; other = second-fits k o o′ }
+    record { accepts = k .accepts; sized = k .sized; first-fits = first-fits k o o′; second-fits = second-fits k o o′ }
 
 same-length : tie.Need-same-length
 same-length c = search needs
@@ -46,7 +41,7 @@ same-length-3 : tie.Need-same-length-3
 same-length-3 c = search needs
 
 returns : tie.Need-returns
-returns c = exact-compared (c .before .before .before .before .before .before .before .before .before .before .before .before .before .before .before .before .before .before .before .before .before .before .before .before .before .before .pre) (c .before .before .before .before .before .before .before .before .before .before .before .before .before .before .before .before .before .before .run-state .ensures) (c .before .before .before .before .before .before .before .before .before .before .before .run-state2 .ensures) (c .before .before .before .before .before .clear .ensures) (c .judge .ensures)
+returns c = exact-compared (c .before .before .before .before .before .before .before .before .before .before .before .before .before .before .before .before .before .before .before .before .before .before .before .before .before .before .pre) (c .before .before .before .before .before .before .before .before .before .before .before .before .before .before .before .before .before .before .run-state .ensures) (c .before .before .before .before .before .before .before .before .before .before .before .run-state2 .ensures) (c .before .before .before .before .before .clear .ensures) (c .compared .ensures)
 
 pub compare-runs-spec : {M : Type 1} → statement M
 compare-runs-spec =
@@ -55,7 +50,7 @@ compare-runs-spec =
     run-state-requires
     run-state-requires-2
     clear-requires
-    judge-requires
+    compared-requires
     same-length
     same-length-2
     same-length-3

@@ -1,7 +1,7 @@
 -- The operators at their boundaries: 0, 1, 2^63, 2^64 − 1; shifts by 0, 1, 63, 64, 65 and 2^63. Tables.antt proves them.
 -- Assumes nothing.
 use mathlib.Core.List.{List, [], _∷_}
-use Prim.Native.Nat.{ℕ, _+_, _-_, _^_}
+use Prim.Native.Nat.{ℕ}
 use Rattle.rules.specs.Rules.Operators.{Op1, neg, inv, Op2, add, sub, mul, and, or, xor, shl, shr, eq, ult, apply1, apply2}
 
 -- an operator with its operands, and the result

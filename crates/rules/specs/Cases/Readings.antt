@@ -13,7 +13,7 @@ use Rattle.rules.specs.Rules.Expressions.{tagged}
 use Rattle.rules.specs.Rules.Calls.{Areas, lent, runRefused, plainRefused}
 use Rattle.rules.specs.Rules.Pairs.{pairLent}
 use Rattle.rules.specs.Cases.Files.{wordBytes, zeros, file, setOf, counted, ran, plainRan, Row, run, pair, prints, plain, leaves, plainLeaves, pairLeaves, holds, lines}
-use Rattle.rules.specs.Cases.Document01.{job, state, whole, r01, r01m1, nestedProgram, public}
+use Rattle.rules.specs.Cases.Document01.{job, state, whole, r01, nestedProgram, public}
 
 -- a program of n instructions with nothing public
 unfoldable pub secretJob : List ℕ → ℕ → List ℕ → ℕ → List ℕ

@@ -3,11 +3,10 @@
 -- Assumes nothing.
 use mathlib.Core.List.{List, [], _∷_, _++_}
 use Prim.Native.Nat.{ℕ, _+_, _*_}
-use lib.ListN.{length, replicate, set, take}
+use lib.ListN.{replicate, set}
 use Rattle.rules.specs.Rules.Answers.{refusalNumber}
 use Rattle.rules.specs.Rules.JobFile.{Parsed, accepted, rejected, parse}
-use Rattle.rules.specs.Cases.Files.{bytesOf, wordBytes, zeros, trailerBytes, file}
-use Rattle.rules.specs.Cases.Document01.{job, printedProgram}
+use Rattle.rules.specs.Cases.Files.{zeros, trailerBytes, file}
 
 pub record Reading : Type 0 where
   pub bytes : List ℕ

@@ -5,7 +5,7 @@ use mathlib.Core.Path.{_≡_}
 use mathlib.Core.Bool.{true}
 use Prim.{⊥}
 use mathlib.Core.List.{List}
-use Prim.Native.Nat.{ℕ, _+_, _*_, _≤_}
+use Prim.Native.Nat.{ℕ, _*_, _≤_}
 use lib.ListN.{length, getD, take, drop}
 use Rattle.location.specs.declared.LocationSet.{LocationSet}
 use Rattle.location.specs.Sets.{member}
@@ -52,23 +52,23 @@ pub record SameLengths (a a′ : Areas) : Type 0 where
   pub work : length (a .work) ≡ length (a′ .work)
 
 -- "the observation count"; a refused job observes nothing
-abbrev pub observed : RunOutcome → ℕ
-observed (runs.Refused r) = 0
-observed (runs.Ran n v) = n .observations
+abbrev pub observationCount : RunOutcome → ℕ
+observationCount (runs.Refused r) = 0
+observationCount (runs.Ran n v) = n .observations
 
-abbrev pub plainObserved : PlainOutcome → ℕ
-plainObserved (plains.Refused r) = 0
-plainObserved (plains.Ran n) = n .observations
+abbrev pub plainObservationCount : PlainOutcome → ℕ
+plainObservationCount (plains.Refused r) = 0
+plainObservationCount (plains.Ran n) = n .observations
 
 -- the words that a call writes to its trace area: "two an observation", "from the front"; by its answer and the areas after it
 unfoldable pub traceIn : RunAnswer → Areas → List ℕ
-traceIn r after = take (2 * observed (r .outcome)) (after .trace)
+traceIn r after = take (2 * observationCount (r .outcome)) (after .trace)
 
 unfoldable pub traceOf : List ℕ → Areas → List ℕ
 traceOf f a = traceIn (runCall f a .answer) (runCall f a .areas)
 
 unfoldable pub plainTraceOf : List ℕ → Areas → List ℕ
-plainTraceOf f a = take (2 * plainObserved (plainCall f a .answer .outcome)) (plainCall f a .areas .trace)
+plainTraceOf f a = take (2 * plainObservationCount (plainCall f a .answer .outcome)) (plainCall f a .areas .trace)
 
 -- the words of an end area that a call writes: "registers then cells"
 unfoldable pub endOf : List ℕ → List ℕ → List ℕ

@@ -2,7 +2,6 @@
 -- Assumes nothing.
 use mathlib.Core.List.{List, [], _∷_}
 use Prim.Native.Nat.{ℕ}
-use lib.ListN.{replicate}
 use Rattle.rules.specs.Rules.Expressions.{Expr}
 
 -- The table of instructions: a register, an expression, a label as document 01's fields.

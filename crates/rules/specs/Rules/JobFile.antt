@@ -1,7 +1,7 @@
 -- The job file: bytes to a job, or the first refusal. A reader takes the bytes and an offset, and gives what stands there with
 -- the next offset.
 -- Assumes nothing.
-use mathlib.Core.Bool.{Bool, true, false, not, _&&_, cond}
+use mathlib.Core.Bool.{Bool, true, not, _&&_, cond}
 use mathlib.Core.List.{List, [], _∷_}
 use Prim.Native.Nat.{ℕ, zero, suc, _+_, _-_, _*_}
 use lib.Dec.{eqb, leb, ltb}
@@ -14,7 +14,6 @@ use Rattle.rules.specs.declared.Refusal.the-variants as refusals
 use Rattle.rules.specs.Rules.Operators.{Op1, neg, inv, Op2, add, sub, mul, and, or, xor, shl, shr, eq, ult}
 use Rattle.rules.specs.Rules.Expressions.{Token, reg, const, op1, op2, Expr, sound}
 use Rattle.rules.specs.Rules.Instructions.{Instr, skip, assign, load, store, jmp, beqz, cassign, spbarr, windowCosts}
-use Rattle.rules.specs.Rules.Plain.{Code}
 use Rattle.rules.specs.Rules.Runs.{Job}
 
 -- "Little-endian.": the number in the k bytes at an offset
@@ -146,15 +145,15 @@ postfix (cassign r c e) = sound c && sound e
 postfix spbarr = true
 
 -- "beqz label over n, or the next label", of the instruction with label i
-abbrev pub target : ℕ → ℕ → Instr → Bool
-target n i skip = true
-target n i (assign r e) = true
-target n i (load r e) = true
-target n i (store r e) = true
-target n i (jmp e) = true
-target n i (beqz r l) = leb l n && not (eqb l (i + 1))
-target n i (cassign r c e) = true
-target n i spbarr = true
+abbrev pub branchLabelHolds : ℕ → ℕ → Instr → Bool
+branchLabelHolds n i skip = true
+branchLabelHolds n i (assign r e) = true
+branchLabelHolds n i (load r e) = true
+branchLabelHolds n i (store r e) = true
+branchLabelHolds n i (jmp e) = true
+branchLabelHolds n i (beqz r l) = leb l n && not (eqb l (i + 1))
+branchLabelHolds n i (cassign r c e) = true
+branchLabelHolds n i spbarr = true
 
 -- ---- the program
 -- "4, 5, 6 are tried on one instruction before the next is read": 4 on the whole instruction, then 5, then 6
@@ -162,7 +161,7 @@ unfoldable pub instruction : ℕ → ℕ → Reader Instr
 instruction n i = do
   x ← instr
   y ← require (postfix x) refusals.Postfix x
-  require (target n i y) refusals.BranchLabel y
+  require (branchLabelHolds n i y) refusals.BranchLabel y
 
 -- "bytes left between the nth instruction and S"
 unfoldable pub nothingLeft : Reader (List Instr)

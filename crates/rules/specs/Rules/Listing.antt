@@ -1,6 +1,6 @@
 -- The printed run, as bytes.
 -- Assumes nothing.
-use mathlib.Core.Bool.{Bool, true, false, cond}
+use mathlib.Core.Bool.{cond}
 use mathlib.Core.List.{List, [], _∷_, _++_}
 use Prim.Native.Nat.{ℕ, zero, suc, _+_, _-_, _/_, _%_}
 use lib.Dec.{eqb, ltb}
@@ -12,7 +12,7 @@ use Rattle.rules.specs.declared.RunOutcome.{RunOutcome}
 use Rattle.rules.specs.declared.RunOutcome.the-variants as runs
 use Rattle.rules.specs.declared.RunAnswer.{RunAnswer}
 use Rattle.rules.specs.Rules.Instructions.{Observation, start, rollback, pc, loaded, stored}
-use Rattle.rules.specs.Rules.Plain.{end}
+use Rattle.rules.specs.Rules.Plain.{endPlace}
 use Rattle.rules.specs.Rules.Runs.{mispredictingRun}
 use Rattle.rules.specs.Rules.Answers.{text, stopWord, verdictWord, refusalNumber}
 use Rattle.rules.specs.Rules.JobFile.{Parsed, accepted, rejected, parse}
@@ -90,7 +90,7 @@ unfoldable pub listingOf : ℕ → Parsed → List ℕ
 listingOf k (rejected r) = answerLines 0 [] (runRefused r)
 listingOf k (accepted job) =
     let r = mispredictingRun job k in
-    answerLines (end (job .code)) (r .log .trace) (runReport job r)
+    answerLines (endPlace (job .code)) (r .log .trace) (runReport job r)
 
 unfoldable pub listing : List ℕ → List ℕ
 listing file = listingOf printedRoom (parse file)

@@ -1,19 +1,19 @@
--- A run of any machine: it is finished, or out of steps, or held up before its next step; else it makes the step.
+-- A run of any machine: it is finished, or out of steps, or halted before its next step; else it makes the step.
 -- Assumes nothing.
 use mathlib.Core.Bool.{Bool, true, false}
 use Prim.Native.Nat.{ℕ, zero, suc}
 use Rattle.rules.specs.declared.Stop.{Stop}
 use Rattle.rules.specs.declared.Stop.the-variants.{Finished, Spent, TraceFull}
 
--- what holds up the next step, if anything does
-pub data Hold : Type 0 where
-  clear : Hold
-  held : Stop → Hold
+-- what halts the run before its next step, if anything does
+pub data Halt : Type 0 where
+  proceed : Halt
+  halted : Stop → Halt
 
 -- a step whose observations fit, or do not
-abbrev pub ifRoom : Bool → Hold
-ifRoom true = clear
-ifRoom false = held TraceFull
+abbrev pub ifRoom : Bool → Halt
+ifRoom true = proceed
+ifRoom false = halted TraceFull
 
 -- how a run ended: its stop, its last machine and what it has gathered
 pub record Ended (M G : Type 0) : Type 0 where
@@ -24,12 +24,12 @@ pub record Ended (M G : Type 0) : Type 0 where
 unfoldable pub ended : {M G : Type 0} → Stop → M → G → Ended M G
 ended x m g = record { stop = x; last = m; log = g }
 
-module _ {M G : Type 0} (over : M → Bool) (hold : M → G → Hold) (next : M → M) (note : M → G → G) where
+module _ {M G : Type 0} (over : M → Bool) (halt : M → G → Halt) (next : M → M) (note : M → G → G) where
   -- at most k steps more
   unfoldable pub loop : ℕ → M → G → Ended M G
   loop zero m g = elim (over m) [ true ↦ ended Finished m g | false ↦ ended Spent m g ]
   loop (suc k) m g =
       elim (over m) [
         | true ↦ ended Finished m g
-        | false ↦ elim (hold m g) [ clear ↦ loop k (next m) (note m g) | held x ↦ ended x m g ]
+        | false ↦ elim (halt m g) [ proceed ↦ loop k (next m) (note m g) | halted x ↦ ended x m g ]
       ]

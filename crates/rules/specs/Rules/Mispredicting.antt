@@ -1,14 +1,14 @@
 -- One step of the mispredicting run, after document 01's three rules, and one step of the plain run.
 -- Assumes nothing.
-use mathlib.Core.Bool.{Bool, true, false, _||_, cond}
+use mathlib.Core.Bool.{Bool, _||_, cond}
 use mathlib.Core.List.{List, [], _∷_}
-use Prim.Native.Nat.{ℕ, zero, suc, _+_, _-_}
+use Prim.Native.Nat.{ℕ, suc, _-_}
 use lib.Dec.{eqb, leb}
 use lib.ListN.{getD}
 use Rattle.location.specs.declared.LocationSet.{LocationSet}
 use Rattle.location.specs.Sets.{registerLocation, empty}
 use Rattle.rules.specs.Rules.Instructions.{Instr, skip, assign, load, store, jmp, beqz, cassign, spbarr, kind, Observation, start, rollback, pc}
-use Rattle.rules.specs.Rules.Plain.{State, at, Code, end, fetch, exec, branchTo}
+use Rattle.rules.specs.Rules.Plain.{State, at, Code, endPlace, fetch, exec, branchTo}
 
 -- "a stack of open branches, each with its id, saved registers and memory, true target and remaining window"
 pub record Branch : Type 0 where
@@ -96,7 +96,7 @@ rolling M b bs = record {
 
 -- "Top window 0, or END with a branch open"
 unfoldable pub expired : Code → ℕ → Branch → Bool
-expired code p b = eqb (b .window) 0 || leb (end code) p
+expired code p b = eqb (b .window) 0 || leb (endPlace code) p
 
 unfoldable pub stepOn : Code → Machine → List Branch → Step
 stepOn code M [] = forward code M (fetch code (M .place))

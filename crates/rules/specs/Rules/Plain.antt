@@ -1,14 +1,14 @@
 -- The machine's state, and what one instruction does to it, shows and rests on: the plain step.
 -- Assumes nothing.
-use mathlib.Core.Bool.{Bool, true, false, cond}
+use mathlib.Core.Bool.{cond}
 use mathlib.Core.List.{List, [], _∷_}
-use Prim.Native.Nat.{ℕ, zero, suc, _+_, min}
+use Prim.Native.Nat.{ℕ, suc, min}
 use lib.Dec.{eqb, ltb}
 use lib.ListN.{length, getD, set}
 use Rattle.location.specs.declared.LocationSet.{LocationSet}
 use Rattle.location.specs.Sets.{registerLocation, cellLocation, empty, single, union}
 use Rattle.rules.specs.declared.Tagged.{Tagged}
-use Rattle.rules.specs.Rules.Expressions.{Expr, tagged, eval}
+use Rattle.rules.specs.Rules.Expressions.{tagged, eval}
 use Rattle.rules.specs.Rules.Instructions.{Instr, skip, assign, load, store, jmp, beqz, cassign, spbarr, Observation, pc, loaded, stored}
 
 -- "Registers and cells are also numbered as locations": the state holds a word with its set for each location in order.
@@ -39,8 +39,8 @@ pub record Code : Type 0 where
   pub costs : List ℕ
 
 -- "Instructions have labels 0 to n−1 in order; a place of n or more is END, written n."
-unfoldable pub end : Code → ℕ
-end code = length (code .prog)
+unfoldable pub endPlace : Code → ℕ
+endPlace code = length (code .prog)
 
 unfoldable pub fetch : Code → ℕ → Instr
 fetch code p = getD (code .prog) p skip
@@ -94,7 +94,7 @@ exec code σ p skip = silent σ p
 exec code σ p (assign r e) = silent (put σ (registerLocation r) (eval (at σ) e)) p
 exec code σ p (load r e) = loadEffect code σ p r (eval (at σ) e)
 exec code σ p (store r e) = storeEffect code σ p r (eval (at σ) e)
-exec code σ p (jmp e) = goEffect σ (min (eval (at σ) e .value) (end code)) (eval (at σ) e)
+exec code σ p (jmp e) = goEffect σ (min (eval (at σ) e .value) (endPlace code)) (eval (at σ) e)
 exec code σ p (beqz r l) = goEffect σ (branchTo (at σ (registerLocation r)) l (suc p)) (at σ (registerLocation r))
 exec code σ p (cassign r c e) =
     silent (put σ (registerLocation r) (chosen (eval (at σ) c) (eval (at σ) e) (at σ (registerLocation r)))) p

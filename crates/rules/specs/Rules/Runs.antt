@@ -1,6 +1,6 @@
 -- The plain run and the mispredicting run of a job, and the verdict.
 -- Assumes nothing.
-use mathlib.Core.Bool.{Bool, true, false, cond}
+use mathlib.Core.Bool.{Bool, false, cond}
 use mathlib.Core.List.{List, [], _∷_, _++_}
 use Prim.Native.Nat.{ℕ, suc, _+_}
 use lib.Dec.{leb}
@@ -12,9 +12,9 @@ use Rattle.rules.specs.declared.Stop.the-variants.{Finished, Spent, Trac
 use Rattle.rules.specs.declared.Verdict.{Verdict}
 use Rattle.rules.specs.declared.Verdict.the-variants as verdicts
 use Rattle.rules.specs.Rules.Instructions.{Observation}
-use Rattle.rules.specs.Rules.Plain.{Code, end, ownFrom}
+use Rattle.rules.specs.Rules.Plain.{Code, endPlace, ownFrom}
 use Rattle.rules.specs.Rules.Mispredicting.{Branch, Machine, Step, step, plainStep}
-use Rattle.rules.specs.Rules.Loop.{Hold, ifRoom, Ended, loop}
+use Rattle.rules.specs.Rules.Loop.{Halt, ifRoom, Ended, loop}
 
 -- What a run gathers: "A run's trace is the list of all its observations in order"; the steps made, the rollbacks among them,
 -- the full set D and the plain set.
@@ -46,7 +46,7 @@ note M s g = record {
 
 -- "Finished: END with nothing open."
 unfoldable pub overOn : Code → ℕ → List Branch → Bool
-overOn code p [] = leb (end code) p
+overOn code p [] = leb (endPlace code) p
 overOn code p (b ∷ bs) = false
 
 unfoldable pub over : Code → Machine → Bool
@@ -56,13 +56,13 @@ over code M = overOn code (M .place) (M .branches)
 unfoldable pub fits : ℕ → Step → Log → Bool
 fits room s g = leb (length (g .trace) + length (s .obs)) room
 
-unfoldable pub hold : (Machine → Step) → ℕ → Machine → Log → Hold
-hold f room M g = ifRoom (fits room (f M) g)
+unfoldable pub halt : (Machine → Step) → ℕ → Machine → Log → Halt
+halt f room M g = ifRoom (fits room (f M) g)
 
 -- A run by the step function f, of at most k steps more, with room for so many observations in all. "Otherwise the run stops
 -- as "spent" when b steps are made": the loop tries finished, then spent, then trace full.
 unfoldable pub run : (Machine → Step) → Code → ℕ → ℕ → Machine → Log → Result
-run f code room k M g = loop (over code) (hold f room) (λ (N : Machine). f N .next) (λ (N : Machine) (h : Log). note N (f N) h) k M g
+run f code room k M g = loop (over code) (halt f room) (λ (N : Machine). f N .next) (λ (N : Machine) (h : Log). note N (f N) h) k M g
 
 -- A job: what its steps are given, the words of its state by location, the public list and the budget.
 pub record Job : Type 0 where

@@ -12,8 +12,8 @@ use Rattle.location.specs.SetLaws.{Within}
 use Rattle.rules.specs.declared.Tagged.{Tagged}
 use Rattle.rules.specs.Rules.Expressions.{Expr, eval}
 use Rattle.rules.specs.Rules.Instructions.{Instr, skip, assign, load, store, jmp, beqz, cassign, spbarr, start, rollback, pc, loaded, stored}
-use Rattle.rules.specs.Rules.Plain.{State, at, Code, end, fetch, branchTo, Effect, exec}
-use Rattle.rules.specs.Rules.Mispredicting.{Branch, Machine, Step, remaining, lower, ordinary, newWindow, opening, forward, rolling, expired, stepOn, step, plainStep}
+use Rattle.rules.specs.Rules.Plain.{State, at, Code, endPlace, fetch, branchTo, Effect, exec}
+use Rattle.rules.specs.Rules.Mispredicting.{Branch, Machine, Step, remaining, lower, ordinary, newWindow, opening, forward, rolling, expired, stepOn, step}
 use Rattle.rules.specs.Rules.Runs.{gather, overOn, over}
 use Rattle.rules.specs.Theorems.Alike.{Alike, agree-eval, agree-loadedFrom, agree-chosen, alike-put, alike-storedTo}
 
@@ -54,8 +54,8 @@ module _ (code : Code) {D : LocationSet} {σ τ : State} (h : Alike D σ τ) whe
       let q = same-value e w in
       record {
         state = h;
-        place = ap (λ (t : Tagged). min (t .value) (end code)) q;
-        obs = ap (λ (t : Tagged). pc (min (t .value) (end code)) ∷ []) q;
+        place = ap (λ (t : Tagged). min (t .value) (endPlace code)) q;
+        obs = ap (λ (t : Tagged). pc (min (t .value) (endPlace code)) ∷ []) q;
         seen = ap (λ (t : Tagged). t .deps) q;
       }
   same-exec p (beqz r l) w =
@@ -123,7 +123,7 @@ module _ (code : Code) {D : LocationSet} where
 
   same-overOn : {p q : ℕ} {xs ys : List Branch} → p ≡ q → SameBranches D xs ys → overOn code p xs ≡ overOn code q ys
   unfolding overOn
-  same-overOn e none = ap (leb (end code)) e
+  same-overOn e none = ap (leb (endPlace code)) e
   same-overOn e (more b bs) = refl
 
   pub same-gather : {xs ys : List Branch} (P s : LocationSet) → SameBranches D xs ys → gather xs P s ≡ gather ys P s
@@ -234,7 +234,7 @@ module _ (code : Code) {D : LocationSet} where
         go true = unfold rolling in refl
         go false = count-forward (fetch code (M .place))
 
-    -- the two laws of the mispredicting step
+    -- the two laws of a step
     pub same-step : Within (step code M .seen) D → SameStep D (step code M) (step code N)
     unfolding step
     same-step w = same-stepOn (h .branches) w
@@ -242,12 +242,3 @@ module _ (code : Code) {D : LocationSet} where
     pub count-step : length (step code M .obs) ≡ length (step code N .obs)
     unfolding step
     count-step = count-stepOn (h .branches)
-
-    -- the two laws of the plain step
-    pub same-plainStep : Within (plainStep code M .seen) D → SameStep D (plainStep code M) (plainStep code N)
-    unfolding plainStep
-    same-plainStep w = rw (← same-fetch) (same-ordinary (fetch code (M .place)) w)
-
-    pub count-plainStep : length (plainStep code M .obs) ≡ length (plainStep code N .obs)
-    unfolding plainStep
-    count-plainStep = rw (← same-fetch) (count-ordinary (fetch code (M .place)))

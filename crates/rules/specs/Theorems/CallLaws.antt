@@ -1,6 +1,6 @@
 -- What a call on a job file comes to: a run of an accepted job in areas that are long enough, or a refusal.
 -- Assumes nothing.
-use mathlib.Core.Path.{_≡_, refl, sym, ap, _∙_}
+use mathlib.Core.Path.{_≡_, refl, sym, ap}
 use mathlib.Core.Bool.{Bool, true, false}
 use mathlib.Core.List.{List, [], _∷_}
 use Prim.Native.Nat.{ℕ, _*_, _/_}
@@ -95,14 +95,6 @@ pub runs-of : {f : List ℕ} {a : Areas} {n : Counts} {v : Verdict} → runCall 
 unfolding runRefused
 runs-of e (ran r) = r
 runs-of e (refused n q) = refused-ran (rw q at e)
-
--- the trace area after any call: its words from the front, and all others as they were
-pub trace-written : (f : List ℕ) (a : Areas) → runCall f a .areas .trace ≡ written (traceOf f a) (a .trace)
-trace-written f a = go (view f a)
-  where
-    go : View f a → runCall f a .areas .trace ≡ written (traceOf f a) (a .trace)
-    go (ran r) = unfold areasAfter in rw (trace-runs r, call-runs r)
-    go (refused n e) = unfold traceOf traceIn runRefused written in rw e
 
 -- ---- the same job in areas of the same lengths
 pub same-room : {a a′ : Areas} → SameLengths a a′ → room (a′ .trace) ≡ room (a .trace)

@@ -1,25 +1,22 @@
 -- Demand 3 of the calls on job files: a second file that differs only in the state's bytes, with a state alike in the reported
 -- set, in areas of the same lengths, gets the same answer and has the same words written to its trace area.
 -- Assumes nothing.
-use mathlib.Core.Path.{_≡_, refl, sym, ap, _∙_}
-use mathlib.Core.Bool.{Bool, true, false}
+use mathlib.Core.Path.{_≡_, sym, ap, _∙_}
 use mathlib.Core.List.{List}
 use Prim.Native.Nat.{ℕ}
 use lib.ListN.{length}
 use Rattle.location.specs.declared.LocationSet.{LocationSet}
 use Rattle.rules.specs.declared.Verdict.the-variants as verdicts
-use Rattle.rules.specs.declared.Refusal.{Refusal}
-use Rattle.rules.specs.declared.Refusal.the-variants as refusals
 use Rattle.rules.specs.declared.Counts.{Counts}
 use Rattle.rules.specs.declared.RunOutcome.the-variants as runs
 use Rattle.rules.specs.Rules.Runs.{Job, Result, mispredictingRun, verdict}
-use Rattle.rules.specs.Rules.JobFile.{Parsed, accepted, rejected, parse, trailer, stateOf, publicOf}
-use Rattle.rules.specs.Rules.Calls.{traceWords, Areas, room, longEnough, written, counts, runReport, runRefused, runParsed, runCall}
+use Rattle.rules.specs.Rules.JobFile.{accepted, parse, trailer, stateOf, publicOf}
+use Rattle.rules.specs.Rules.Calls.{traceWords, Areas, room, counts, runReport, runCall}
 use Rattle.rules.specs.Rules.Pairs.{withState}
 use Rattle.rules.specs.Rules.Demands.{SameLengths, traceIn, traceOf, SameButState, AlikeOn, SameCall, Demand3}
 use Rattle.rules.specs.Theorems.Secrecy.{SameReport, demand3, demand3-clean}
-use Rattle.rules.specs.Theorems.JobLaws.{passed, job-init, job-public, init-most, length-stateOf, parse-same, parse-other}
-use Rattle.rules.specs.Theorems.CallLaws.{Runs, result, call-runs, trace-runs, refusal, view, refused-ran, runs-of, trace-written, same-room, same-enough}
+use Rattle.rules.specs.Theorems.JobLaws.{passed, job-init, job-public, init-most, length-stateOf, parse-other}
+use Rattle.rules.specs.Theorems.CallLaws.{Runs, result, call-runs, trace-runs, view, runs-of, same-room, same-enough}
 
 -- ---- two calls
 abbrev SameCalls : List ℕ → Areas → List ℕ → Areas → Type 0
@@ -88,31 +85,3 @@ demand3-call f a = record {
   reported = λ e g a′ s h k. same-reported (runs-of e (view f a)) s h k;
   clean = λ e g a′ s h k. same-clean (runs-of e (view f a)) s h e k;
 }
-
--- With trace-written of the first call: one list of words stands at the front of both trace areas.
-pub same-words : (f : List ℕ) (a : Areas) {g : List ℕ} {a′ : Areas} → SameCall (runCall f a .answer) (runCall f a .areas) g a′
-    → runCall g a′ .areas .trace ≡ written (traceOf f a) (a′ .trace)
-unfolding traceOf
-same-words f a {g} {a′} c = trace-written g a′ ∙ ap (λ (ws : List ℕ). written ws (a′ .trace)) (sym (c .trace))
-
--- ---- a call that is refused: a second one with the same trailer is refused for the same cause
-both-refused : (f : List ℕ) (a : Areas) {g : List ℕ} {a′ : Areas} (n : Refusal) → runCall f a ≡ refusal n a
-    → runCall g a′ ≡ refusal n a′ → SameCalls f a g a′
-unfolding traceIn traceOf runRefused
-both-refused f a n p q = record { answer = rw (p, q); trace = rw (p, q) }
-
-pub same-refusal : {f g : List ℕ} {a a′ : Areas} {n : Refusal} → runCall f a .answer .outcome ≡ runs.Refused n
-    → SameButState f g → trailer g ≡ trailer f → SameLengths a a′ → SameCall (runCall f a .answer) (runCall f a .areas) g a′
-unfolding runCall runParsed runReport
-same-refusal {f} {g} {a} {a′} {n} e s t h = go (parse f) refl
-  where
-    fits : (job : Job) → parse f ≡ accepted job → (b : Bool) → longEnough job a ≡ b → SameCalls f a g a′
-    fits job q true l = refused-ran (sym (rw (q, l, runParsed) at e))
-    fits job q false l =
-        let vs = stateOf (trailer f) g in
-        both-refused f a refusals.Areas (rw (q, l, runParsed))
-        (rw (parse-other q s, same-enough job vs (same-size f g job q) h, l, runParsed))
-
-    go : (P : Parsed) → parse f ≡ P → SameCalls f a g a′
-    go (rejected m) q = both-refused f a m (rw (q, runParsed)) (rw (parse-same s t, q, runParsed))
-    go (accepted job) q = fits job q (longEnough job a) refl

@@ -15,7 +15,7 @@ use Rattle.location.specs.SetLaws.{and-left, and-right}
 use Rattle.rules.specs.declared.Trailer.{Trailer}
 use Rattle.rules.specs.declared.Refusal.{Refusal}
 use Rattle.rules.specs.declared.Refusal.the-variants as refusals
-use Rattle.rules.specs.Rules.Instructions.{Instr, windowCosts}
+use Rattle.rules.specs.Rules.Instructions.{Instr}
 use Rattle.rules.specs.Rules.Runs.{Job}
 use Rattle.rules.specs.Rules.JobFile.{little, Read, got, refused, andThen, instruction, nothingLeft, program, trailerAt, trailer, sized, limits, offsets, wordsAt, stateOf, publicOf, listed, Parsed, accepted, rejected, jobOf, programOf, finish, parse}
 use Rattle.rules.specs.Rules.Pairs.{withState}
@@ -156,14 +156,6 @@ module _ {bs : List ℕ} {job : Job} (p : Passed bs job) where
   unfolding jobOf
   job-cells = ap (λ (j : Job). j .code .cells) (p .made)
 
-  pub job-window : job .code .window ≡ trailer bs .window
-  unfolding jobOf
-  job-window = ap (λ (j : Job). j .code .window) (p .made)
-
-  pub job-costs : job .code .costs ≡ windowCosts
-  unfolding jobOf
-  job-costs = ap (λ (j : Job). j .code .costs) (p .made)
-
   pub job-init : job .init ≡ stateOf (trailer bs) bs
   unfolding jobOf
   job-init = ap (λ (j : Job). j .init) (p .made)
@@ -176,25 +168,8 @@ module _ {bs : List ℕ} {job : Job} (p : Passed bs job) where
   unfolding jobOf
   job-budget = ap (λ (j : Job). j .budget) (p .made)
 
-  pub end-least : 1 ≤ length (job .code .prog)
-  end-least = rw job-end (limits-hold (trailer bs) (p .limits) .count-least)
-
-  pub end-most : length (job .code .prog) ≤ 512
-  end-most = rw job-end (limits-hold (trailer bs) (p .limits) .count-most)
-
   pub cells-most : job .code .cells ≤ 240
   cells-most = rw job-cells (limits-hold (trailer bs) (p .limits) .cells)
-
-  pub window-most : job .code .window ≤ 200
-  window-most = rw job-window (limits-hold (trailer bs) (p .limits) .window)
-
-  pub budget-most : job .budget ≤ 1000000
-  budget-most = rw job-budget (limits-hold (trailer bs) (p .limits) .budget)
-
-  -- "At most 16,384 bytes"
-  pub bytes-most : length bs ≤ 16384
-  unfolding sized
-  bytes-most = leb-true (length bs) 16384 (and-right (leb 16 (length bs)) _ (p .sized))
 
   -- "16 registers and m cells"
   pub init-length : length (job .init) ≡ 16 + job .code .cells

@@ -4,10 +4,10 @@ use mathlib.Core.Path.{_≡_, refl, sym, ap, ap₂, _∙_}
 use mathlib.Core.Bool.{Bool, true, false, not, _&&_, _||_, true≢false}
 use mathlib.Core.List.{List, [], _∷_}
 use Prim.{⊥}
-use Prim.Native.Nat.{ℕ, zero, suc, _+_, _*_, _/_, _≤_}
+use Prim.Native.Nat.{ℕ, zero, suc, _+_, _*_, _/_}
 use native.Mathlib.Omega.{arith}
 use borrow.Author.Tests.{eqb-true, eq-eqb, le-leb}
-use lib.Dec.{eqb, leb}
+use lib.Dec.{eqb}
 use lib.ListN.{length, getD, take}
 use lib.Seq.{take-at}
 use Rattle.location.specs.declared.LocationSet.{LocationSet}
@@ -20,16 +20,15 @@ use Rattle.rules.specs.declared.PairWord.the-variants as words
 use Rattle.rules.specs.declared.Refusal.{Refusal}
 use Rattle.rules.specs.declared.Refusal.the-variants as refusals
 use Rattle.rules.specs.declared.Counts.{Counts}
-use Rattle.rules.specs.declared.PairAnswer.{PairAnswer}
 use Rattle.rules.specs.declared.PairAnswer.the-variants as pairs
 use Rattle.rules.specs.Rules.Instructions.{Observation}
 use Rattle.rules.specs.Rules.Runs.{Job, Result, mispredictingRun, plainRun}
-use Rattle.rules.specs.Rules.JobFile.{Parsed, accepted, rejected, parse, trailer, locations, stateOf, publicOf, wordsAt}
+use Rattle.rules.specs.Rules.JobFile.{Parsed, accepted, rejected, parse, trailer, locations, wordsAt}
 use Rattle.rules.specs.Rules.Calls.{Areas, traceWords, room, workingWords, written, counts, longEnough}
-use Rattle.rules.specs.Rules.Pairs.{withState, alikeFrom, isFinished, sameWords, sameTrace, firstThatFits, pairWord, PairAreas, PairCalled, pairAfter, pairRefused, secondFits, pairFits, pairAccepted, pairParsed, pairCall}
+use Rattle.rules.specs.Rules.Pairs.{withState, alikeFrom, isFinished, sameWords, sameTrace, firstThatFits, pairWord, PairAreas, pairAfter, pairRefused, secondFits, pairFits, pairAccepted, pairParsed, pairCall}
 use Rattle.rules.specs.Rules.Demands.{AlikeOn, plainTraceOf, PairUnaltered, secondState, AlikePublic, SecondJob, RunAreas, SamePlain, OtherPlain, BothFinished, SameTraces, Means, PairMeaning}
 use Rattle.rules.specs.Theorems.JobLaws.{passed, job-init, job-public, length-wordsAt, length-stateOf, parse-other}
-use Rattle.rules.specs.Theorems.CallLaws.{length-traceWords, Runs, plain-trace-runs}
+use Rattle.rules.specs.Theorems.CallLaws.{length-traceWords, plain-trace-runs}
 
 -- ---- words compared
 pub same-words-equal : (a b : List ℕ) → sameWords a b ≡ true → a ≡ b

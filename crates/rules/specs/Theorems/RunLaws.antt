@@ -16,52 +16,52 @@ use Rattle.rules.specs.declared.Stop.{Stop}
 use Rattle.rules.specs.declared.Stop.the-variants.{Finished, Spent, TraceFull}
 use Rattle.rules.specs.Rules.Mispredicting.{Branch, Machine, Step, step, plainStep}
 use Rattle.rules.specs.Rules.Plain.{Code}
-use Rattle.rules.specs.Rules.Loop.{clear, held, ifRoom, ended}
-use Rattle.rules.specs.Rules.Runs.{Log, Result, gather, note, over, fits, hold, run, Job, first, blank, mispredictingRun, plainRun}
-use Rattle.rules.specs.Theorems.LoopLaws.{loop-over, loop-spent, loop-held, loop-step, loop-ind}
+use Rattle.rules.specs.Rules.Loop.{proceed, halted, ifRoom, ended}
+use Rattle.rules.specs.Rules.Runs.{Log, Result, gather, note, over, fits, halt, run, Job, first, blank, mispredictingRun, plainRun}
+use Rattle.rules.specs.Theorems.LoopLaws.{loop-over, loop-spent, loop-halted, loop-step, loop-ind}
 
 -- ---- what holds up a step
-pub hold-fits : (f : Machine → Step) (room : ℕ) (M : Machine) (g : Log) → fits room (f M) g ≡ true → hold f room M g ≡ clear
-unfolding hold
-hold-fits f room M g e = rw e
+pub halt-fits : (f : Machine → Step) (room : ℕ) (M : Machine) (g : Log) → fits room (f M) g ≡ true → halt f room M g ≡ proceed
+unfolding halt
+halt-fits f room M g e = rw e
 
-pub hold-full : (f : Machine → Step) (room : ℕ) (M : Machine) (g : Log) → fits room (f M) g ≡ false → hold f room M g ≡ held TraceFull
-unfolding hold
-hold-full f room M g e = rw e
+pub halt-full : (f : Machine → Step) (room : ℕ) (M : Machine) (g : Log) → fits room (f M) g ≡ false → halt f room M g ≡ halted TraceFull
+unfolding halt
+halt-full f room M g e = rw e
 
-clear≢held : (x : Stop) → clear ≢ held x
-clear≢held x e = let z : _≡_ {A = ℕ} 0 1 = cc in omega arith
+proceed≢halted : (x : Stop) → proceed ≢ halted x
+proceed≢halted x e = let z : _≡_ {A = ℕ} 0 1 = cc in omega arith
 
-clear-fits : (b : Bool) → ifRoom b ≡ clear → b ≡ true
-clear-fits true e = refl
-clear-fits false e = absurd (clear≢held TraceFull (sym e))
+proceed-fits : (b : Bool) → ifRoom b ≡ proceed → b ≡ true
+proceed-fits true e = refl
+proceed-fits false e = absurd (proceed≢halted TraceFull (sym e))
 
-held-full : (b : Bool) (x : Stop) → ifRoom b ≡ held x → (b ≡ false) × (x ≡ TraceFull)
-held-full true x e = absurd (clear≢held x e)
-held-full false x e = (refl, cc)
+halted-full : (b : Bool) (x : Stop) → ifRoom b ≡ halted x → (b ≡ false) × (x ≡ TraceFull)
+halted-full true x e = absurd (proceed≢halted x e)
+halted-full false x e = (refl, cc)
 
 module _ (f : Machine → Step) (code : Code) (room : ℕ) where
   pub run-over : (k : ℕ) (M : Machine) (g : Log) → over code M ≡ true → run f code room k M g ≡ ended Finished M g
   unfolding run
-  run-over k M g e = loop-over (over code) (hold f room) (λ (N : Machine). f N .next) (λ (N : Machine) (h : Log). note N (f N) h) k M g e
+  run-over k M g e = loop-over (over code) (halt f room) (λ (N : Machine). f N .next) (λ (N : Machine) (h : Log). note N (f N) h) k M g e
 
   pub run-spent : (M : Machine) (g : Log) → over code M ≡ false → run f code room zero M g ≡ ended Spent M g
   unfolding run
-  run-spent M g e = loop-spent (over code) (hold f room) (λ (N : Machine). f N .next) (λ (N : Machine) (h : Log). note N (f N) h) M g e
+  run-spent M g e = loop-spent (over code) (halt f room) (λ (N : Machine). f N .next) (λ (N : Machine) (h : Log). note N (f N) h) M g e
 
   pub run-full : (k : ℕ) (M : Machine) (g : Log) → over code M ≡ false → fits room (f M) g ≡ false
       → run f code room (suc k) M g ≡ ended TraceFull M g
   unfolding run
   run-full k M g e h =
-      loop-held (over code) (hold f room) (λ (N : Machine). f N .next) (λ (N : Machine) (h : Log). note N (f N) h) k M g TraceFull e
-      (hold-full f room M g h)
+      loop-halted (over code) (halt f room) (λ (N : Machine). f N .next) (λ (N : Machine) (h : Log). note N (f N) h) k M g TraceFull e
+      (halt-full f room M g h)
 
   pub run-step : (k : ℕ) (M : Machine) (g : Log) → over code M ≡ false → fits room (f M) g ≡ true
       → run f code room (suc k) M g ≡ run f code room k (f M .next) (note M (f M) g)
   unfolding run
   run-step k M g e h =
-      loop-step (over code) (hold f room) (λ (N : Machine). f N .next) (λ (N : Machine) (h : Log). note N (f N) h) k M g e
-      (hold-fits f room M g h)
+      loop-step (over code) (halt f room) (λ (N : Machine). f N .next) (λ (N : Machine) (h : Log). note N (f N) h) k M g e
+      (halt-fits f room M g h)
 
   -- What holds at each way out, and is carried back over each step made, holds of a run.
   module _
@@ -73,11 +73,11 @@ module _ (f : Machine → Step) (code : Code) (room : ℕ) where
       → P k (f M .next) (note M (f M) g) (run f code room k (f M .next) (note M (f M) g))
       → P (suc k) M g (run f code room k (f M .next) (note M (f M) g))) where
     pub run-ind : (k : ℕ) (M : Machine) (g : Log) → P k M g (run f code room k M g)
-    unfolding run hold
+    unfolding run halt
     run-ind =
-        loop-ind (over code) (hold f room) (λ (N : Machine). f N .next) (λ (N : Machine) (h : Log). note N (f N) h) P at-over at-spent
-        (λ k M g x e q. let d = held-full (fits room (f M) g) x q in rw (d .1) (at-full k M g e (d .0)))
-        (λ k M g e q r. at-step k M g e (clear-fits (fits room (f M) g) q) r)
+        loop-ind (over code) (halt f room) (λ (N : Machine). f N .next) (λ (N : Machine) (h : Log). note N (f N) h) P at-over at-spent
+        (λ k M g x e q. let d = halted-full (fits room (f M) g) x q in rw (d .1) (at-full k M g e (d .0)))
+        (λ k M g e q r. at-step k M g e (proceed-fits (fits room (f M) g) q) r)
 
   -- D only grows
   pub full-grows : (k : ℕ) (M : Machine) (g : Log) → Within (g .full) (run f code room k M g .log .full)

@@ -3,16 +3,16 @@
 -- Assumes nothing.
 use mathlib.Core.Path.{_≡_, refl, sym, ap, ap₂, _∙_}
 use mathlib.Core.Bool.{true, false, true≢false}
-use mathlib.Core.List.{List, [], _∷_, _++_, append-assoc}
-use Prim.Native.Nat.{ℕ, zero, suc, _+_, _-_, _*_, _≤_}
+use mathlib.Core.List.{List, _∷_, _++_, append-assoc}
+use Prim.Native.Nat.{ℕ, zero, suc, _+_, _*_, _≤_}
 use native.Mathlib.Omega.{arith}
-use lib.ListN.{length, getD, take, drop, length-append, length-drop, List·getD-append}
+use lib.ListN.{length, take, drop, length-append, length-drop, List·getD-append}
 use lib.Seq.{take-at, length-take-le, getD-append-add, drop-append-seam}
-use Rattle.location.specs.Sets.{empty, member}
+use Rattle.location.specs.Sets.{empty}
 use Rattle.location.specs.SetLaws.{member-empty}
 use Rattle.rules.specs.Rules.Runs.{Job}
 use Rattle.rules.specs.Rules.JobFile.{accepted, parse, trailer, little, locations, wordsAt, stateOf}
-use Rattle.rules.specs.Rules.Demands.{AlikeOn, SameButState, secondState, SecondJob}
+use Rattle.rules.specs.Rules.Demands.{AlikeOn, secondState, SecondJob}
 use Rattle.rules.specs.Theorems.JobLaws.{passed, state-list, list-length}
 
 -- "in the empty set any two are"

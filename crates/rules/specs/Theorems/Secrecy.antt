@@ -12,22 +12,22 @@ use native.Mathlib.Decide.{decLt}
 use lib.Dec.{leb}
 use lib.ListN.{length, getD, List·getD-eq-default}
 use Rattle.location.specs.declared.LocationSet.{LocationSet}
-use Rattle.location.specs.Sets.{empty, single, union, subset, member}
+use Rattle.location.specs.Sets.{empty, single, union, subset}
 use Rattle.location.specs.SetLaws.{Within, within-refl, within-trans, union-within-right, subset-within, member-single}
 use Rattle.rules.specs.declared.Stop.{Stop}
 use Rattle.rules.specs.declared.Stop.the-variants.{Finished, Spent, TraceFull}
 use Rattle.rules.specs.declared.Verdict.the-variants as verdicts
 use Rattle.rules.specs.Rules.Expressions.{tagged}
 use Rattle.rules.specs.Rules.Plain.{at, ownFrom, Code}
-use Rattle.rules.specs.Rules.Mispredicting.{Machine, Step, step, plainStep}
+use Rattle.rules.specs.Rules.Mispredicting.{Machine, Step, step}
 use Rattle.rules.specs.Rules.Loop.{ended}
-use Rattle.rules.specs.Rules.Runs.{Log, Result, note, fits, run, Job, first, blank, mispredictingRun, plainRun, judge, verdict}
+use Rattle.rules.specs.Rules.Runs.{Log, Result, note, fits, run, Job, first, blank, mispredictingRun, judge, verdict}
 use Rattle.rules.specs.Rules.Pairs.{withState}
 use Rattle.rules.specs.Rules.Demands.{AlikeOn}
 use Rattle.rules.specs.Theorems.RunLaws.{run-over, run-spent, run-full, run-step, run-ind, full-grows}
 use Rattle.rules.specs.Theorems.Sizes.{own-length}
 use Rattle.rules.specs.Theorems.Alike.{Agree, Alike, agree-refl}
-use Rattle.rules.specs.Theorems.AlikeSteps.{none, Same, SameStep, same-over, same-gather, same-step, count-step, same-plainStep, count-plainStep}
+use Rattle.rules.specs.Theorems.AlikeSteps.{none, Same, SameStep, same-over, same-gather, same-step, count-step}
 
 -- ---- runs: "Demand 3 compares two whole runs."
 pub record SameResult (D : LocationSet) (r s : Result) : Type 0 where
@@ -150,14 +150,6 @@ module _ (job : Job) (room : ℕ) (vs : List ℕ) (bound : length (job .init) �
   unfolding mispredictingRun withState
   same-runs D w h =
       same-run (step (job .code)) (job .code) room D (λ M N s. same-step (job .code) s) (λ M N s. count-step (job .code) s)
-      (job .budget) (first job) blank (first (withState job vs)) (same-first D h) w
-
-  -- the same of the plain run, with the set that it gathers
-  pub same-plain-runs : (D : LocationSet) → Within (plainRun job room .log .full) D → AlikeOn D (job .init) vs
-      → SameResult D (plainRun job room) (plainRun (withState job vs) room)
-  unfolding plainRun withState
-  same-plain-runs D w h =
-      same-run (plainStep (job .code)) (job .code) room D (λ M N s. same-plainStep (job .code) s) (λ M N s. count-plainStep (job .code) s)
       (job .budget) (first job) blank (first (withState job vs)) (same-first D h) w
 
   -- "Demand 3 compares two whole runs", here with states alike in "the reported set"

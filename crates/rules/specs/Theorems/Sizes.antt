@@ -1,6 +1,6 @@
 -- No instruction changes how many locations there are.
 -- Assumes nothing.
-use mathlib.Core.Path.{_≡_, refl, sym, ap, _∙_}
+use mathlib.Core.Path.{_≡_, refl, ap, _∙_}
 use mathlib.Core.Bool.{Bool, true, false, cond}
 use mathlib.Core.List.{List, [], _∷_}
 use Prim.Native.Nat.{ℕ, suc}
@@ -9,10 +9,10 @@ use lib.ListN.{length, length-set}
 use Rattle.location.specs.Sets.{cellLocation}
 use Rattle.rules.specs.declared.Tagged.{Tagged}
 use Rattle.rules.specs.Rules.Instructions.{Instr, skip, assign, load, store, jmp, beqz, cassign, spbarr}
-use Rattle.rules.specs.Rules.Plain.{State, at, put, ownFrom, values, Code, joined, storedTo, fetch, exec}
+use Rattle.rules.specs.Rules.Plain.{State, put, ownFrom, values, Code, joined, storedTo, fetch, exec}
 use Rattle.rules.specs.Rules.Mispredicting.{Machine, plainStep, ordinary}
 use Rattle.rules.specs.Rules.Loop.{ended}
-use Rattle.rules.specs.Rules.Runs.{Log, Result, Job, first, blank, run, plainRun}
+use Rattle.rules.specs.Rules.Runs.{Log, Job, first, blank, run, plainRun}
 use Rattle.rules.specs.Theorems.RunLaws.{run-ind}
 
 pub own-length : (i : ℕ) (vs : List ℕ) → length (ownFrom i vs) ≡ length vs

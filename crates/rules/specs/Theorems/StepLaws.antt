@@ -8,7 +8,7 @@ use Prim.Native.Nat.{ℕ, _<_}
 use lib.Dec.{eqb, leb}
 use borrow.Author.Tests.{eqb-false, leb-false}
 use Rattle.rules.specs.Rules.Instructions.{Instr, skip, assign, load, store, jmp, beqz, cassign, spbarr, kind}
-use Rattle.rules.specs.Rules.Plain.{State, Code, end, fetch}
+use Rattle.rules.specs.Rules.Plain.{State, Code, endPlace, fetch}
 use Rattle.rules.specs.Rules.Mispredicting.{Branch, Machine, Step, ordinary, opening, forward, rolling, expired, stepOn, step}
 
 -- a machine and a branch by their fields
@@ -38,14 +38,14 @@ unfolding ordinary opening
 forward-back code M = forward-cases code M (λ i s. s .back ≡ 0) (λ i e. refl) (λ r l. refl)
 
 -- a branch that has not expired has some window left, and the place is not END
-pub expired-false : (code : Code) (p : ℕ) (b : Branch) → expired code p b ≡ false → (b .window ≢ 0) × (p < end code)
+pub expired-false : (code : Code) (p : ℕ) (b : Branch) → expired code p b ≡ false → (b .window ≢ 0) × (p < endPlace code)
 unfolding expired
-expired-false code p b = go (eqb (b .window) 0) (leb (end code) p) refl refl
+expired-false code p b = go (eqb (b .window) 0) (leb (endPlace code) p) refl refl
   where
-    go : (x y : Bool) → eqb (b .window) 0 ≡ x → leb (end code) p ≡ y → (x || y) ≡ false → (b .window ≢ 0) × (p < end code)
+    go : (x y : Bool) → eqb (b .window) 0 ≡ x → leb (endPlace code) p ≡ y → (x || y) ≡ false → (b .window ≢ 0) × (p < endPlace code)
     go true y e f h = absurd (true≢false h)
     go false true e f h = absurd (true≢false h)
-    go false false e f h = (eqb-false (b .window) 0 e, leb-false (end code) p f)
+    go false false e f h = (eqb-false (b .window) 0 e, leb-false (endPlace code) p f)
 
 -- with nothing open a step carries the instruction out
 pub step-empty : (code : Code) (σ : State) (p n : ℕ)

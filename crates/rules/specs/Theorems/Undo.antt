@@ -15,39 +15,24 @@ use Rattle.rules.specs.declared.Tagged.{Tagged}
 use Rattle.rules.specs.Rules.Expressions.{eval}
 use Rattle.rules.specs.Rules.Instructions.{Instr, skip, assign, load, store, jmp, beqz, cassign, spbarr, kind, windowCosts}
 use Rattle.rules.specs.Rules.Plain.{State, at, put, Code, fetch, joined, storedTo, branchTo, exec}
-use Rattle.rules.specs.Rules.Mispredicting.{Branch, Machine, Step, remaining, lowered, lower, ordinary, newWindow, opening, forward, rolling, step, plainStep}
+use Rattle.rules.specs.Rules.Mispredicting.{Branch, Machine, Step, remaining, lowered, lower, ordinary, newWindow, opening, forward, rolling, step}
 use Rattle.rules.specs.Rules.Loop.{ended}
-use Rattle.rules.specs.Rules.Runs.{over, run, Job, first, blank, mispredictingRun, plainRun}
+use Rattle.rules.specs.Rules.Runs.{over, Job, first, blank, mispredictingRun}
 use Rattle.rules.specs.Theorems.RunLaws.{run-ind}
 use Rattle.rules.specs.Theorems.StepLaws.{machineWith, branchWith, forward-cases, forward-back, expired-false, step-cases}
 
 -- ---- the machines that a run comes to
--- by the step function f: the first, and the next of one that is not over
-pub data ReachedBy (f : Machine → Step) (job : Job) : Machine → Type 0 where
-  at-first : ReachedBy f job (first job)
-  at-next : {M : Machine} → over (job .code) M ≡ false → ReachedBy f job M → ReachedBy f job (f M .next)
-
-abbrev pub Reached : Job → Machine → Type 0
-Reached job = ReachedBy (step (job .code)) job
-
-abbrev pub PlainReached : Job → Machine → Type 0
-PlainReached job = ReachedBy (plainStep (job .code)) job
+-- the first, and the next of one that is not over
+pub data Reached (job : Job) : Machine → Type 0 where
+  at-first : Reached job (first job)
+  at-next : {M : Machine} → over (job .code) M ≡ false → Reached job M → Reached job (step (job .code) M .next)
 
 -- "Execution starts at label 0", and each step goes to the next: a run ends at one of them.
-run-reached : (f : Machine → Step) (job : Job) (room : ℕ)
-    → ReachedBy f job (run f (job .code) room (job .budget) (first job) blank .last)
-unfolding ended
-run-reached f job room =
-    run-ind f (job .code) room (λ k M g r. ReachedBy f job M → ReachedBy f job (r .last)) (λ k M g e x. x) (λ M g e x. x)
-    (λ k M g e h x. x) (λ k M g e h p x. p (at-next e x)) (job .budget) (first job) blank at-first
-
 pub last-reached : (job : Job) (room : ℕ) → Reached job (mispredictingRun job room .last)
-unfolding mispredictingRun
-last-reached job room = run-reached (step (job .code)) job room
-
-pub plain-last-reached : (job : Job) (room : ℕ) → PlainReached job (plainRun job room .last)
-unfolding plainRun
-plain-last-reached job room = run-reached (plainStep (job .code)) job room
+unfolding mispredictingRun ended
+last-reached job room =
+    run-ind (step (job .code)) (job .code) room (λ k M g r. Reached job M → Reached job (r .last)) (λ k M g e x. x) (λ M g e x. x)
+    (λ k M g e h x. x) (λ k M g e h p x. p (at-next e x)) (job .budget) (first job) blank at-first
 
 -- ---- changes of a place, and undoing them
 -- a location with what it held before
@@ -55,21 +40,21 @@ pub record Change : Type 0 where
   pub location : ℕ
   pub before : Tagged
 
-abbrev changeAt : State → ℕ → Change
-changeAt σ l = record { location = l; before = at σ l }
+abbrev changeOf : State → ℕ → Change
+changeOf σ l = record { location = l; before = at σ l }
 
 -- The change of a place that an instruction makes, if it makes one: "a store there changes nothing"; a conditional assignment not
 -- taken changes the register's set.
 unfoldable pub changes : Code → State → Instr → List Change
 changes code σ skip = []
-changes code σ (assign r e) = changeAt σ (registerLocation r) ∷ []
-changes code σ (load r e) = changeAt σ (registerLocation r) ∷ []
+changes code σ (assign r e) = changeOf σ (registerLocation r) ∷ []
+changes code σ (load r e) = changeOf σ (registerLocation r) ∷ []
 changes code σ (store r e) =
     let a = eval (at σ) e in
-    cond (ltb (a .value) (code .cells)) (changeAt σ (cellLocation (a .value)) ∷ []) []
+    cond (ltb (a .value) (code .cells)) (changeOf σ (cellLocation (a .value)) ∷ []) []
 changes code σ (jmp e) = []
 changes code σ (beqz r l) = []
-changes code σ (cassign r c e) = changeAt σ (registerLocation r) ∷ []
+changes code σ (cassign r c e) = changeOf σ (registerLocation r) ∷ []
 changes code σ spbarr = []
 
 -- the state before some changes, the newest first
@@ -91,7 +76,7 @@ restore-exec code σ p (load r e) us = rw put-back
 restore-exec code σ p (store r e) us = go (ltb (eval (at σ) e .value) (code .cells))
   where
     go : (x : Bool) → (let a = eval (at σ) e in let l = cellLocation (a .value) in let t = joined (at σ (registerLocation r)) (a .deps) in
-        restore (cond x (changeAt σ l ∷ []) [] ++ us) (cond x (put σ l t) σ) ≡ restore us σ)
+        restore (cond x (changeOf σ l ∷ []) [] ++ us) (cond x (put σ l t) σ) ≡ restore us σ)
     go true = rw put-back
     go false = refl
 restore-exec code σ p (jmp e) us = refl
@@ -107,7 +92,7 @@ changes-one code σ (assign r e) = omega arith
 changes-one code σ (load r e) = omega arith
 changes-one code σ (store r e) = go (ltb (eval (at σ) e .value) (code .cells))
   where
-    go : (x : Bool) → length (cond x (changeAt σ (cellLocation (eval (at σ) e .value)) ∷ []) []) ≤ 1
+    go : (x : Bool) → length (cond x (changeOf σ (cellLocation (eval (at σ) e .value)) ∷ []) []) ≤ 1
     go true = omega arith
     go false = omega arith
 changes-one code σ (jmp e) = omega arith

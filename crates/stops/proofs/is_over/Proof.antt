@@ -1,10 +1,7 @@
 -- `stops::is_over` meets its contract. Assumes nothing.
 use Rattle.stops.proofs.Laws.{closed-zero, closed-open}
-use borrow.Author.Needs.{needs}
 use Rattle.stops.proofs.is_over.Statement.{statement}
 use Rattle.stops.proofs.is_over.Tie as tie
-use Rattle.stops.proofs.is_over.Reads as reads
-use Rattle.stops.proofs.is_over.Lts as lts
 
 returns : tie.Need-returns
 returns c = closed-zero _ _ _ (c .before .if1 .taken)

@@ -3,8 +3,6 @@ use mathlib.Core.Path.{refl}
 use Rattle.location.specs.Sets.{empty, none}
 use Rattle.location.proofs.LocationSet.empty.Statement.{statement}
 use Rattle.location.proofs.LocationSet.empty.Tie as tie
-use Rattle.location.proofs.LocationSet.empty.Reads as reads
-use Rattle.location.proofs.LocationSet.empty.Lts as lts
 
 returns : tie.Need-returns
 unfolding empty none

@@ -7,8 +7,6 @@ use Rattle.location.specs.SetLaws.{has-out}
 use borrow.Author.Needs.{needs}
 use Rattle.location.proofs.LocationSet.member.Statement.{statement}
 use Rattle.location.proofs.LocationSet.member.Tie as tie
-use Rattle.location.proofs.LocationSet.member.Reads as reads
-use Rattle.location.proofs.LocationSet.member.Lts as lts
 
 returns : tie.Need-returns
 unfolding member

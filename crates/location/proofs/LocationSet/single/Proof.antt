@@ -1,18 +1,14 @@
 -- `LocationSet::single` meets its contract: from the limit on it is the empty set. Assumes nothing.
-use mathlib.Core.Path.{_≡_, refl, sym, ap, _∙_}
+use mathlib.Core.Path.{sym, ap, _∙_}
 use mathlib.Core.List.{List}
 use Prim.Native.Nat.{ℕ, _%_}
 use native.Mathlib.Omega.{arith}
-use Rattle.location.specs.declared.LocationSet.{LocationSet}
 use Rattle.location.specs.Sets.{empty, single, only, none}
 use Rattle.location.specs.SetLaws.{only-out}
 use Rattle.location.proofs.Laws.{word-bit}
 use borrow.Author.Needs.{needs}
 use Rattle.location.proofs.LocationSet.single.Statement.{statement}
 use Rattle.location.proofs.LocationSet.single.Tie as tie
-use Rattle.location.proofs.LocationSet.single.Reads as reads
-use Rattle.location.proofs.LocationSet.single.Lts as lts
-use Rattle.location.proofs.LocationSet.empty.Reads as empty-reads
 
 empty-requires : tie.Need-empty-requires
 empty-requires c κs = search needs

@@ -12,8 +12,6 @@ use Rattle.location.specs.Sets.{subset, inside}
 use Rattle.location.proofs.Laws.{inside-step}
 use Rattle.location.proofs.LocationSet.subset.Statement.{statement}
 use Rattle.location.proofs.LocationSet.subset.Tie as tie
-use Rattle.location.proofs.LocationSet.subset.Reads as reads
-use Rattle.location.proofs.LocationSet.subset.Lts as lts
 
 abbrev Inv-loop : tie.InvT-loop
 Inv-loop a b i₀ i = (length a ≡ 4) × (length b ≡ 4) × (i ≤ 4) × (inside (drop i a) (drop i b) ≡ inside a b)

@@ -2,14 +2,11 @@
 use mathlib.Core.Path.{ap}
 use mathlib.Core.List.{List}
 use Prim.Native.Nat.{ℕ}
-use Rattle.location.specs.declared.LocationSet.{LocationSet}
 use Rattle.location.specs.Sets.{union}
 use Rattle.location.proofs.Laws.{either-table}
 use borrow.Author.Needs.{needs}
 use Rattle.location.proofs.LocationSet.union.Statement.{statement}
 use Rattle.location.proofs.LocationSet.union.Tie as tie
-use Rattle.location.proofs.LocationSet.union.Reads as reads
-use Rattle.location.proofs.LocationSet.union.Lts as lts
 
 array-read-t7 : tie.Need-array-read-t7
 array-read-t7 c = search needs

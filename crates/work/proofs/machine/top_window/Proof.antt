@@ -1,6 +1,5 @@
 -- `top_window` meets its contract: the window is that of the last branch. Assumes nothing.
 use mathlib.Core.Path.{ap, _∙_}
-use Prim.Native.Nat.{_-_}
 use native.Mathlib.Omega.{arith}
 use Rattle.work.specs.declared.BranchEntry.{BranchEntry}
 use Rattle.work.proofs.Moves.{fit-bound, window-above}
