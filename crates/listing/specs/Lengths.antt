@@ -23,15 +23,15 @@ use Rattle.rules.specs.Rules.Listing.{digits, decimal, line, numberLine, placeT
 use Rattle.listing.specs.Lines.{observationsIn}
 
 -- one of two texts
-either-length : (b : Bool) (x y : List ℕ) (m : ℕ) → length x ≤ m → length y ≤ m → length (cond b x y) ≤ m
-either-length true x y m p q = p
-either-length false x y m p q = q
+cond-length : (b : Bool) (x y : List ℕ) (m : ℕ) → length x ≤ m → length y ≤ m → length (cond b x y) ≤ m
+cond-length true x y m p q = p
+cond-length false x y m p q = q
 
 digits-length : (k n : ℕ) (rest : List ℕ) → length (digits k n rest) ≤ k + length rest
 unfolding digits
 digits-length zero n rest = omega arith
 digits-length (suc k) n rest =
-    either-length (ltb n 10) ((48 + n) ∷ rest) (digits k (n / 10) ((48 + n % 10) ∷ rest)) (suc k + length rest) (omega arith)
+    cond-length (ltb n 10) ((48 + n) ∷ rest) (digits k (n / 10) ((48 + n % 10) ∷ rest)) (suc k + length rest) (omega arith)
     (omega (arith, digits-length k (n / 10) ((48 + n % 10) ∷ rest)))
 
 decimal-length : (n : ℕ) → length (decimal n) ≤ 20
@@ -55,7 +55,7 @@ unfolding observationLine text placeText
 observation-length n (start i) = omega (arith, number-line-bound (text "start") i)
 observation-length n (rollback i) = omega (arith, number-line-bound (text "rollback") i)
 observation-length n (pc p) =
-    omega (arith, line-length (text "pc") (32 ∷ placeText n p), either-length (eqb p n) (text "end") (decimal p) 20 (omega arith) (decimal-length p))
+    omega (arith, line-length (text "pc") (32 ∷ placeText n p), cond-length (eqb p n) (text "end") (decimal p) 20 (omega arith) (decimal-length p))
 observation-length n (loaded a) = omega (arith, number-line-bound (text "load") a)
 observation-length n (stored a) = omega (arith, number-line-bound (text "store") a)
 
@@ -76,7 +76,7 @@ observed-length (suc k) (x ∷ v ∷ ws) = omega (arith, observed-length k ws)
 location-length : (l : ℕ) → length (locationText l) ≤ 22
 unfolding locationText text
 location-length l =
-    either-length (ltb l registers) (text " r" ++ decimal l) (text " m" ++ decimal (l - registers)) 22 (omega (arith, decimal-length l))
+    cond-length (ltb l registers) (text " r" ++ decimal l) (text " m" ++ decimal (l - registers)) 22 (omega (arith, decimal-length l))
     (omega (arith, decimal-length (l - registers)))
 
 members-length : (s : LocationSet) (l k : ℕ) → length (members s l k) ≤ 22 * k
@@ -86,7 +86,7 @@ members-length s l (suc k) =
     omega (
       arith,
       length-append (cond (member s l) (locationText l) []) (members s (l + 1) k),
-      either-length (member s l) (locationText l) [] 22 (location-length l) (omega arith),
+      cond-length (member s l) (locationText l) [] 22 (location-length l) (omega arith),
       members-length s (l + 1) k,
     )
 

@@ -16,9 +16,9 @@ use Rattle.rules.specs.Rules.Listing.{numberLine, answerLines, listingOf, listi
 use Rattle.show.specs.declared.Reading.{Reading}
 use Rattle.show.specs.declared.Reading.the-variants as readings
 
-abbrev pub Within : Reading → ℕ → Type 0
-Within (readings.Bytes n) size = n ≤ size
-Within readings.Failed size = Unit {0}
+abbrev pub InBuffer : Reading → ℕ → Type 0
+InBuffer (readings.Bytes n) size = n ≤ size
+InBuffer readings.Failed size = Unit {0}
 
 -- "refused 1" for a full buffer
 abbrev pub FullRefused : Reading → List ℕ → Type 0

@@ -3,7 +3,7 @@
 // Assumed of the system: what the toolchain's libraries say of open, read and write.
 use libc::STDOUT_FILENO;
 ghost use lib.ListN.{length};
-ghost use Rattle.show.specs.Reading.{Within, FullRefused};
+ghost use Rattle.show.specs.Reading.{InBuffer, FullRefused};
 
 // One byte more than a job may have: a longer file is seen to be too long, and is read no further.
 const MOST: usize = 16385;
@@ -16,7 +16,7 @@ enum Reading {
 
 // Reads until the buffer is full or the file ends. A failure is told at once, while the system still knows its cause.
 fn read_all(fd: i32, path: &[u8], buffer: &mut [u8]) -> Reading
-    ensures { λ r. ⌜ Within r (length (now (buffer .exit))) ⌝ }
+    ensures { λ r. ⌜ InBuffer r (length (now (buffer .exit))) ⌝ }
 {
     let mut done = 0;
     while done < buffer.len() {
@@ -36,7 +36,7 @@ fn read_all(fd: i32, path: &[u8], buffer: &mut [u8]) -> Reading
 
 // A name that no file has is an empty job; any other failure is told. A file that fills the buffer is refused, whatever follows.
 fn read_file(path: &[u8], buffer: &mut [u8; MOST]) -> Reading
-    ensures within { λ r. ⌜ Within r (length (now (buffer .exit))) ⌝ }
+    ensures within { λ r. ⌜ InBuffer r (length (now (buffer .exit))) ⌝ }
     ensures whole { λ r. ⌜ FullRefused r (now (buffer .exit)) ⌝ }
 {
     let fd = os::open_read(path);

@@ -10,11 +10,11 @@ use Rattle.location.specs.Sets.{limit}
 use Rattle.rules.specs.declared.Tagged.{Tagged}
 use Rattle.rules.specs.Rules.Calls.{workingWords}
 use Rattle.rules.specs.Rules.Plain.{State}
-use Rattle.rules.specs.Theorems.Undo.{Change}
+use Rattle.rules.specs.Theorems.Undo.{Change, restore}
 use Rattle.work.specs.declared.BranchEntry.{BranchEntry}
 use Rattle.work.specs.Layout.{changeBase, branchBase, firstBranch}
 use Rattle.work.specs.Words.{changeAt, changed, entryAt, entryStored}
-use Rattle.work.specs.Machines.{stateIn, lastChanges, restored, savedAt, branchesOf, maxWindow, WindowBound}
+use Rattle.work.specs.Machines.{stateIn, lastChanges, savedAt, branchesOf, maxWindow, WindowBound}
 use Rattle.work.specs.Moves.{lowerTo}
 use Rattle.work.proofs.Laws.{length-changed}
 use Rattle.work.proofs.Ranges.{same-before, same-after, change-same, entry-same, entry-stored, withWindow, entry-window}
@@ -29,7 +29,7 @@ branches-agree e e′ g g′ σ k (suc d) he hg h =
     let l = h .0 in
     let E = he d (le-refl (suc d)) in
     let C = changes-agree g g′ k (k - m) hg in
-    let S : savedAt g σ k m ≡ savedAt g′ σ k (e′ d .mark) = ap (restored σ) C ∙ ap (λ (b : BranchEntry). savedAt g′ σ k (b .mark)) E in
+    let S : savedAt g σ k m ≡ savedAt g′ σ k (e′ d .mark) = ap (λ (us : List Change). restore us σ) C ∙ ap (λ (b : BranchEntry). savedAt g′ σ k (b .mark)) E in
     let R = branches-agree e e′ g g′ (savedAt g σ k m) m d (λ j i. he j (omega arith)) (λ j i. hg j (omega arith)) (h .2) in
     let R′ = R ∙ (λ t. branchesOf e′ g′ (S t) (E t .mark) d) in
     λ t. record { id = E t .id; saved = S t; target = E t .target; window = E t .window } ∷ R′ t
@@ -97,7 +97,7 @@ module _ (w w₁ : List ℕ) (n k k₁ d v : ℕ) (x : Extends w w₁ n k k₁ d
   saved₂ =
       let E = changes-agree (changeAt w₂) (changeAt w₁) k₁ (k₁ - m) logs₁ in
       ap (λ (b : BranchEntry). savedAt (changeAt w₂) (stateIn w₂ n) k₁ (b .mark)) top
-      ∙ (λ t. restored (lowered-state t) (E t))
+      ∙ (λ t. restore (E t) (lowered-state t))
       ∙ x .saved m (h .0)
 
   rest : branchesOf (entryAt w₂) (changeAt w₂) σ m d ≡ branchesOf (entryAt w) (changeAt w) σ m d
@@ -146,7 +146,7 @@ module _ (w : List ℕ) (n k d : ℕ) (b : BranchEntry) (hn : n ≤ limit) (room
   saved₃ =
       let z : k - k ≡ 0 = omega arith in
       ap (savedAt (changeAt w₃) (stateIn w₃ n) k) mark₃
-      ∙ ap (λ (x : ℕ). restored (stateIn w₃ n) (lastChanges (changeAt w₃) k x)) z
+      ∙ ap (λ (x : ℕ). restore (lastChanges (changeAt w₃) k x) (stateIn w₃ n)) z
       ∙ pushed-state
 
   pub pushed-branches : branchesOf (entryAt w₃) (changeAt w₃) (stateIn w₃ n) k (suc d)

@@ -17,7 +17,7 @@ use Rattle.work.specs.Words.{taggedIn, storedIn, changeAt, entryAt, entr
 use Rattle.work.proofs.Laws.{four}
 
 -- the n words from one on are the same in both
-pub record Same (w w′ : List ℕ) (from n : ℕ) : Type 0 where
+pub record SameRange (w w′ : List ℕ) (from n : ℕ) : Type 0 where
   pub word : (j : ℕ) → j < n → getD w (from + j) 0 ≡ getD w′ (from + j) 0
 
 before-sets : (vs w : List ℕ) (i j : ℕ) → j < i → getD (sets w i vs) j 0 ≡ getD w j 0
@@ -41,13 +41,13 @@ drop-sets [] w i n h = refl
 drop-sets (a ∷ vs) w i n h = drop-sets vs (set w i a) (suc i) n (omega arith) ∙ drop-set-lt n w i a (omega arith)
 
 -- ---- where words are the same
-pub same-before : (vs w : List ℕ) (i from n : ℕ) → from + n ≤ i → Same (sets w i vs) w from n
+pub same-before : (vs w : List ℕ) (i from n : ℕ) → from + n ≤ i → SameRange (sets w i vs) w from n
 same-before vs w i from n h = record { word = λ j l. before-sets vs w i (from + j) (omega arith) }
 
-pub same-after : (vs w : List ℕ) (i from n : ℕ) → i + length vs ≤ from → Same (sets w i vs) w from n
+pub same-after : (vs w : List ℕ) (i from n : ℕ) → i + length vs ≤ from → SameRange (sets w i vs) w from n
 same-after vs w i from n h = record { word = λ j l. after-sets vs w i (from + j) (omega arith) }
 
-pub same-past : (w w′ : List ℕ) (m from n : ℕ) → m ≤ from → drop m w ≡ drop m w′ → Same w w′ from n
+pub same-past : (w w′ : List ℕ) (m from n : ℕ) → m ≤ from → drop m w ≡ drop m w′ → SameRange w w′ from n
 same-past w w′ m from n h d =
     record {
       word = λ j l.
@@ -62,10 +62,10 @@ drop-past w w′ m n h d =
     rw (e, ← drop-drop (n - m) m w, ← drop-drop (n - m) m w′, d)
 
 -- ---- what is read there
-first-same : {w w′ : List ℕ} {i n : ℕ} → Same w w′ i n → 0 < n → getD w i 0 ≡ getD w′ i 0
+first-same : {w w′ : List ℕ} {i n : ℕ} → SameRange w w′ i n → 0 < n → getD w i 0 ≡ getD w′ i 0
 first-same {w} {w′} {i} s h = ap (λ (j : ℕ). getD w j 0) (sym (add-zero i)) ∙ s .word 0 h ∙ ap (λ (j : ℕ). getD w′ j 0) (add-zero i)
 
-pub tagged-same : {w w′ : List ℕ} {i : ℕ} → Same w w′ i 5 → taggedIn w i ≡ taggedIn w′ i
+pub tagged-same : {w w′ : List ℕ} {i : ℕ} → SameRange w w′ i 5 → taggedIn w i ≡ taggedIn w′ i
 tagged-same s =
     let e₀ = first-same s (lit< tt) in
     let e₁ = s .word 1 (lit< tt) in
@@ -74,14 +74,14 @@ tagged-same s =
     let e₄ = s .word 4 (lit< tt) in
     λ t. record { value = e₀ t; deps = record { words = e₁ t ∷ e₂ t ∷ e₃ t ∷ e₄ t ∷ [] } }
 
-pub change-same : {w w′ : List ℕ} (k : ℕ) → Same w w′ (changeBase k) 6 → changeAt w k ≡ changeAt w′ k
+pub change-same : {w w′ : List ℕ} (k : ℕ) → SameRange w w′ (changeBase k) 6 → changeAt w k ≡ changeAt w′ k
 change-same {w} {w′} k s =
     let e = first-same s (lit< tt) in
-    let x : Same w w′ (changeBase k + 1) 5 = record
+    let x : SameRange w w′ (changeBase k + 1) 5 = record
     { word = λ j l. let p : changeBase k + 1 + j ≡ changeBase k + (1 + j) = omega arith in rw p (s .word (1 + j) (omega arith)) } in
     λ t. record { location = e t % limit; before = tagged-same x t }
 
-pub entry-same : {w w′ : List ℕ} (k : ℕ) → Same w w′ (branchBase k) 4 → entryAt w k ≡ entryAt w′ k
+pub entry-same : {w w′ : List ℕ} (k : ℕ) → SameRange w w′ (branchBase k) 4 → entryAt w k ≡ entryAt w′ k
 entry-same k s =
     let e₀ = first-same s (lit< tt) in
     let e₁ = s .word 1 (lit< tt) in

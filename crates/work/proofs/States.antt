@@ -12,10 +12,10 @@ use Rattle.location.specs.Sets.{limit, empty}
 use Rattle.rules.specs.declared.Tagged.{Tagged}
 use Rattle.rules.specs.Rules.Expressions.{tagged}
 use Rattle.rules.specs.Rules.Plain.{State, at, put}
-use Rattle.rules.specs.Theorems.Undo.{Change}
+use Rattle.rules.specs.Theorems.Undo.{Change, restore}
 use Rattle.work.specs.Layout.{operandBase, changeBase, branchBase, logBase}
 use Rattle.work.specs.Words.{taggedAt, stored, changeAt, changed, undone, entryAt, taggedWords}
-use Rattle.work.specs.Machines.{stateFrom, stateIn, lastChanges, restored, savedAt}
+use Rattle.work.specs.Machines.{stateFrom, stateIn, lastChanges, savedAt}
 use Rattle.work.proofs.Ranges.{same-before, same-after, tagged-same, change-same, entry-same, log-same, tagged-stored, change-stored, drop-sets}
 
 -- ---- one operand stored
@@ -101,7 +101,7 @@ length-undone w (suc k) (suc j) =
     ∙ length-sets w (operandBase (x .location)) (taggedWords (x .before))
 
 pub state-undone : (w : List ℕ) (n k j : ℕ) → logBase ≤ length w
-    → stateIn (undone w k j) n ≡ restored (stateIn w n) (lastChanges (changeAt w) k j)
+    → stateIn (undone w k j) n ≡ restore (lastChanges (changeAt w) k j) (stateIn w n)
 state-undone w n k zero f = refl
 state-undone w n zero (suc j) f = refl
 state-undone w n (suc k) (suc j) f =
@@ -111,7 +111,7 @@ state-undone w n (suc k) (suc j) f =
     let f₁ : logBase ≤ length w₁ = rw (length-sets w (operandBase (x .location)) vs) f in
     let S = state-stored w n (x .location) (x .before) refl (omega arith) in
     let G = log-same w₁ w (drop-sets vs w (operandBase (x .location)) logBase (omega arith)) in
-    state-undone w₁ n k j f₁ ∙ (λ t. restored (S t) (lastChanges (G t) k j))
+    state-undone w₁ n k j f₁ ∙ (λ t. restore (lastChanges (G t) k j) (S t))
 
 -- ---- a change logged
 pub changes-agree : (g g′ : ℕ → Change) (k j : ℕ) → ((i : ℕ) → i < k → g i ≡ g′ i) → lastChanges g k j ≡ lastChanges g′ k j
@@ -159,6 +159,6 @@ module _ (w : List ℕ) (n k l : ℕ) (v : Tagged) (hn : n ≤ limit) (hl : l < 
       let w₁ = changed w k l v in
       let s : k + 1 - m ≡ suc (k - m) = omega arith in
       let E = changes-agree (changeAt w₁) (changeAt w) k (k - m) changed-before in
-      ap₂ (λ (a b : ℕ). restored (stateIn w₁ n) (lastChanges (changeAt w₁) a b)) (add-one k) s
-      ∙ (λ t. restored (put (changed-state t) (the-change t .location) (the-change t .before)) (E t))
-      ∙ ap (λ (σ : State). restored σ (lastChanges (changeAt w) k (k - m))) back
+      ap₂ (λ (a b : ℕ). restore (lastChanges (changeAt w₁) a b) (stateIn w₁ n)) (add-one k) s
+      ∙ (λ t. restore (E t) (put (changed-state t) (the-change t .location) (the-change t .before)))
+      ∙ ap (λ (σ : State). restore (lastChanges (changeAt w) k (k - m)) σ) back

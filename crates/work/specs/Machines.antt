@@ -6,9 +6,9 @@ use mathlib.Core.List.{List, [], _∷_}
 use Prim.Native.Nat.{ℕ, zero, suc, _+_, _-_, _≤_}
 use lib.ListN.{length}
 use Rattle.rules.specs.Rules.Calls.{workingWords}
-use Rattle.rules.specs.Rules.Plain.{State, put}
+use Rattle.rules.specs.Rules.Plain.{State}
 use Rattle.rules.specs.Rules.Mispredicting.{Branch, Machine}
-use Rattle.rules.specs.Theorems.Undo.{Change}
+use Rattle.rules.specs.Theorems.Undo.{Change, restore}
 use Rattle.work.specs.declared.BranchEntry.{BranchEntry}
 use Rattle.work.specs.declared.machine.Control.{Control}
 use Rattle.work.specs.Words.{taggedAt, changeAt, entryAt}
@@ -27,13 +27,9 @@ lastChanges g k zero = []
 lastChanges g zero (suc j) = []
 lastChanges g (suc k) (suc j) = g k ∷ lastChanges g k j
 
-abbrev pub restored : State → List Change → State
-restored σ [] = σ
-restored σ (x ∷ xs) = restored (put σ (x .location) (x .before)) xs
-
 -- the state when the log had `mark` changes, where now it has k
 abbrev pub savedAt : (ℕ → Change) → State → ℕ → ℕ → State
-savedAt g σ k mark = restored σ (lastChanges g k (k - mark))
+savedAt g σ k mark = restore (lastChanges g k (k - mark)) σ
 
 -- the d open branches, the last one first, where e i is the entry of branch number i, and the log has k changes
 abbrev pub branchesOf : (ℕ → BranchEntry) → (ℕ → Change) → State → ℕ → ℕ → List Branch

@@ -45,8 +45,8 @@ unfoldable pub job : ℕ → ℕ → ℕ → List ℕ
 job r0 w b = file printedProgram 4 (state r0 1 1) public w b
 
 -- start 0, pc 2, load 1, load 3, rollback 0, pc end
-unfoldable pub whole : List ℕ
-whole = 0 ∷ 0 ∷ 2 ∷ 2 ∷ 3 ∷ 1 ∷ 3 ∷ 3 ∷ 1 ∷ 0 ∷ 2 ∷ 4 ∷ []
+unfoldable pub wholeTrace : List ℕ
+wholeTrace = 0 ∷ 0 ∷ 2 ∷ 2 ∷ 3 ∷ 1 ∷ 3 ∷ 3 ∷ 1 ∷ 0 ∷ 2 ∷ 4 ∷ []
 
 unfoldable pub r01 : List ℕ
 r01 = 0 ∷ 1 ∷ []
@@ -66,19 +66,19 @@ unfoldable pub document01 : List Row
 document01 =
     -- the printed run: its listing, and as a call
     prints (job 1 10 100) listing01
-    ∷ run (job 1 10 100) 1024 whole (ran Finished 6 5 1 r01m1 r01 Speculative)
+    ∷ run (job 1 10 100) 1024 wholeTrace (ran Finished 6 5 1 r01m1 r01 Speculative)
     -- w 0: four observations, 3 steps, clean
     ∷ run (job 1 0 100) 1024 (0 ∷ 0 ∷ 2 ∷ 2 ∷ 1 ∷ 0 ∷ 2 ∷ 4 ∷ []) (ran Finished 4 3 1 r01 r01 Clean)
     -- w 1: load 1 only, 4 steps, clean
     ∷ run (job 1 1 100) 1024 (0 ∷ 0 ∷ 2 ∷ 2 ∷ 3 ∷ 1 ∷ 1 ∷ 0 ∷ 2 ∷ 4 ∷ []) (ran Finished 5 4 1 r01 r01 Clean)
     -- w 2: as printed
-    ∷ run (job 1 2 100) 1024 whole (ran Finished 6 5 1 r01m1 r01 Speculative)
+    ∷ run (job 1 2 100) 1024 wholeTrace (ran Finished 6 5 1 r01m1 r01 Speculative)
     -- b 0: spent, no observation
     ∷ run (job 1 10 0) 1024 [] (ran Spent 0 0 0 [] [] Undecided)
     -- b 4: spent after load 3
     ∷ run (job 1 10 4) 1024 (0 ∷ 0 ∷ 2 ∷ 2 ∷ 3 ∷ 1 ∷ 3 ∷ 3 ∷ []) (ran Spent 4 4 0 r01m1 r01 Undecided)
     -- b 5: finished
-    ∷ run (job 1 10 5) 1024 whole (ran Finished 6 5 1 r01m1 r01 Speculative)
+    ∷ run (job 1 10 5) 1024 wholeTrace (ran Finished 6 5 1 r01m1 r01 Speculative)
     -- five observations lent: trace full, four written
     ∷ run (job 1 10 100) 10 (0 ∷ 0 ∷ 2 ∷ 2 ∷ 3 ∷ 1 ∷ 3 ∷ 3 ∷ []) (ran TraceFull 4 4 0 r01m1 r01 Undecided)
     -- r0 = 0: start 0, pc end, rollback 0, pc 2, load 0, load 2; 5 steps, plain
@@ -86,7 +86,7 @@ document01 =
     -- spbarr: start 0, pc 2, rollback 0, pc end; 4 steps, clean
     ∷ run (file barrierProgram 5 (state 1 1 1) public 10 100) 1024 (0 ∷ 0 ∷ 2 ∷ 2 ∷ 1 ∷ 0 ∷ 2 ∷ 5 ∷ []) (ran Finished 4 4 1 r01 r01 Clean)
     -- second state with cell 1 = 0: leak shown
-    ∷ pair (job 1 10 100) (wordBytes (state 1 1 0)) 1024 whole (0 ∷ 0 ∷ 2 ∷ 2 ∷ 3 ∷ 1 ∷ 3 ∷ 2 ∷ 1 ∷ 0 ∷ 2 ∷ 4 ∷ [])
+    ∷ pair (job 1 10 100) (wordBytes (state 1 1 0)) 1024 wholeTrace (0 ∷ 0 ∷ 2 ∷ 2 ∷ 3 ∷ 1 ∷ 3 ∷ 2 ∷ 1 ∷ 0 ∷ 2 ∷ 4 ∷ [])
     (answers.Compared pairs.LeakShown (counted Finished 6 5 1) (counted Finished 6 5 1))
     -- nested, w 2: start 0, pc 1, start 1, pc 2, rollback 1, pc end, rollback 0, pc end; 5 steps
     ∷ run (file nestedProgram 3 (state 0 0 1) public 2 100) 1024

@@ -13,7 +13,7 @@ use Rattle.rules.specs.Rules.Expressions.{tagged}
 use Rattle.rules.specs.Rules.Calls.{Areas, lent, runRefused, plainRefused}
 use Rattle.rules.specs.Rules.Pairs.{pairLent}
 use Rattle.rules.specs.Cases.Files.{wordBytes, zeros, file, setOf, counted, ran, plainRan, Row, run, pair, prints, plain, leaves, plainLeaves, pairLeaves, holds, lines}
-use Rattle.rules.specs.Cases.Document01.{job, state, whole, r01, nestedProgram, public}
+use Rattle.rules.specs.Cases.Document01.{job, state, wholeTrace, r01, nestedProgram, public}
 
 -- a program of n instructions with nothing public
 unfoldable pub secretJob : List ℕ → ℕ → List ℕ → ℕ → List ℕ
@@ -145,7 +145,7 @@ readings =
     (lines ("stop finished" ∷ "steps 1" ∷ "rollbacks 0" ∷ "depends" ∷ "plain" ∷ "verdict clean" ∷ []))
     ∷ prints [] (lines ("refused 1" ∷ []))
     -- pairs: not comparable comes first, then undecided; plain traces, then full traces; both traces are written in every case
-    ∷ pair (job 1 10 100) (wordBytes (state 0 1 1)) 12 whole (0 ∷ 0 ∷ 2 ∷ 4 ∷ 1 ∷ 0 ∷ 2 ∷ 2 ∷ 3 ∷ 0 ∷ 3 ∷ 2 ∷ [])
+    ∷ pair (job 1 10 100) (wordBytes (state 0 1 1)) 12 wholeTrace (0 ∷ 0 ∷ 2 ∷ 4 ∷ 1 ∷ 0 ∷ 2 ∷ 2 ∷ 3 ∷ 0 ∷ 3 ∷ 2 ∷ [])
     (answers.Compared pairs.NotComparable (counted Finished 6 5 1) (counted Finished 6 5 1))
     ∷ pair (job 1 10 4) (wordBytes (state 0 1 1)) 4 (0 ∷ 0 ∷ 2 ∷ 2 ∷ []) (0 ∷ 0 ∷ 2 ∷ 4 ∷ [])
     (answers.Compared pairs.NotComparable (counted TraceFull 2 2 0) (counted TraceFull 2 2 0))
@@ -153,7 +153,7 @@ readings =
     (answers.Compared pairs.Undecided (counted Spent 4 4 0) (counted Spent 4 4 0))
     ∷ pair (job 0 10 100) (wordBytes (set (state 0 1 1) 16 3)) 12 (0 ∷ 0 ∷ 2 ∷ 4 ∷ 1 ∷ 0 ∷ 2 ∷ 2 ∷ 3 ∷ 0 ∷ 3 ∷ 2 ∷ [])
     (0 ∷ 0 ∷ 2 ∷ 4 ∷ 1 ∷ 0 ∷ 2 ∷ 2 ∷ 3 ∷ 0 ∷ 3 ∷ 5 ∷ []) (answers.Compared pairs.PlainDiffers (counted Finished 6 5 1) (counted Finished 6 5 1))
-    ∷ pair (job 1 10 100) (wordBytes (set (state 1 1 1) 18 8)) 12 whole whole
+    ∷ pair (job 1 10 100) (wordBytes (set (state 1 1 1) 18 8)) 12 wholeTrace wholeTrace
     (answers.Compared pairs.Equal (counted Finished 6 5 1) (counted Finished 6 5 1))
     ∷ pair (job 1 10 100) (zeros 159) 12 [] [] (answers.Refused refusals.SecondState)
     ∷ []
@@ -209,7 +209,7 @@ areasLeft =
     -- all areas after a pair, and after its refusals: 9 before 10, a short working area, unequal trace areas
     ∷ pairLeaves (job 1 10 100) (wordBytes (state 1 1 0)) (pairLent (filled 13) (filled 13) (filled 4097))
     (answers.Compared pairs.LeakShown (counted Finished 6 5 1) (counted Finished 6 5 1))
-    (pairLent (whole ++ filled 1) (0 ∷ 0 ∷ 2 ∷ 2 ∷ 3 ∷ 1 ∷ 3 ∷ 2 ∷ 1 ∷ 0 ∷ 2 ∷ 4 ∷ filled 1) (zeros 4096 ++ filled 1))
+    (pairLent (wholeTrace ++ filled 1) (0 ∷ 0 ∷ 2 ∷ 2 ∷ 3 ∷ 1 ∷ 3 ∷ 2 ∷ 1 ∷ 0 ∷ 2 ∷ 4 ∷ filled 1) (zeros 4096 ++ filled 1))
     ∷ pairLeaves (job 1 10 100) (zeros 159) (pairLent (filled 3) (filled 4) []) (answers.Refused refusals.SecondState) (pairLent (filled 3) (filled 4) [])
     ∷ pairLeaves (job 1 10 100) (wordBytes (state 1 1 0)) (pairLent (filled 3) (filled 3) (filled 4095)) (answers.Refused refusals.Areas)
     (pairLent (filled 3) (filled 3) (filled 4095))

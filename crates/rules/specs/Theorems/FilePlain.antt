@@ -58,15 +58,15 @@ module _ {f : List ℕ} {a a′ : Areas} (r : Runs f a) (h : SameLengths a a′)
       }
 
 -- a run's stop is the one that its counts give
-finished-stop : {f : List ℕ} {a : Areas} {n : Counts} {v : Verdict} (r : Runs f a)
+ran-finished : {f : List ℕ} {a : Areas} {n : Counts} {v : Verdict} (r : Runs f a)
     → runCall f a .answer .outcome ≡ runs.Ran n v → n .stop ≡ Finished → result r .stop ≡ Finished
 unfolding runReport counts
-finished-stop {n = n} {v = v} r e s =
+ran-finished {n = n} {v = v} r e s =
     let q : runs.Ran (counts (result r)) (verdict (r .job) (result r)) ≡ runs.Ran n v = rw (call-runs r) at e in
     let c : counts (result r) ≡ n = cc in
     ap (λ (x : Counts). x .stop) c ∙ s
 
 pub demand2-call : (f : List ℕ) (a : Areas) → Demand2 f a (runCall f a .answer) (runCall f a .areas)
 demand2-call f a = record {
-  finished = λ e s a′ h. let r = runs-of e (view f a) in matches r h (run-matches r h (finished-stop r e s));
+  finished = λ e s a′ h. let r = runs-of e (view f a) in matches r h (run-matches r h (ran-finished r e s));
 }

@@ -94,12 +94,12 @@ Chosen words.PlainDiffers c f p s = (c ≡ true) × (f ≡ true) × (p ≡ false
 Chosen words.LeakShown c f p s = (c ≡ true) × (f ≡ true) × (p ≡ true) × (s ≡ false)
 Chosen words.Equal c f p s = (c ≡ true) × (f ≡ true) × (p ≡ true) × (s ≡ true)
 
-chosen : (c f p s : Bool) → Chosen (firstThatFits c f p s) c f p s
-chosen false f p s = refl
-chosen true false p s = (refl, refl)
-chosen true true false s = (refl, refl, refl)
-chosen true true true false = (refl, refl, refl, refl)
-chosen true true true true = (refl, refl, refl, refl)
+chosen-fits : (c f p s : Bool) → Chosen (firstThatFits c f p s) c f p s
+chosen-fits false f p s = refl
+chosen-fits true false p s = (refl, refl)
+chosen-fits true true false s = (refl, refl, refl)
+chosen-fits true true true false = (refl, refl, refl, refl)
+chosen-fits true true true true = (refl, refl, refl, refl)
 
 -- ---- a pair that was compared
 pub record Pairs (f second : List ℕ) (a : PairAreas) : Type 0 where
@@ -251,24 +251,24 @@ module _ {f second : List ℕ} {a : PairAreas} (r : Pairs f second a) where
   unfolding pairWord sameTrace
   word-means =
       meaning (pairWord (r .job) vs k)
-      (chosen (alikeFrom (r .job .public) 0 (r .job .init) vs) (isFinished (run₁ .stop) && isFinished (run₂ .stop)) (sameWords plain₁ plain₂)
+      (chosen-fits (alikeFrom (r .job .public) 0 (r .job .init) vs) (isFinished (run₁ .stop) && isFinished (run₂ .stop)) (sameWords plain₁ plain₂)
       (sameWords full₁ full₂))
 
 -- ---- every call is refused, or compares
-data View (f second : List ℕ) (a : PairAreas) : Type 0 where
-  compared : Pairs f second a → View f second a
-  refused : (n : Refusal) → pairCall f second a ≡ pairRefused n a → View f second a
+data PairView (f second : List ℕ) (a : PairAreas) : Type 0 where
+  compared : Pairs f second a → PairView f second a
+  refused : (n : Refusal) → pairCall f second a ≡ pairRefused n a → PairView f second a
 
-view : (f second : List ℕ) (a : PairAreas) → View f second a
+pair-view : (f second : List ℕ) (a : PairAreas) → PairView f second a
 unfolding pairCall pairParsed
-view f second a = go (parse f) refl
+pair-view f second a = go (parse f) refl
   where
-    fits : (job : Job) → parse f ≡ accepted job → (b c : Bool) → secondFits job second ≡ b → pairFits a ≡ c → View f second a
+    fits : (job : Job) → parse f ≡ accepted job → (b c : Bool) → secondFits job second ≡ b → pairFits a ≡ c → PairView f second a
     fits job q true true s e = compared (record { job = job; parsed = q; sized = s; enough = e })
     fits job q true false s e = refused refusals.Areas (rw (q, s, e, pairParsed))
     fits job q false c s e = refused refusals.SecondState (rw (q, s, pairParsed))
 
-    go : (P : Parsed) → parse f ≡ P → View f second a
+    go : (P : Parsed) → parse f ≡ P → PairView f second a
     go (rejected n) q = refused n (rw (q, pairParsed))
     go (accepted job) q = fits job q (secondFits job second) (pairFits a) refl refl
 
@@ -276,9 +276,9 @@ refused-compared : {P : Type 0} {m : Refusal} {w : PairWord} {n n′ : Counts} �
 refused-compared {P} {m} {w} {n} {n′} e = absurd (let z : _≡_ {A = ℕ} 0 1 = cc in omega arith)
 
 pub pair-meaning : (f second : List ℕ) (a : PairAreas) → PairMeaning f second a (pairCall f second a .answer) (pairCall f second a .areas)
-pair-meaning f second a = record { compared = λ {word} {n} {n′} e. go word n n′ e (view f second a) }
+pair-meaning f second a = record { compared = λ {word} {n} {n′} e. go word n n′ e (pair-view f second a) }
   where
-    go : (w : PairWord) (n n′ : Counts) → pairCall f second a .answer ≡ pairs.Compared w n n′ → View f second a
+    go : (w : PairWord) (n n′ : Counts) → pairCall f second a .answer ≡ pairs.Compared w n n′ → PairView f second a
         → Means w f second a n n′ (pairCall f second a .areas)
     go w n n′ e (refused m q) = unfold pairRefused in refused-compared (rw q at e)
     go w n n′ e (compared r) =
@@ -291,8 +291,8 @@ pair-meaning f second a = record { compared = λ {word} {n} {n′} e. go word n 
 
 -- a refusal leaves every area as it was
 pub pair-unaltered : (f second : List ℕ) (a : PairAreas) → PairUnaltered (pairCall f second a .answer) a (pairCall f second a .areas)
-pair-unaltered f second a = record { refused = λ e. go e (view f second a) }
+pair-unaltered f second a = record { refused = λ e. go e (pair-view f second a) }
   where
-    go : {n : Refusal} → pairCall f second a .answer ≡ pairs.Refused n → View f second a → pairCall f second a .areas ≡ a
+    go : {n : Refusal} → pairCall f second a .answer ≡ pairs.Refused n → PairView f second a → pairCall f second a .areas ≡ a
     go e (refused m q) = unfold pairRefused in rw q
     go e (compared r) = unfold pairAccepted in refused-compared (sym (rw (pair-runs r) at e))

@@ -58,7 +58,7 @@ changes code σ (cassign r c e) = changeOf σ (registerLocation r) ∷ []
 changes code σ spbarr = []
 
 -- the state before some changes, the newest first
-unfoldable pub restore : List Change → State → State
+abbrev pub restore : List Change → State → State
 restore [] σ = σ
 restore (u ∷ us) σ = restore us (put σ (u .location) (u .before))
 
@@ -69,7 +69,7 @@ put-back σ l t = simp (set-set, set-getD)
 -- an instruction that is undone leaves the state as it was
 pub restore-exec : (code : Code) (σ : State) (p : ℕ) (i : Instr) (us : List Change)
     → restore (changes code σ i ++ us) (exec code σ p i .state) ≡ restore us σ
-unfolding exec changes restore storedTo
+unfolding exec changes storedTo
 restore-exec code σ p skip us = refl
 restore-exec code σ p (assign r e) us = rw put-back
 restore-exec code σ p (load r e) us = rw put-back
@@ -183,7 +183,7 @@ restores-changes (more u us e h r) = omega arith
 -- a branch opened at the state itself
 restores-open : {w : ℕ} {σ : State} {us : UndoLog} {bs : List Branch} (i t v : ℕ) → v + (size us + length bs) ≤ w
     → Restores w σ us bs → Restores w σ ([] ∷ us) (branchWith i σ t v ∷ bs)
-unfolding restore size
+unfolding size
 restores-open {w} {σ} {us} {bs} i t v h r = more {σ = σ} {b = branchWith i σ t v} {bs = bs} [] us refl (omega arith) r
 
 -- what a step s of M keeps, and the same of an instruction i that is carried out
