@@ -24,7 +24,9 @@ use Rattle.work.specs.Words.{taggedAt}
 use Rattle.work.specs.Machines.{stateIn}
 use Rattle.effect.specs.declared.Effect.{Effect}
 use Rattle.work.proofs.States.{state-at}
+use Rattle.effect.specs.Registers.{RegistersBelow}
 use Rattle.effect.specs.States.{state-value}
+use Rattle.effect.specs.Sources.{sourceOf, Sourced}
 use Rattle.effect.specs.Effects.{Denotes, Executed}
 
 -- the state in the words, with so many cells
@@ -83,12 +85,21 @@ module _ (w : List ℕ) (cells : ℕ) (a : Tagged) (code : Code) (ec : code .cel
   unfolding storedTo
   store-outside t h = rw (ec, le-ltb _ _ h)
 
--- the two expressions of a conditional assignment
-pub both-sound : (p : List ℕ) {i : Instruction} {r : ℕ} {c e : Expression} → i ≡ AssignIf r c e → postfix (meaning p i) ≡ true
-    → (sound (tokensOf p c) ≡ true) × (sound (tokensOf p e) ≡ true)
-both-sound p {c = c} {e = e} ei h =
-    let s = rw ei at h in
-    (and-left (sound (tokensOf p c)) (sound (tokensOf p e)) s, and-right (sound (tokensOf p c)) (sound (tokensOf p e)) s)
+-- the second expression of a conditional assignment
+pub second-sound : (p : List ℕ) {i : Instruction} {r : ℕ} {c e : Expression} → i ≡ AssignIf r c e → postfix (meaning p i) ≡ true
+    → sound (tokensOf p e) ≡ true
+second-sound p {c = c} {e = e} ei h = and-right (sound (tokensOf p c)) (sound (tokensOf p e)) (rw ei at h)
+
+-- what an instruction reads first can be read
+pub sourced : (p : List ℕ) (i : Instruction) → postfix (meaning p i) ≡ true → RegistersBelow registers (meaning p i) → Sourced p (sourceOf i)
+sourced p Skip h b = tt
+sourced p (Assign r e) h b = h
+sourced p (Load r e) h b = h
+sourced p (Store r e) h b = h
+sourced p (Jump e) h b = h
+sourced p (BranchZero r l) h b = b
+sourced p (AssignIf r c e) h b = and-left (sound (tokensOf p c)) (sound (tokensOf p e)) h
+sourced p Barrier h b = tt
 
 -- ---- the instructions: x is the effect of what its callee was given
 module _ {p w : List ℕ} {last cells place : ℕ} {x : Effect} where

@@ -1,3 +1,4 @@
 pub mod Registers
 pub mod States
+pub mod Sources
 pub mod Effects

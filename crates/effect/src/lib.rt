@@ -19,6 +19,7 @@ ghost use Rattle.token.specs.Meaning.{tokensOf};
 ghost use Rattle.work.specs.Layout.{operandBase};
 ghost use Rattle.work.specs.Words.{taggedAt};
 ghost use Rattle.work.specs.Machines.{stateIn};
+ghost use Rattle.effect.specs.Sources.{sourceOf, Sourced, sourceIn};
 ghost use Rattle.effect.specs.Effects.{kept, Denotes, Executable, Executed};
 
 // What an observer sees of one instruction.
@@ -189,7 +190,45 @@ pub fn branch_to(t: Tagged, label: Label, next: usize) -> usize
     next
 }
 
-// The effect of the instruction at a place, in a program that ends at `last` and has so many cells.
+// What an instruction reads first: an expression, or a register by its number.
+pub enum Source {
+    Tokens(Expression),
+    Register(u8),
+    Nothing,
+}
+
+fn source_of(i: Instruction) -> Source
+    ensures { λ r. ⌜ r ≡ sourceOf i ⌝ }
+{
+    match i {
+        Instruction::Skip => Source::Nothing,
+        Instruction::Assign(_, e) => Source::Tokens(e),
+        Instruction::Load(_, e) => Source::Tokens(e),
+        Instruction::Store(_, e) => Source::Tokens(e),
+        Instruction::Jump(e) => Source::Tokens(e),
+        Instruction::BranchZero(r, _) => Source::Register(r),
+        Instruction::AssignIf(_, c, _) => Source::Tokens(c),
+        Instruction::Barrier => Source::Nothing,
+    }
+}
+
+// The value of what an instruction reads first; 0 where it reads nothing.
+fn operand(p: &[u8], work: &[u64], i: Instruction) -> Tagged
+    requires { ⌜ Sourced (now p) (sourceOf i) × (operandBase registers ≤ length (now work)) ⌝ }
+    ensures { λ r. ⌜ r ≡ sourceIn (now (p .entry)) (taggedAt (now (work .entry))) (sourceOf i) ⌝ }
+{
+    match source_of(i) {
+        Source::Tokens(e) => expression::value_of(p, work, e),
+        Source::Register(r) => work::load(work, Location::register(r)),
+        Source::Nothing => Tagged {
+            value: 0,
+            deps: LocationSet::empty(),
+        },
+    }
+}
+
+// The effect of the instruction at a place, in a program that ends at `last` and has so many cells. What it reads first is
+// evaluated in one place, so that the value need not go through memory.
 pub fn effect_of(
     p: &[u8],
     work: &[u64],
@@ -201,32 +240,15 @@ pub fn effect_of(
     requires { ⌜ Executable (now p) (now work) cells place i ⌝ }
     ensures { λ x. ⌜ Executed (now (p .entry)) (now (work .entry)) last cells place i x ⌝ }
 {
+    let a = operand(p, work, i);
     match i {
         Instruction::Skip => silent_effect(place),
-        Instruction::Assign(r, e) => {
-            let v = expression::evaluate(p, work, e);
-            assigns(place, r, v)
-        }
-        Instruction::Load(r, e) => {
-            let a = expression::evaluate(p, work, e);
-            load_effect(work, cells, place, r, a)
-        }
-        Instruction::Store(r, e) => {
-            let a = expression::evaluate(p, work, e);
-            store_effect(work, cells, place, r, a)
-        }
-        Instruction::Jump(e) => {
-            let t = expression::evaluate(p, work, e);
-            goes_to(jump_to(t.value, last), t)
-        }
-        Instruction::BranchZero(r, l) => {
-            let t = work::load(work, Location::register(r));
-            goes_to(branch_to(t, l, place + 1), t)
-        }
-        Instruction::AssignIf(r, c, e) => {
-            let condition = expression::evaluate(p, work, c);
-            assigns(place, r, chosen(p, work, r, condition, e))
-        }
+        Instruction::Assign(r, _) => assigns(place, r, a),
+        Instruction::Load(r, _) => load_effect(work, cells, place, r, a),
+        Instruction::Store(r, _) => store_effect(work, cells, place, r, a),
+        Instruction::Jump(_) => goes_to(jump_to(a.value, last), a),
+        Instruction::BranchZero(_, l) => goes_to(branch_to(a, l, place + 1), a),
+        Instruction::AssignIf(r, _, e) => assigns(place, r, chosen(p, work, r, a, e)),
         Instruction::Barrier => silent_effect(place),
     }
 }

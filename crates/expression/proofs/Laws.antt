@@ -15,13 +15,12 @@ use borrow.Author.Tests.{leb-true, eqb-true}
 use Rattle.location.specs.declared.LocationSet.{LocationSet}
 use Rattle.location.specs.Sets.{registers, none, either, empty, union}
 use Rattle.location.specs.SetLaws.{either-assoc, either-comm, either-none}
-use Rattle.rules.specs.declared.Refusal.{Refusal}
 use Rattle.rules.specs.declared.Tagged.{Tagged}
 use Rattle.rules.specs.Rules.Operators.{neg, add, apply1, apply2}
 use Rattle.rules.specs.Rules.Expressions.{Token, reg, const, op1, op2, Expr, takes, after, held, sound, tagged, result1, result2, pushed, evalOn, top, eval}
 use Rattle.rules.specs.Rules.JobFile.{Read, got, refused, andThen, unary, binary, token, tokens}
 use Rattle.token.specs.declared.Expression.{Expression}
-use Rattle.token.specs.Meaning.{valueOr, tokensOf}
+use Rattle.token.specs.Meaning.{readable, valueOr, tokensOf}
 use Rattle.expression.specs.Registers.{TokenBelow, token-below}
 use Rattle.expression.specs.Results.{value, gathered}
 
@@ -47,22 +46,22 @@ binary-default (suc (suc (suc (suc (suc (suc (suc (suc (suc zero))))))))) h₁ h
 binary-default (suc (suc (suc (suc (suc (suc (suc (suc (suc (suc i)))))))))) h₁ h₂ h₃ h₄ h₅ h₆ h₇ h₈ h₉ = refl
 
 -- ---- the stack of the code: the first d slots hold the values of the rules' stack, whose top comes first
-abbrev pub Holds : List ℕ → ℕ → List Tagged → Type 0
-Holds vs zero [] = Unit
-Holds vs zero (a ∷ st) = ⊥
-Holds vs (suc d) [] = ⊥
-Holds vs (suc d) (a ∷ st) = (getD vs d 0 ≡ a .value) × Holds vs d st
+abbrev pub StackHolds : List ℕ → ℕ → List Tagged → Type 0
+StackHolds vs zero [] = Unit
+StackHolds vs zero (a ∷ st) = ⊥
+StackHolds vs (suc d) [] = ⊥
+StackHolds vs (suc d) (a ∷ st) = (getD vs d 0 ≡ a .value) × StackHolds vs d st
 
-holds-set : (vs : List ℕ) (j d x : ℕ) (st : List Tagged) → d ≤ j → Holds vs d st → Holds (set vs j x) d st
-holds-set vs j zero x [] l h = tt
-holds-set vs j zero x (a ∷ st) l h = absurd h
-holds-set vs j (suc d) x [] l h = absurd h
-holds-set vs j (suc d) x (a ∷ st) l h =
+slots-set : (vs : List ℕ) (j d x : ℕ) (st : List Tagged) → d ≤ j → StackHolds vs d st → StackHolds (set vs j x) d st
+slots-set vs j zero x [] l h = tt
+slots-set vs j zero x (a ∷ st) l h = absurd h
+slots-set vs j (suc d) x [] l h = absurd h
+slots-set vs j (suc d) x (a ∷ st) l h =
     let ne : d ≢ j = omega arith in
-    (getD-set-other vs j d x 0 ne ∙ h .0, holds-set vs j d x st (omega arith) (h .1))
+    (getD-set-other vs j d x 0 ne ∙ h .0, slots-set vs j d x st (omega arith) (h .1))
 
-holds-push : (vs : List ℕ) (d x : ℕ) (a : Tagged) (st : List Tagged) → d < length vs → x ≡ a .value → Holds vs d st → Holds (set vs d x) (d + 1) (a ∷ st)
-holds-push vs d x a st l e h = rw add-one (getD-set-same vs d x 0 l ∙ e, holds-set vs d d x st (le-refl d) h)
+holds-push : (vs : List ℕ) (d x : ℕ) (a : Tagged) (st : List Tagged) → d < length vs → x ≡ a .value → StackHolds vs d st → StackHolds (set vs d x) (d + 1) (a ∷ st)
+holds-push vs d x a st l e h = rw add-one (getD-set-same vs d x 0 l ∙ e, slots-set vs d d x st (le-refl d) h)
 
 -- ---- the set of the code: those of the rules' stack together, each of four words
 abbrev pub Four : List Tagged → Type 0
@@ -100,7 +99,7 @@ empty-union s h = ap (λ (ws : List ℕ). record { words = ws }) (either-comm (n
 -- ---- one token over the stack
 -- what the rules' stack st is after a token, in the code's slots and set
 pub record After (vs : List ℕ) (d : ℕ) (s : LocationSet) (st : List Tagged) : Type 0 where
-  pub holds : Holds vs d st
+  pub holds : StackHolds vs d st
   pub four : Four st
   pub sets : together st ≡ s
 
@@ -222,10 +221,15 @@ turn f four p v k at q d vs s t e left = go (tokens k p q) refl (rw (← e) at (
         }
     go (refused w) r h g = absurd h
 
-pub unread : (f : ℕ → Tagged) (p : List ℕ) (v : Tagged) (k at d : ℕ) (vs : List ℕ) (s : LocationSet) (r : Refusal) → refused r ≡ token p at
-    → Left f p v (suc k) at d vs s → ⊥
-unfolding tokens
-unread f p v k at d vs s r e left = rw (← e) at (left .keeps)
+-- where a token is left, it can be read
+pub left-readable : (f : ℕ → Tagged) (p : List ℕ) (v : Tagged) (k at d : ℕ) (vs : List ℕ) (s : LocationSet) → Left f p v (suc k) at d vs s
+    → readable (token p at) ≡ true
+unfolding tokens readable
+left-readable f p v k at d vs s left = go (token p at) (left .keeps)
+  where
+    go : (R : Read Token) → Keeps d (andThen R (λ t q. andThen (tokens k p q) (λ ts q′. got (t ∷ ts) q′))) → readable R ≡ true
+    go (got t q) h = refl
+    go (refused r) h = absurd h
 
 -- one value is held in the end: the first slot, with the set
 last : (vs : List ℕ) (s : LocationSet) (st : List Tagged) → After vs 1 s st → record { value = getD vs 0 0; deps = s } ≡ top st

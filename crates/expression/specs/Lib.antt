@@ -1,2 +1,3 @@
 pub mod Registers
 pub mod Results
+pub mod Shapes

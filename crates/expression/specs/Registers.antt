@@ -77,9 +77,6 @@ tokens-hold (suc k) p at =
 pub token-below : (p : List ℕ) (at : ℕ) (t : Token) (q : ℕ) → token p at ≡ got t q → TokenBelow registers t
 token-below p at t q e = rw e at (token-holds p at)
 
-pub tokens-below : (k : ℕ) (p : List ℕ) (at : ℕ) (ts : Expr) (q : ℕ) → tokens k p at ≡ got ts q → Below registers ts
-tokens-below k p at ts q e = rw e at (tokens-hold k p at)
-
 pub expression-below : (p : List ℕ) (e : Expression) → Below registers (tokensOf p e)
 unfolding tokensOf
 expression-below p e = go (tokens (e .count) p (e .at)) (tokens-hold (e .count) p (e .at))

@@ -263,7 +263,7 @@ pub const WINDOW_COSTS: [u64; 8] = [1, 1, 1, 1, 1, 1, 1, 1];
 const BARRIER: usize = 7;
 
 // The kind's number, as in the kind byte.
-pub fn kind(i: Instruction) -> usize
+fn kind(i: Instruction) -> usize
     ensures { λ r. ⌜ ((p : List ℕ) → r ≡ kind (meaning p i)) × (r < 8) ⌝ }
 {
     match i {
@@ -278,7 +278,7 @@ pub fn kind(i: Instruction) -> usize
     }
 }
 
-pub fn cost(i: Instruction) -> u64
+fn cost(i: Instruction) -> u64
     ensures { λ r. ⌜ ((p : List ℕ) → r ≡ getD windowCosts (kind (meaning p i)) 0) ⌝ }
 {
     let k = kind(i);

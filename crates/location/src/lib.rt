@@ -90,13 +90,22 @@ impl LocationSet {
         ensures { λ r. ⌜ r ≡ single (l .0) ⌝ }
     {
         let k = l.0;
-        if LocationSet::LIMIT <= k {
-            return LocationSet::empty();
+        let bit = 1 << (k % 64);
+        match k / 64 {
+            0 => LocationSet {
+                words: [bit, 0, 0, 0],
+            },
+            1 => LocationSet {
+                words: [0, bit, 0, 0],
+            },
+            2 => LocationSet {
+                words: [0, 0, bit, 0],
+            },
+            3 => LocationSet {
+                words: [0, 0, 0, bit],
+            },
+            _ => LocationSet::empty(),
         }
-        let mut words = [0u64; 4];
-        let i = k / 64;
-        words[i] = 1 << (k % 64);
-        LocationSet { words }
     }
 
     pub fn union(self, other: Self) -> Self

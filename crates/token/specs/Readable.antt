@@ -1,17 +1,21 @@
 -- What was read where something was read: each part of it stands where the rules look for it, before the end of the bytes.
 -- Assumes nothing.
-use mathlib.Core.Path.{_≡_, refl}
+use mathlib.Core.Path.{_≡_, refl, _∙_}
+use mathlib.Core.Logic.{_≢_}
 use mathlib.Core.Bool.{Bool, true, false, _&&_, cond}
-use mathlib.Core.List.{List}
-use Prim.Native.Nat.{ℕ, _+_, _<_, _≤_}
+use mathlib.Core.List.{List, [], _∷_}
+use Prim.Native.Nat.{ℕ, suc, _+_, _-_, _<_, _≤_}
 use native.Mathlib.Omega.{arith}
-use lib.Dec.{leb, ltb}
+use lib.Dec.{eqb, leb, ltb}
 use lib.ListN.{length, getD}
-use borrow.Author.Tests.{leb-true, ltb-true}
+use borrow.Author.Tests.{leb-true, ltb-true, le-ltb, ne-eqb}
 use Rattle.rules.specs.declared.Refusal.the-variants as refusals
-use Rattle.rules.specs.Rules.JobFile.{Read, got, refused, andThen, refuse, little, wordOf, byte, tokens, expr}
+use Rattle.rules.specs.Rules.Operators.{add}
+use Rattle.rules.specs.Rules.Expressions.{Token, const, op2, Expr, held, sound}
+use Rattle.rules.specs.Rules.JobFile.{Read, got, refused, andThen, return, refuse, little, wordOf, byte, binary, constant, tokenOf, token, tokens, expr}
+use Rattle.token.specs.declared.Expression.{Expression}
 use Rattle.token.specs.Bytes.{byte-got}
-use Rattle.token.specs.Meaning.{readable, nextOffset, valueOr}
+use Rattle.token.specs.Meaning.{readable, nextOffset, valueOr, tokensOf}
 
 unread : false ≡ true → ⊥
 unread h = let z : _≡_ {A = ℕ} 0 1 = cc in omega arith
@@ -40,6 +44,52 @@ word-read k p at h = go (leb (at + k) (length p)) refl h
         → (at + k ≤ length p) × (cond b (got (little p at k) (at + k)) (refused refusals.Encoding) ≡ got (little p at k) (at + k))
     go true e h = (leb-true _ _ e, refl)
     go false e h = absurd (unread h)
+
+-- ---- a token: its byte, then what the byte asks for
+pub token-read : (p : List ℕ) (at : ℕ) → readable (token p at) ≡ true → (at < length p) × (token p at ≡ tokenOf (getD p at 0) p (at + 1))
+unfolding token readable
+token-read p at h = let l = byte-read p at (first-read 0 (byte p at) _ h .0) in (l, rw (byte-got p at l))
+
+pub constant-read : (p : List ℕ) (at : ℕ) → readable (token p at) ≡ true → getD p at 0 ≡ 16
+    → (at + 1 + 8 ≤ length p) × (token p at ≡ got (const (little p (at + 1) 8)) (at + 1 + 8))
+unfolding tokenOf constant
+constant-read p at h e =
+    let t = rw e at (token-read p at h .1) in
+    let w = word-read 8 p (at + 1) (first-read 0 (wordOf 8 p (at + 1)) _ (rw t at h) .0) in
+    (w .0, rw (t, w .1))
+
+pub operator-read : (p : List ℕ) (at : ℕ) → readable (token p at) ≡ true → 19 ≤ getD p at 0
+    → token p at ≡ got (op2 (getD binary (getD p at 0 - 19) add)) (at + 1)
+unfolding tokenOf readable
+operator-read p at h l =
+    let k = getD p at 0 in
+    let ne : k ≢ 16 = omega arith in
+    let t = rw (le-ltb k 16 (omega arith), ne-eqb k 16 ne, le-ltb k 19 l) at (token-read p at h .1) in
+    t ∙ go (ltb k 29) (rw t at h)
+  where
+    go : (b : Bool) → readable (cond b (return (op2 (getD binary (getD p at 0 - 19) add))) (refuse refusals.Encoding) p (at + 1)) ≡ true
+        → cond b (return (op2 (getD binary (getD p at 0 - 19) add))) (refuse refusals.Encoding) p (at + 1) ≡ got (op2 (getD binary (getD p at 0 - 19) add)) (at + 1)
+    go true h = refl
+    go false h = absurd (unread h)
+
+-- the first of some tokens, and the others
+pub tokens-read : (k : ℕ) (p : List ℕ) (at : ℕ) → readable (tokens (suc k) p at) ≡ true
+    → (readable (token p at) ≡ true) × ((t : Token) (q : ℕ) → got t q ≡ token p at → readable (tokens k p q) ≡ true)
+unfolding tokens
+tokens-read k p at h =
+    (first-read skipped (token p at) _ h .0, λ t q e. first-read [] (tokens k p q) (λ ts q′. got (t ∷ ts) q′) (rw (← e) at h) .0)
+  where
+    skipped : Token
+    skipped = const 0
+
+-- an expression that keeps the postfix rule has tokens, and they can be read
+pub sound-read : (p : List ℕ) (e : Expression) → sound (tokensOf p e) ≡ true → readable (tokens (e .count) p (e .at)) ≡ true
+unfolding tokensOf sound held readable
+sound-read p e h = go (tokens (e .count) p (e .at)) h
+  where
+    go : (R : Read Expr) → eqb (held 0 (valueOr [] R)) 1 ≡ true → readable R ≡ true
+    go (got ts q) h = refl
+    go (refused r) h = absurd (unread h)
 
 -- an expression: its token count, then so many tokens
 pub expr-read : (p : List ℕ) (at : ℕ) → readable (expr p at) ≡ true → (at < length p) × (expr p at ≡ tokens (getD p at 0) p (at + 1))

@@ -6,7 +6,7 @@ ghost use mathlib.Core.Bool.{true};
 ghost use Prim.Native.Nat.{_+_, _*_, _^_, _<_, _≤_};
 ghost use lib.ListN.{length};
 ghost use Rattle.rules.specs.Rules.Expressions.{takes, after};
-ghost use Rattle.rules.specs.Rules.JobFile.{little, token, tokens, expr};
+ghost use Rattle.rules.specs.Rules.JobFile.{got, little, token, tokens, expr};
 ghost use Rattle.token.specs.Meaning.{tokenMeaning, tokenReadMeaning, scanOf, readable, nextOffset, expressionReadMeaning, ExpressionTested};
 
 fn wide(b: u8) -> u64
@@ -71,6 +71,44 @@ pub fn read_token(p: &[u8], at: usize) -> TokenRead
         return TokenRead::Found(Token::Binary(binary), next);
     }
     TokenRead::Refused(Refusal::Encoding)
+}
+
+// A token and the offset after it.
+pub struct TokenAt {
+    pub token: Token,
+    pub next: usize,
+}
+
+// The token at an offset where one can be read: taken as it stands, with no test.
+pub fn token_at(p: &[u8], at: usize) -> TokenAt
+    requires { ⌜ readable (token (now p) at) ≡ true ⌝ }
+    ensures { λ r. ⌜ got (tokenMeaning (r .token)) (r .next) ≡ token (now (p .entry)) at ⌝ }
+{
+    let byte = p[at];
+    let next = at + 1;
+    if byte < 16 {
+        return TokenAt {
+            token: Token::Register(byte),
+            next,
+        };
+    }
+    if byte == 16 {
+        let word = number(p, next, 8);
+        return TokenAt {
+            token: Token::Constant(word),
+            next: next + 8,
+        };
+    }
+    if byte < 19 {
+        return TokenAt {
+            token: Token::Unary(byte - 17),
+            next,
+        };
+    }
+    TokenAt {
+        token: Token::Binary(byte - 19),
+        next,
+    }
 }
 
 // How many operands a token takes.

@@ -10,7 +10,7 @@ use lib.Dec.{lit<}
 use Rattle.rules.specs.Rules.Expressions.{eval}
 use Rattle.token.specs.Meaning.{tokenMeaning, tokensOf}
 use Rattle.work.specs.Words.{taggedAt}
-use Rattle.expression.proofs.Laws.{Left, start, Turn, turn, unread, finish}
+use Rattle.expression.proofs.Laws.{Left, start, Turn, turn, left-readable, finish}
 use Rattle.expression.proofs.evaluate.Statement.{statement}
 use Rattle.expression.proofs.evaluate.Tie as tie
 
@@ -30,23 +30,24 @@ loop-holds c =
     let a = s .args in
     (zero-le, rw sub-zero (start (taggedAt (a .work .now)) (a .p .now) (a .e) _ _ (search needs) (c .empty .ensures) (s .pre .0)))
 
--- what the token that was read says of the loop
-turned : (c : tie.After-known-told Inv-loop μ-loop)
-    → (let a = c .before .before .before .before .before .before .before .before .before .args in
-    let v = c .before .before .before .before .before .loop in
-    let f = taggedAt (a .work .now) in
-    Turn f (a .p .now) (eval f (tokensOf (a .p .now) (a .e))) (a .e .count - (v .i + 1)) (c .before .t .given .0 .1 .0) (v .held) (v .stack) (v .deps) (tokenMeaning (c .before .t .given .0 .0)))
-turned c =
-    let a = c .before .before .before .before .before .before .before .before .before .args in
-    let v = c .before .before .before .before .before .loop in
+token-at-requires : tie.Need-token-at-requires Inv-loop μ-loop
+token-at-requires c κs =
+    let a = c .before .before .before .before .before .args in
+    let v = c .before .loop in
     let e : a .e .count - v .i ≡ suc (a .e .count - (v .i + 1)) = omega arith in
-    turn _ (λ r. refl) (a .p .now) _ _ (v .offset) _ (v .held) (v .stack) (v .deps) _ (rw (c .before .t .given .1) at (c .before .before .before .read-token .ensures)) (rw e at (v .inv .1))
+    left-readable _ (a .p .now) _ _ (v .offset) (v .held) (v .stack) (v .deps) (rw e at (v .inv .1))
 
-read-token-requires : tie.Need-read-token-requires Inv-loop μ-loop
-read-token-requires c κs = tt
-
-enum-known-t : tie.Need-enum-known-t Inv-loop μ-loop
-enum-known-t c = search needs
+-- what the token that was read says of the loop
+turned : (c : tie.After-token-at Inv-loop μ-loop)
+    → (let a = c .before .before .before .before .before .before .args in
+    let v = c .before .before .loop in
+    let f = taggedAt (a .work .now) in
+    Turn f (a .p .now) (eval f (tokensOf (a .p .now) (a .e))) (a .e .count - (v .i + 1)) (c .token-at .result .next) (v .held) (v .stack) (v .deps) (tokenMeaning (c .token-at .result .token)))
+turned c =
+    let a = c .before .before .before .before .before .before .args in
+    let v = c .before .before .loop in
+    let e : a .e .count - v .i ≡ suc (a .e .count - (v .i + 1)) = omega arith in
+    turn _ (λ r. refl) (a .p .now) _ _ (v .offset) _ (v .held) (v .stack) (v .deps) _ (c .token-at .ensures) (rw e at (v .inv .1))
 
 taken-requires : tie.Need-taken-requires Inv-loop μ-loop
 taken-requires c κs = tt
@@ -70,7 +71,7 @@ array-read-y : tie.Need-array-read-y Inv-loop μ-loop
 array-read-y c = let u = turned (c .before) in let en = u .enough in let ro = u .room in let e = c .taken .ensures in omega arith
 
 token-value-requires : tie.Need-token-value-requires Inv-loop μ-loop
-token-value-requires c κs = (turned (c .before) .below, c .before .before .before .before .before .before .before .before .before .before .pre .1)
+token-value-requires c κs = (turned (c .before) .below, c .before .before .before .before .before .before .before .pre .1)
 
 mul-stack : tie.Need-mul-stack Inv-loop μ-loop
 mul-stack c = let u = turned (c .before .before) in let en = u .enough in let ro = u .room in let e = c .before .taken .ensures in omega arith
@@ -79,7 +80,7 @@ array-write-stack : tie.Need-array-write-stack Inv-loop μ-loop
 array-write-stack c = let u = turned (c .before .before) in let en = u .enough in let ro = u .room in let e = c .before .taken .ensures in omega arith
 
 gather-requires : tie.Need-gather-requires Inv-loop μ-loop
-gather-requires c κs = (turned (c .before .before) .below, c .before .before .before .before .before .before .before .before .before .before .before .pre .1)
+gather-requires c κs = (turned (c .before .before) .below, c .before .before .before .before .before .before .before .before .pre .1)
 
 add-held : tie.Need-add-held Inv-loop μ-loop
 add-held c = let u = turned (c .before .before .before) in let en = u .enough in let ro = u .room in let e = c .before .before .taken .ensures in omega arith
@@ -96,21 +97,11 @@ loop-again c =
     let e = k .taken .ensures in
     (omega arith, rw e (turned (k .before) .again (c .before .token-value .result) (c .gather .result) (rw e at (c .before .token-value .ensures)) (c .gather .ensures)))
 
-enum-told : tie.Need-enum-told Inv-loop μ-loop
-enum-told c = search needs
+array-read-t27 : tie.Need-array-read-t27 Inv-loop μ-loop
+array-read-t27 c = lit< tt
 
 returns : tie.Need-returns Inv-loop μ-loop
 returns c =
-    let v = c .before .before .before .before .loop in
-    let a = c .before .before .before .before .before .before .before .before .args in
-    let e : a .e .count - v .i ≡ suc (a .e .count - (v .i + 1)) = omega arith in
-    absurd (unread _ (a .p .now) _ _ (v .offset) (v .held) (v .stack) (v .deps) _ (rw (c .enum-told .given .1) at (c .before .before .read-token .ensures)) (rw e at (v .inv .1)))
-
-array-read-t28 : tie.Need-array-read-t28 Inv-loop μ-loop
-array-read-t28 c = lit< tt
-
-returns-2 : tie.Need-returns-2 Inv-loop μ-loop
-returns-2 c =
     let v = c .before .loop in
     let a = c .before .before .before .before .before .args in
     let e : a .e .count - v .i ≡ 0 = omega arith in
@@ -124,8 +115,7 @@ evaluate-spec =
     μ-loop
     empty-requires
     loop-holds
-    read-token-requires
-    enum-known-t
+    token-at-requires
     taken-requires
     sub-low
     mul-x
@@ -141,7 +131,5 @@ evaluate-spec =
     add-i
     loop-less
     loop-again
-    enum-told
-    returns
-    array-read-t28
-    returns-2)
+    array-read-t27
+    returns)

@@ -1,4 +1,4 @@
--- `LocationSet::single` meets its contract: from the limit on it is the empty set. Assumes nothing.
+-- `LocationSet::single` meets its contract: one arm for each word, and from the limit on the empty set. Assumes nothing.
 use mathlib.Core.Path.{sym, ap, _∙_}
 use mathlib.Core.List.{List}
 use Prim.Native.Nat.{ℕ, _%_}
@@ -10,26 +10,33 @@ use borrow.Author.Needs.{needs}
 use Rattle.location.proofs.LocationSet.single.Statement.{statement}
 use Rattle.location.proofs.LocationSet.single.Tie as tie
 
+shl-bit : tie.Need-shl-bit
+shl-bit c = search needs
+
 empty-requires : tie.Need-empty-requires
 empty-requires c κs = search needs
 
 returns : tie.Need-returns
-unfolding empty single
-returns c = c .empty .ensures ∙ sym (ap (λ (ws : List ℕ). record { words = ws }) (only-out 4 (c .before .before .args .l .0) (omega arith)))
-
-shl-words : tie.Need-shl-words
-shl-words c = search needs
-
-mul-words : tie.Need-mul-words
-mul-words c = search needs
-
-array-write-words : tie.Need-array-write-words
-array-write-words c = search needs
+unfolding single only none
+returns c = rw (word-bit (c .before .args .l .0 % 64) (omega arith), c .match .keys1)
 
 returns-2 : tie.Need-returns-2
 unfolding single only none
-returns-2 c = rw (word-bit (c .before .args .l .0 % 64) (omega arith))
+returns-2 c = rw (word-bit (c .before .args .l .0 % 64) (omega arith), c .match .keys2)
+
+returns-3 : tie.Need-returns-3
+unfolding single only none
+returns-3 c = rw (word-bit (c .before .args .l .0 % 64) (omega arith), c .match .keys3)
+
+returns-4 : tie.Need-returns-4
+unfolding single only none
+returns-4 c = rw (word-bit (c .before .args .l .0 % 64) (omega arith), c .match .keys4)
+
+returns-5 : tie.Need-returns-5
+unfolding empty single
+returns-5 c =
+    c .empty .ensures ∙ sym (ap (λ (ws : List ℕ). record { words = ws }) (only-out 4 (c .before .before .args .l .0) (omega arith)))
 
 pub single-spec : {M : Type 1} → statement M
 single-spec =
-    tie.close (tie.spec empty-requires returns shl-words mul-words array-write-words returns-2)
+    tie.close (tie.spec shl-bit empty-requires returns returns-2 returns-3 returns-4 returns-5)
