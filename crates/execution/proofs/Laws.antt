@@ -2,18 +2,17 @@
 -- Assumes nothing.
 use mathlib.Core.Path.{_≡_, refl, sym, ap, _∙_}
 use mathlib.Core.Bool.{Bool, true, false}
-use mathlib.Core.List.{List, []}
+use mathlib.Core.List.{List}
 use Prim.Native.Nat.{ℕ, zero, suc, _+_, _*_, _/_, _<_, _≤_}
-use lib.Dec.{leb}
 use native.Mathlib.Omega.{arith}
 use lib.ListN.{length, replicate, length-replicate}
 use borrow.Author.Tests.{leb-true}
-use Rattle.location.specs.Sets.{registers, limit}
+use Rattle.location.specs.Sets.{registers}
 use Rattle.rules.specs.declared.Stop.the-variants.{TraceFull}
 use Rattle.rules.specs.declared.Trailer.{Trailer}
-use Rattle.rules.specs.Rules.Instructions.{Observation, skip, windowCosts}
+use Rattle.rules.specs.Rules.Instructions.{skip, windowCosts}
 use Rattle.rules.specs.Rules.Plain as plain
-use Rattle.rules.specs.Rules.Plain.{Code, endPlace, exec}
+use Rattle.rules.specs.Rules.Plain.{Code, endPlace}
 use Rattle.location.specs.declared.Label.{Label}
 use Rattle.rules.specs.Rules.Mispredicting.{rolling, opening, ordinary, forward}
 use Rattle.rules.specs.Rules.JobFile.{locations}
@@ -21,14 +20,14 @@ use Rattle.rules.specs.Theorems.JobLaws.{Limits}
 use Rattle.instruction.specs.declared.Instruction.{Instruction}
 use Rattle.instruction.specs.Meaning.{meaning}
 use Rattle.work.specs.declared.machine.Control.{Control}
-use Rattle.work.specs.Machines.{stateIn, machineOf}
+use Rattle.work.specs.Machines.{machineOf}
 use Rattle.work.specs.Moves.{expiredOn}
 use Rattle.effect.specs.declared.Observed.{Observed}
 use Rattle.effect.specs.declared.Observed.the-variants as shown
 use Rattle.effect.specs.declared.Effect.{Effect}
-use Rattle.effect.specs.Effects.{observations, effectMeaning, Executed}
+use Rattle.effect.specs.Effects.{observations, Executed}
 use Rattle.stepping.specs.declared.Progress.{Progress}
-use Rattle.stepping.specs.Steps.{Made, RolledBackTo, OpenedTo, CarriedOutTo, Effective}
+use Rattle.stepping.specs.Steps.{RolledBackTo, OpenedTo, CarriedOutTo, Effective}
 use Rattle.execution.specs.declared.Mode.{Mode}
 use Rattle.execution.specs.declared.Opening.the-variants as openings
 use Rattle.execution.specs.declared.Next.{Next}

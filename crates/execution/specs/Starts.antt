@@ -3,25 +3,23 @@
 use mathlib.Core.Path.{_≡_, refl, sym, ap, _∙_}
 use mathlib.Core.Bool.{true}
 use mathlib.Core.List.{List, []}
-use Prim.Native.Nat.{ℕ, _+_, _-_, _/_, _≤_}
+use Prim.Native.Nat.{ℕ, _-_, _/_, _≤_}
 use native.Mathlib.Omega.{arith}
 use lib.ListN.{length, take}
-use Rattle.location.specs.Sets.{registers, empty}
+use Rattle.location.specs.Sets.{empty}
 use Rattle.rules.specs.declared.Trailer.{Trailer}
 use Rattle.rules.specs.Rules.Instructions.{Instr, windowCosts}
-use Rattle.rules.specs.Rules.Plain.{Code, ownFrom}
-use Rattle.rules.specs.Rules.Mispredicting.{Machine, step, plainStep}
+use Rattle.rules.specs.Rules.Plain.{ownFrom}
 use Rattle.rules.specs.Rules.Runs.{Result, Job, run, first, blank, mispredictingRun, plainRun}
-use Rattle.rules.specs.Rules.JobFile.{got, program, trailer, locations, stateOf, jobOf, programOf}
+use Rattle.rules.specs.Rules.JobFile.{program, trailer, locations, stateOf, jobOf, programOf}
 use Rattle.rules.specs.Rules.Calls.{written, traceWords, workingWords, room}
 use Rattle.rules.specs.Rules.Pairs.{withState}
-use Rattle.rules.specs.Theorems.JobLaws.{Passed, job-init, job-budget, limits-hold}
+use Rattle.rules.specs.Theorems.JobLaws.{Passed, job-init, job-budget}
 use Rattle.token.specs.Meaning.{valueOr}
 use Rattle.program.specs.Offsets.{readable}
-use Rattle.work.specs.Machines.{stateIn, machineOf, Fit}
+use Rattle.work.specs.Machines.{stateIn, machineOf}
 use Rattle.stepping.specs.declared.Progress.{Progress}
 use Rattle.stepping.specs.Progress.{logOf}
-use Rattle.stepping.specs.Steps.{Counted}
 use Rattle.execution.specs.declared.Mode.{Mode}
 use Rattle.execution.specs.declared.Mode.the-variants as modes
 use Rattle.execution.specs.Turns.{stepBy, codeOf, Loaded, Running}

@@ -1,13 +1,13 @@
 -- How the tests of a turn meet the rules' run, and how a run is put together from its turns.
 -- Assumes nothing.
 use mathlib.Core.Path.{_≡_, refl, sym, ap, ap₂, _∙_}
-use mathlib.Core.Bool.{Bool, true, false, cond, _||_, true≢false}
-use mathlib.Core.List.{List, [], _∷_, _++_, append-assoc}
+use mathlib.Core.Bool.{Bool, true, false, _||_, true≢false}
+use mathlib.Core.List.{List, [], _∷_, _++_}
 use Prim.Native.Nat.{ℕ, zero, suc, _+_, _-_, _*_, _/_, _<_, _≤_}
 use native.Mathlib.Nat.{zero-add}
 use native.Mathlib.Omega.{arith}
 use lib.Dec.{eqb, leb}
-use lib.ListN.{length, getD, take, drop, length-append, length-drop}
+use lib.ListN.{length, getD, drop, length-append, length-drop}
 use lib.Seq.{sets, sets-eq, length-sets, take-at, drop-at, drop-drop, getD-drop}
 use borrow.Author.Tests.{leb-true, leb-false, le-leb, lt-leb, eqb-false}
 use Rattle.location.specs.Sets.{limit}
@@ -18,7 +18,7 @@ use Rattle.rules.specs.Rules.Instructions.{Instr, skip, Observation, start, rol
 use Rattle.rules.specs.Rules.Plain.{Code, State, endPlace, fetch}
 use Rattle.rules.specs.Rules.Mispredicting.{Branch, Machine, Step, expired, rolling, forward, ordinary, lower, stepOn, step, plainStep}
 use Rattle.rules.specs.Rules.Loop.{ended}
-use Rattle.rules.specs.Rules.Runs.{Log, Result, note, fits, overOn, over, run}
+use Rattle.rules.specs.Rules.Runs.{Log, Result, fits, overOn, over, run}
 use Rattle.rules.specs.Rules.JobFile.{Read, got, refused, program, locations}
 use Rattle.rules.specs.Rules.Calls.{written, traceWords}
 use Rattle.rules.specs.Theorems.RunLaws.{run-over, run-spent, run-full, run-step}
@@ -34,11 +34,10 @@ use Rattle.work.specs.declared.BranchEntry.{BranchEntry}
 use Rattle.work.specs.declared.machine.Control.{Control}
 use Rattle.work.specs.Layout.{labels}
 use Rattle.work.specs.Words.{changeAt, entryAt, windowIn}
-use Rattle.work.specs.Machines.{stateIn, branchesOf, machineOf, Fit}
+use Rattle.work.specs.Machines.{stateIn, branchesOf, machineOf}
 use Rattle.work.specs.Moves.{expiredOn}
 use Rattle.stepping.specs.declared.Progress.{Progress}
 use Rattle.stepping.specs.Progress.{logOf}
-use Rattle.stepping.specs.Steps.{Counted, Made}
 use Rattle.execution.specs.declared.Mode.{Mode}
 use Rattle.execution.specs.declared.Mode.the-variants as modes
 use Rattle.execution.specs.declared.Next.{Next}

@@ -1,20 +1,19 @@
 -- What a turn and a run promise.
 -- Assumes nothing.
 use mathlib.Core.Path.{_≡_}
-use mathlib.Core.Bool.{Bool, true, false}
+use mathlib.Core.Bool.{true, false}
 use mathlib.Core.List.{List, [], _∷_}
-use Prim.Native.Nat.{ℕ, zero, suc, _+_, _-_, _/_, _<_, _≤_}
-use lib.Dec.{leb}
+use Prim.Native.Nat.{ℕ, _+_, _-_, _/_, _<_, _≤_}
 use lib.ListN.{length, getD, drop}
 use Rattle.location.specs.Sets.{limit, registers}
 use Rattle.rules.specs.declared.Stop.{Stop}
-use Rattle.rules.specs.declared.Stop.the-variants.{Finished, Spent, TraceFull}
+use Rattle.rules.specs.declared.Stop.the-variants.{TraceFull}
 use Rattle.rules.specs.declared.Trailer.{Trailer}
 use Rattle.rules.specs.Rules.Instructions.{Instr, Observation, windowCosts}
 use Rattle.rules.specs.Rules.Plain.{Code, endPlace}
 use Rattle.rules.specs.Rules.Mispredicting.{Branch, Machine, Step, rolling, opening, ordinary, forward, step, plainStep}
 use Rattle.rules.specs.Rules.Loop.{ended}
-use Rattle.rules.specs.Rules.Runs.{Log, Result, fits, over, run}
+use Rattle.rules.specs.Rules.Runs.{Result, fits, over, run}
 use Rattle.rules.specs.Rules.JobFile.{postfix, program, locations}
 use Rattle.rules.specs.Rules.Calls.{written, traceWords}
 use Rattle.rules.specs.Theorems.JobLaws.{Limits}

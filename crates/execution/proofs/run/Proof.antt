@@ -1,6 +1,6 @@
 -- `run` meets its contract: what is left of the run from each turn is the rest of the whole run. The measure is what is left of
 -- the budget. Assumes nothing.
-use mathlib.Core.Path.{_≡_, refl, sym, _∙_}
+use mathlib.Core.Path.{_≡_, refl}
 use Prim.Native.Nat.{_-_}
 use native.Mathlib.Omega.{arith}
 use lib.ListN.{length}
@@ -10,10 +10,6 @@ use Rattle.execution.specs.Starts.{whole, running-start}
 use borrow.Author.Needs.{needs}
 use Rattle.execution.proofs.run.Statement.{statement}
 use Rattle.execution.proofs.run.Tie as tie
-use Rattle.execution.proofs.run.Reads as reads
-use Rattle.execution.proofs.run.Lts as lts
-use Rattle.execution.proofs.start.Reads as start-reads
-use Rattle.execution.proofs.take_turn.Reads as take-turn-reads
 
 abbrev Inv-loop : tie.InvT-loop
 Inv-loop p t mode work₀ trace₀ c₀ work trace c =

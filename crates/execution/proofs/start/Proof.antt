@@ -6,9 +6,6 @@ use Rattle.execution.specs.Starts.{beginning}
 use borrow.Author.Needs.{needs}
 use Rattle.execution.proofs.start.Statement.{statement}
 use Rattle.execution.proofs.start.Tie as tie
-use Rattle.execution.proofs.start.Reads as reads
-use Rattle.execution.proofs.start.Lts as lts
-use Rattle.location.proofs.LocationSet.empty.Reads as empty-reads
 
 empty-requires : tie.Need-empty-requires
 empty-requires c κs = search needs

@@ -1,5 +1,5 @@
 -- `take_turn` meets its contract: the stops in their order, then the rule that is next. Assumes nothing.
-use mathlib.Core.Path.{_≡_, sym, _∙_}
+use mathlib.Core.Path.{sym, _∙_}
 use Rattle.work.specs.Words.{entryAt, changeAt}
 use Rattle.work.specs.Machines.{stateIn}
 use Rattle.work.proofs.Rules.{expired-depth}
@@ -9,14 +9,6 @@ use Rattle.execution.proofs.Laws.{inside, unchanged}
 use borrow.Author.Needs.{needs}
 use Rattle.execution.proofs.take_turn.Statement.{statement}
 use Rattle.execution.proofs.take_turn.Tie as tie
-use Rattle.execution.proofs.take_turn.Reads as reads
-use Rattle.execution.proofs.take_turn.Lts as lts
-use Rattle.execution.proofs.advance.Reads as advance-reads
-use Rattle.stops.proofs.is_over.Reads as is-over-reads
-use Rattle.execution.proofs.try_roll_back.Reads as try-roll-back-reads
-use Rattle.location.proofs.Label.new.Reads as new-reads
-use Rattle.program.proofs.fetch.Reads as fetch-reads
-use Rattle.work.proofs.machine.expired.Reads as expired-reads
 
 is-over-requires : tie.Need-is-over-requires
 is-over-requires c κs = search needs

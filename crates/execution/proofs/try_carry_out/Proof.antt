@@ -1,19 +1,9 @@
 -- `try_carry_out` meets its contract: rule 3 if there is room, else nothing. Assumes nothing.
-use mathlib.Core.Path.{_≡_, sym, ap, _∙_}
-use Prim.Native.Nat.{_≤_, _*_, _+_}
 use native.Mathlib.Omega.{arith}
-use lib.ListN.{length}
-use Rattle.effect.specs.Effects.{observations}
 use Rattle.execution.proofs.Laws.{room-words, few-observations, effective, carried, not-carried}
 use borrow.Author.Needs.{needs}
 use Rattle.execution.proofs.try_carry_out.Statement.{statement}
 use Rattle.execution.proofs.try_carry_out.Tie as tie
-use Rattle.execution.proofs.try_carry_out.Reads as reads
-use Rattle.execution.proofs.try_carry_out.Lts as lts
-use Rattle.effect.proofs.effect_of.Reads as effect-of-reads
-use Rattle.stops.proofs.has_room.Reads as has-room-reads
-use Rattle.execution.proofs.shown.Reads as shown-reads
-use Rattle.stepping.proofs.carry_out.Reads as carry-out-reads
 
 effect-of-requires : tie.Need-effect-of-requires
 effect-of-requires c κs = search needs

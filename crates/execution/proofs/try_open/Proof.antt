@@ -4,10 +4,6 @@ use Rattle.execution.proofs.Laws.{room-words, opened, not-opened}
 use borrow.Author.Needs.{needs}
 use Rattle.execution.proofs.try_open.Statement.{statement}
 use Rattle.execution.proofs.try_open.Tie as tie
-use Rattle.execution.proofs.try_open.Reads as reads
-use Rattle.execution.proofs.try_open.Lts as lts
-use Rattle.stops.proofs.has_room.Reads as has-room-reads
-use Rattle.stepping.proofs.open_branch.Reads as open-branch-reads
 
 has-room-requires : tie.Need-has-room-requires
 has-room-requires c κs = search needs

@@ -4,10 +4,6 @@ use Rattle.execution.proofs.Laws.{room-words, rolled, not-rolled}
 use borrow.Author.Needs.{needs}
 use Rattle.execution.proofs.try_roll_back.Statement.{statement}
 use Rattle.execution.proofs.try_roll_back.Tie as tie
-use Rattle.execution.proofs.try_roll_back.Reads as reads
-use Rattle.execution.proofs.try_roll_back.Lts as lts
-use Rattle.stops.proofs.has_room.Reads as has-room-reads
-use Rattle.stepping.proofs.roll_back.Reads as roll-back-reads
 
 has-room-requires : tie.Need-has-room-requires
 has-room-requires c κs = search needs
