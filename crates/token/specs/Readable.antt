@@ -8,13 +8,13 @@ use Prim.Native.Nat.{ℕ, suc, _+_, _-_, _<_, _≤_}
 use native.Mathlib.Omega.{arith}
 use lib.Dec.{eqb, leb, ltb}
 use lib.ListN.{length, getD}
-use borrow.Author.Tests.{leb-true, ltb-true, le-ltb, ne-eqb}
+use borrow.Author.Tests.{leb-true, ltb-true, ltb-false, le-leb, lt-leb, lt-ltb, le-ltb, ne-eqb}
 use Rattle.rules.specs.declared.Refusal.the-variants as refusals
-use Rattle.rules.specs.Rules.Operators.{add}
-use Rattle.rules.specs.Rules.Expressions.{Token, const, op2, Expr, held, sound}
-use Rattle.rules.specs.Rules.JobFile.{Read, got, refused, andThen, return, refuse, little, wordOf, byte, binary, constant, tokenOf, token, tokens, expr}
+use Rattle.rules.specs.Rules.Operators.{neg, add}
+use Rattle.rules.specs.Rules.Expressions.{Token, reg, const, op1, op2, Expr, held, sound}
+use Rattle.rules.specs.Rules.JobFile.{Read, got, refused, andThen, return, refuse, little, wordOf, byte, unary, binary, constant, tokenOf, token, tokens, expr}
 use Rattle.token.specs.declared.Expression.{Expression}
-use Rattle.token.specs.Bytes.{byte-got}
+use Rattle.token.specs.Bytes.{byte-got, byte-past}
 use Rattle.token.specs.Meaning.{readable, nextOffset, valueOr, tokensOf}
 
 unread : false ≡ true → ⊥
@@ -71,6 +71,78 @@ operator-read p at h l =
         → cond b (return (op2 (getD binary (getD p at 0 - 19) add))) (refuse refusals.Encoding) p (at + 1) ≡ got (op2 (getD binary (getD p at 0 - 19) add)) (at + 1)
     go true h = refl
     go false h = absurd (unread h)
+
+-- ---- when a token can be read: its byte stands before the end, and is known
+module _ (p : List ℕ) (at : ℕ) (l : at < length p) where
+  pub known-readable : getD p at 0 ≢ 16 → getD p at 0 ≤ 28 → readable (token p at) ≡ true
+  unfolding token tokenOf readable
+  known-readable ne k = rw (byte-got p at l, ne-eqb _ _ ne, lt-ltb (getD p at 0) 29 (omega arith)) (go (ltb (getD p at 0) 16) (ltb (getD p at 0) 19))
+    where
+      t : ℕ
+      t = getD p at 0
+
+      go : (a b : Bool)
+          → readable (cond a (return (reg t)) (cond b (return (op1 (getD unary (t - 17) neg))) (return (op2 (getD binary (t - 19) add)))) p (at + 1)) ≡ true
+      go true b = refl
+      go false true = refl
+      go false false = refl
+
+  pub unknown-unreadable : 29 ≤ getD p at 0 → readable (token p at) ≡ false
+  unfolding token tokenOf readable
+  unknown-unreadable k =
+      let t = getD p at 0 in
+      let ne : t ≢ 16 = omega arith in
+      rw (byte-got p at l, le-ltb t 16 (omega arith), ne-eqb t 16 ne, le-ltb t 19 (omega arith), le-ltb t 29 k)
+
+  pub constant-readable : getD p at 0 ≡ 16 → at + 1 + 8 ≤ length p → readable (token p at) ≡ true
+  unfolding token tokenOf constant wordOf readable
+  constant-readable e k = rw (byte-got p at l, e, le-leb (at + 1 + 8) (length p) k)
+
+  pub constant-unreadable : getD p at 0 ≡ 16 → length p < at + 1 + 8 → readable (token p at) ≡ false
+  unfolding token tokenOf constant wordOf readable
+  constant-unreadable e k = rw (byte-got p at l, e, lt-leb (at + 1 + 8) (length p) k)
+
+pub past-unreadable : (p : List ℕ) (at : ℕ) → length p ≤ at → readable (token p at) ≡ false
+unfolding token readable
+past-unreadable p at h = rw (byte-past p at h)
+
+-- ---- a token that cannot be read is refused with 4
+abbrev Refuses : Read Token → Type 0
+Refuses R = readable R ≡ false → R ≡ refused refusals.Encoding
+
+was-read : {A : Type 0} → true ≡ false → A
+was-read h = absurd (let z : _≡_ {A = ℕ} 0 1 = cc in omega arith)
+
+constant-refuses : (p : List ℕ) (at : ℕ) → Refuses (constant p at)
+unfolding constant wordOf readable
+constant-refuses p at = go (leb (at + 8) (length p))
+  where
+    go : (b : Bool) → Refuses (andThen (cond b (got (little p at 8) (at + 8)) (refused refusals.Encoding)) (λ c q. got (const c) q))
+    go true h = was-read h
+    go false h = refl
+
+token-of-refuses : (t : ℕ) (p : List ℕ) (at : ℕ) → Refuses (tokenOf t p at)
+unfolding tokenOf readable
+token-of-refuses t p at = go (ltb t 16) (eqb t 16) (ltb t 19) (ltb t 29)
+  where
+    go : (a b c d : Bool)
+        → Refuses
+        (cond a (return (reg t))
+        (cond b constant
+        (cond c (return (op1 (getD unary (t - 17) neg))) (cond d (return (op2 (getD binary (t - 19) add))) (refuse refusals.Encoding)))) p at)
+    go true b c d h = was-read h
+    go false true c d h = constant-refuses p at h
+    go false false true d h = was-read h
+    go false false false true h = was-read h
+    go false false false false h = refl
+
+pub unreadable-refused : (p : List ℕ) (at : ℕ) → readable (token p at) ≡ false → token p at ≡ refused refusals.Encoding
+unfolding token
+unreadable-refused p at = go (ltb at (length p)) refl
+  where
+    go : (b : Bool) → ltb at (length p) ≡ b → Refuses (andThen (byte p at) (λ t q. tokenOf t p q))
+    go true e = let l = ltb-true at (length p) e in rw (byte-got p at l) (token-of-refuses (getD p at 0) p (at + 1))
+    go false e = let l = ltb-false at (length p) e in λ h. rw (byte-past p at l)
 
 -- the first of some tokens, and the others
 pub tokens-read : (k : ℕ) (p : List ℕ) (at : ℕ) → readable (tokens (suc k) p at) ≡ true

@@ -37,49 +37,13 @@ pub enum Token {
     Binary(u8),
 }
 
-// A token with the offset after it.
-pub enum TokenRead {
-    Found(Token, usize),
-    Refused(Refusal),
-}
-
-pub fn read_token(p: &[u8], at: usize) -> TokenRead
-    ensures { λ r. ⌜ tokenReadMeaning r ≡ token (now (p .entry)) at ⌝ }
-{
-    if p.len() <= at {
-        return TokenRead::Refused(Refusal::Encoding);
-    }
-    let t = p[at];
-    let next = at + 1;
-    if t < 16 {
-        return TokenRead::Found(Token::Register(t), next);
-    }
-    if t == 16 {
-        if p.len() - next < 8 {
-            return TokenRead::Refused(Refusal::Encoding);
-        }
-        let c = number(p, next, 8);
-        let past = next + 8;
-        return TokenRead::Found(Token::Constant(c), past);
-    }
-    if t < 19 {
-        let unary = t - 17;
-        return TokenRead::Found(Token::Unary(unary), next);
-    }
-    if t < 29 {
-        let binary = t - 19;
-        return TokenRead::Found(Token::Binary(binary), next);
-    }
-    TokenRead::Refused(Refusal::Encoding)
-}
-
 // A token and the offset after it.
 pub struct TokenAt {
     pub token: Token,
     pub next: usize,
 }
 
-// The token at an offset where one can be read: taken as it stands, with no test.
+// The token at an offset where one can be read: taken as it stands, with no test of the length.
 pub fn token_at(p: &[u8], at: usize) -> TokenAt
     requires { ⌜ readable (token (now p) at) ≡ true ⌝ }
     ensures { λ r. ⌜ got (tokenMeaning (r .token)) (r .next) ≡ token (now (p .entry)) at ⌝ }
@@ -109,6 +73,44 @@ pub fn token_at(p: &[u8], at: usize) -> TokenAt
         token: Token::Binary(byte - 19),
         next,
     }
+}
+
+// Whether a token can be read at an offset: its byte is known, and what the byte asks for stands before the end.
+fn stands(p: &[u8], at: usize) -> bool
+    ensures { λ r. ⌜ r ≡ readable (token (now (p .entry)) at) ⌝ }
+{
+    if p.len() <= at {
+        return false;
+    }
+    let byte = p[at];
+    if 28 < byte {
+        return false;
+    }
+    if byte != 16 {
+        return true;
+    }
+    if p.len() - at < 9 {
+        return false;
+    }
+    true
+}
+
+// A token with the offset after it, or a refusal.
+pub enum TokenRead {
+    Found(Token, usize),
+    Refused(Refusal),
+}
+
+// The token at an offset of any bytes.
+pub fn read_token(p: &[u8], at: usize) -> TokenRead
+    ensures { λ r. ⌜ tokenReadMeaning r ≡ token (now (p .entry)) at ⌝ }
+{
+    if stands(p, at) {
+        let read = token_at(p, at);
+        let t = read.token;
+        return TokenRead::Found(t, read.next);
+    }
+    TokenRead::Refused(Refusal::Encoding)
 }
 
 // How many operands a token takes.
