@@ -80,29 +80,46 @@ fn named(table: &str) -> HashMap<String, usize> {
             let there = folder.join(&file).exists() || folder.join("by-hand").join(&file).exists();
             assert!(there, "{krate}: no wrong program {edit}");
         }
-        let name = function.rsplit("::").next().expect("a name");
-        *counts.entry(format!("{krate}/{name}")).or_default() += edits.len();
+        counts.insert(format!("{krate}/{function}"), edits.len());
     }
     counts
+}
+
+/// The public functions of a source, each with its type or module before it.
+fn public_functions(source: &Path) -> Vec<String> {
+    let text = fs::read_to_string(source).expect("a source");
+    let stem = source.file_stem().expect("a name").to_string_lossy().into_owned();
+    let module = if stem == "lib" || stem == "main" { String::new() } else { format!("{stem}::") };
+    let mut owner = String::new();
+    let mut functions = Vec::new();
+    for line in text.lines() {
+        if let Some(rest) = line.strip_prefix("impl ") {
+            owner = format!("{}::", rest.trim_end_matches(" {"));
+        } else if line == "}" {
+            owner.clear();
+        }
+        let Some(rest) = line.trim_start().strip_prefix("pub ") else { continue };
+        let rest = rest.strip_prefix("extern \"C\" ").unwrap_or(rest);
+        if let Some(signature) = rest.strip_prefix("fn ") {
+            let name = signature.split('(').next().expect("a name");
+            functions.push(format!("{module}{owner}{name}"));
+        }
+    }
+    functions
 }
 
 #[test]
 fn two_wrong_programs_for_each_public_function() {
     let table = fs::read_to_string(root().join("docs/WRONG-PROGRAMS.md")).expect("the table");
-    let counts = named(&table);
+    let mut counts = named(&table);
     for krate in entries(&root().join("crates")) {
         let name = krate.file_name().expect("a name").to_string_lossy().into_owned();
         for source in entries(&krate.join("src")) {
-            let text = fs::read_to_string(&source).expect("a source");
-            let public = text.lines().filter_map(|line| {
-                let rest = line.trim_start().strip_prefix("pub ")?;
-                rest.strip_prefix("extern \"C\" ").unwrap_or(rest).strip_prefix("fn ")
-            });
-            for function in public {
-                let function = function.split('(').next().expect("a name");
-                let count = counts.get(&format!("{name}/{function}")).copied().unwrap_or(0);
+            for function in public_functions(&source) {
+                let count = counts.remove(&format!("{name}/{function}")).unwrap_or(0);
                 assert!(count >= 2, "{name}::{function}: {count} wrong programs");
             }
         }
     }
+    assert!(counts.is_empty(), "no such functions: {:?}", counts.keys());
 }

@@ -23,7 +23,8 @@ impl Label {
     pub fn index(self) -> usize
         ensures { λ r. ⌜ r ≡ self .0 ⌝ }
     {
-        self.0
+        let label = self.0;
+        label
     }
 }
 
@@ -37,7 +38,8 @@ impl Address {
     pub fn value(self) -> u64
         ensures { λ r. ⌜ r ≡ self .0 ⌝ }
     {
-        self.0
+        let address = self.0;
+        address
     }
 }
 
@@ -68,7 +70,8 @@ impl Location {
     pub fn index(self) -> usize
         ensures { λ r. ⌜ r ≡ self .0 ⌝ }
     {
-        self.0
+        let location = self.0;
+        location
     }
 }
 
