@@ -102,43 +102,43 @@ sourced p (AssignIf r c e) h b = and-left (sound (tokensOf p c)) (sound (tokensO
 sourced p Barrier h b = tt
 
 -- ---- the instructions: x is the effect of what its callee was given
-module _ {p w : List ℕ} {last cells place : ℕ} {x : Effect} where
+module _ {p w : List ℕ} {end cells place : ℕ} {x : Effect} where
   executed : (i : Instruction) {rule : Code → State → plain.Effect} → Denotes w cells rule x
-      → ((code : Code) → endPlace code ≡ last → rule code (stateOf w cells) ≡ exec code (stateOf w cells) place (meaning p i))
-      → Executed p w last cells place i x
+      → ((code : Code) → endPlace code ≡ end → rule code (stateOf w cells) ≡ exec code (stateOf w cells) place (meaning p i))
+      → Executed p w end cells place i x
   executed i d h = record { exact = λ code el ec. d .exact code ec ∙ h code el; location = d .location }
 
-  pub skip-executed : {i : Instruction} → i ≡ Skip → Denotes w cells (λ code σ. silent σ place) x → Executed p w last cells place i x
+  pub skip-executed : {i : Instruction} → i ≡ Skip → Denotes w cells (λ code σ. silent σ place) x → Executed p w end cells place i x
   unfolding exec
   skip-executed ei d = rw ei (executed Skip d (λ code el. refl))
 
-  pub barrier-executed : {i : Instruction} → i ≡ Barrier → Denotes w cells (λ code σ. silent σ place) x → Executed p w last cells place i x
+  pub barrier-executed : {i : Instruction} → i ≡ Barrier → Denotes w cells (λ code σ. silent σ place) x → Executed p w end cells place i x
   unfolding exec
   barrier-executed ei d = rw ei (executed Barrier d (λ code el. refl))
 
   pub assign-executed : {i : Instruction} {r : ℕ} {e : Expression} {v : Tagged} → i ≡ Assign r e → v ≡ eval (taggedAt w) (tokensOf p e)
-      → Denotes w cells (λ code σ. silent (put σ r v) place) x → Executed p w last cells place i x
+      → Denotes w cells (λ code σ. silent (put σ r v) place) x → Executed p w end cells place i x
   unfolding exec
   assign-executed {r = r} {e = e} ei ev d =
       let f = value-in p w cells e ev in
       rw ei (executed (Assign r e) d (λ code el j. silent (put (stateOf w cells) r (f j)) place))
 
   pub load-executed : {i : Instruction} {r : ℕ} {e : Expression} {a : Tagged} → i ≡ Load r e → a ≡ eval (taggedAt w) (tokensOf p e)
-      → Denotes w cells (λ code σ. loadEffect code σ place r a) x → Executed p w last cells place i x
+      → Denotes w cells (λ code σ. loadEffect code σ place r a) x → Executed p w end cells place i x
   unfolding exec
   load-executed {r = r} {e = e} ei ea d =
       let f = value-in p w cells e ea in
       rw ei (executed (Load r e) d (λ code el j. loadEffect code (stateOf w cells) place r (f j)))
 
   pub store-executed : {i : Instruction} {r : ℕ} {e : Expression} {a : Tagged} → i ≡ Store r e → a ≡ eval (taggedAt w) (tokensOf p e)
-      → Denotes w cells (λ code σ. storeEffect code σ place r a) x → Executed p w last cells place i x
+      → Denotes w cells (λ code σ. storeEffect code σ place r a) x → Executed p w end cells place i x
   unfolding exec
   store-executed {r = r} {e = e} ei ea d =
       let f = value-in p w cells e ea in
       rw ei (executed (Store r e) d (λ code el j. storeEffect code (stateOf w cells) place r (f j)))
 
   pub jump-executed : {i : Instruction} {e : Expression} {t : Tagged} {to : ℕ} → i ≡ Jump e → t ≡ eval (taggedAt w) (tokensOf p e)
-      → to ≡ min (t .value) last → Denotes w cells (λ code σ. goEffect σ to t) x → Executed p w last cells place i x
+      → to ≡ min (t .value) end → Denotes w cells (λ code σ. goEffect σ to t) x → Executed p w end cells place i x
   unfolding exec
   jump-executed {e = e} {t = t} ei et eq d =
       let f = value-in p w cells e et in
@@ -148,7 +148,7 @@ module _ {p w : List ℕ} {last cells place : ℕ} {x : Effect} where
   -- register number k is r, and holds t
   pub branch-executed : {i : Instruction} {r k : ℕ} {l : Label} {t : Tagged} {to : ℕ} → i ≡ BranchZero r l → r < registers → k ≡ r
       → t ≡ taggedAt w k → to ≡ branchTo t (l .0) (place + 1) → Denotes w cells (λ code σ. goEffect σ to t) x
-      → Executed p w last cells place i x
+      → Executed p w end cells place i x
   unfolding exec
   branch-executed {r = r} {l = l} ei h ek et eq d =
       let f = register-at w cells h ek et in
@@ -158,7 +158,7 @@ module _ {p w : List ℕ} {last cells place : ℕ} {x : Effect} where
 
   pub assign-if-executed : {i : Instruction} {r : ℕ} {c e : Expression} {t v : Tagged} → i ≡ AssignIf r c e → r < registers
       → t ≡ eval (taggedAt w) (tokensOf p c) → v ≡ chosen t (eval (taggedAt w) (tokensOf p e)) (taggedAt w r)
-      → Denotes w cells (λ code σ. silent (put σ r v) place) x → Executed p w last cells place i x
+      → Denotes w cells (λ code σ. silent (put σ r v) place) x → Executed p w end cells place i x
   unfolding exec
   assign-if-executed {r = r} {c = c} {e = e} ei h et ev d =
       let fc = value-in p w cells c et in

@@ -52,9 +52,9 @@ pub record Executable (p w : List ℕ) (cells place : ℕ) (i : Instruction) : T
   pub sound : postfix (meaning p i) ≡ true
   pub below : RegistersBelow registers (meaning p i)
 
--- The effect of the instruction at a place, in every program that ends at `last` and has so many cells: the rules' effect on the
+-- The effect of the instruction at a place, in every program that ends at `end` and has so many cells: the rules' effect on the
 -- state in the words, and a location of that state.
-pub record Executed (p w : List ℕ) (last cells place : ℕ) (i : Instruction) (e : Effect) : Type 0 where
-  pub exact : (code : Code) → endPlace code ≡ last → code .cells ≡ cells
+pub record Executed (p w : List ℕ) (end cells place : ℕ) (i : Instruction) (e : Effect) : Type 0 where
+  pub exact : (code : Code) → endPlace code ≡ end → code .cells ≡ cells
       → effectMeaning (stateIn w (registers + cells)) e ≡ exec code (stateIn w (registers + cells)) place (meaning p i)
   pub location : e .location .0 < registers + cells

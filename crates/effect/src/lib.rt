@@ -157,7 +157,8 @@ fn store_effect(work: &[u64], cells: usize, place: usize, r: u8, a: Tagged) -> E
     }
 }
 
-// What register r holds after a conditional assignment on c: the expression is evaluated only where it is assigned.
+// What register r holds after a conditional assignment on c: the expression is evaluated only where it is assigned. It is so by
+// `evaluate`, so that `value_of` has one caller and can be made part of a step.
 fn chosen(p: &[u8], work: &[u64], r: u8, c: Tagged, e: Expression) -> Tagged
     requires { ⌜ sound (tokensOf (now p) e) ≡ true ⌝ }
     requires { ⌜ operandBase registers ≤ length (now work) ⌝ }
@@ -172,11 +173,11 @@ fn chosen(p: &[u8], work: &[u64], r: u8, c: Tagged, e: Expression) -> Tagged
 }
 
 // The place that a jump goes to: END where there is no such label.
-fn jump_to(value: u64, last: usize) -> usize
-    ensures { λ r. ⌜ r ≡ min value last ⌝ }
+fn jump_to(value: u64, end: usize) -> usize
+    ensures { λ r. ⌜ r ≡ min value end ⌝ }
 {
-    if last as u64 <= value {
-        return last;
+    if end as u64 <= value {
+        return end;
     }
     value as usize
 }
@@ -213,7 +214,7 @@ fn source_of(i: Instruction) -> Source
 }
 
 // The value of what an instruction reads first; 0 where it reads nothing.
-fn operand(p: &[u8], work: &[u64], i: Instruction) -> Tagged
+fn source_value(p: &[u8], work: &[u64], i: Instruction) -> Tagged
     requires { ⌜ Sourced (now p) (sourceOf i) × (operandBase registers ≤ length (now work)) ⌝ }
     ensures { λ r. ⌜ r ≡ sourceIn (now (p .entry)) (taggedAt (now (work .entry))) (sourceOf i) ⌝ }
 {
@@ -227,26 +228,26 @@ fn operand(p: &[u8], work: &[u64], i: Instruction) -> Tagged
     }
 }
 
-// The effect of the instruction at a place, in a program that ends at `last` and has so many cells. What it reads first is
+// The effect of the instruction at a place, in a program that ends at `end` and has so many cells. What it reads first is
 // evaluated in one place, so that the value need not go through memory.
 pub fn effect_of(
     p: &[u8],
     work: &[u64],
-    last: usize,
+    end: usize,
     cells: usize,
     place: usize,
     i: Instruction,
 ) -> Effect
     requires { ⌜ Executable (now p) (now work) cells place i ⌝ }
-    ensures { λ x. ⌜ Executed (now (p .entry)) (now (work .entry)) last cells place i x ⌝ }
+    ensures { λ x. ⌜ Executed (now (p .entry)) (now (work .entry)) end cells place i x ⌝ }
 {
-    let a = operand(p, work, i);
+    let a = source_value(p, work, i);
     match i {
         Instruction::Skip => silent_effect(place),
         Instruction::Assign(r, _) => assigns(place, r, a),
         Instruction::Load(r, _) => load_effect(work, cells, place, r, a),
         Instruction::Store(r, _) => store_effect(work, cells, place, r, a),
-        Instruction::Jump(_) => goes_to(jump_to(a.value, last), a),
+        Instruction::Jump(_) => goes_to(jump_to(a.value, end), a),
         Instruction::BranchZero(_, l) => goes_to(branch_to(a, l, place + 1), a),
         Instruction::AssignIf(r, _, e) => assigns(place, r, chosen(p, work, r, a, e)),
         Instruction::Barrier => silent_effect(place),

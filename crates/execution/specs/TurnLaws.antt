@@ -247,7 +247,7 @@ module _ (p : List ℕ) (t : Trailer) (mode : Mode) (w area : List ℕ) (c : Pro
 
     pub advancing : (0 < c .control .depth → 0 < windowIn w (c .control .depth)) → Advancing p t w area i c
     advancing live = record {
-      live = record {
+      can = record {
         fits = r .fits;
         counted = r .counted;
         place = let k = r .loaded .limits .count-most in omega arith;

@@ -108,7 +108,7 @@ pub record CarryingTried (p : List ℕ) (t : Trailer) (w w′ area area′ : Lis
 
 -- What an instruction that is next asks: rules 2 and 3 can be tried, and its expressions and registers are those of a job.
 pub record Advancing (p : List ℕ) (t : Trailer) (w area : List ℕ) (i : Instruction) (c : Progress) : Type 0 where
-  pub live : CanStep w area c
+  pub can : CanStep w area c
   pub limits : Limits t
   pub sound : postfix (meaning p i) ≡ true
   pub below : RegistersBelow registers (meaning p i)

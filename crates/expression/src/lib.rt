@@ -195,7 +195,7 @@ fn operand_value(work: &[u64], o: Operand) -> Tagged
     }
 }
 
-// The value of an expression that keeps the postfix rule. Most are short, and need no stack.
+// The value of an expression that keeps the postfix rule: one operand, or two and their operator, need no stack.
 pub fn value_of(p: &[u8], work: &[u64], e: Expression) -> Tagged
     requires { ⌜ (sound (tokensOf (now p) e) ≡ true) × (operandBase registers ≤ length (now work)) ⌝ }
     ensures { λ r. ⌜ r ≡ eval (taggedAt (now (work .entry))) (tokensOf (now (p .entry)) e) ⌝ }

@@ -65,12 +65,12 @@ trace-length n [] = omega arith
 trace-length n (o ∷ os) = omega (arith, length-append (observationLine n o) (traceLines n os), observation-length n o, trace-length n os)
 
 -- two words an observation
-pub observed-length : (k : ℕ) (ws : List ℕ) → 2 * length (observationsIn k ws) ≤ length ws
+pub observations-length : (k : ℕ) (ws : List ℕ) → 2 * length (observationsIn k ws) ≤ length ws
 unfolding observationsIn
-observed-length zero ws = omega arith
-observed-length (suc k) [] = omega arith
-observed-length (suc k) (x ∷ []) = omega arith
-observed-length (suc k) (x ∷ v ∷ ws) = omega (arith, observed-length k ws)
+observations-length zero ws = omega arith
+observations-length (suc k) [] = omega arith
+observations-length (suc k) (x ∷ []) = omega arith
+observations-length (suc k) (x ∷ v ∷ ws) = omega (arith, observations-length k ws)
 
 -- ---- the sets
 location-length : (l : ℕ) → length (locationText l) ≤ 22

@@ -14,21 +14,21 @@ use Rattle.rules.specs.Rules.Listing.{answerLines}
 use Rattle.listing.specs.Lines.{observationOf, observationsIn, printed}
 
 -- the words of a trace stand for the trace
-pub observed-words : (os : List Observation) (rest : List ℕ) → observationsIn (length os) (traceWords os ++ rest) ≡ os
+pub observations-words : (os : List Observation) (rest : List ℕ) → observationsIn (length os) (traceWords os ++ rest) ≡ os
 unfolding observationOf observationsIn traceWords
-observed-words [] rest = refl
-observed-words (start i ∷ os) rest = ap (λ (later : List Observation). start i ∷ later) (observed-words os rest)
-observed-words (rollback i ∷ os) rest = ap (λ (later : List Observation). rollback i ∷ later) (observed-words os rest)
-observed-words (pc p ∷ os) rest = ap (λ (later : List Observation). pc p ∷ later) (observed-words os rest)
-observed-words (loaded a ∷ os) rest = ap (λ (later : List Observation). loaded a ∷ later) (observed-words os rest)
-observed-words (stored a ∷ os) rest = ap (λ (later : List Observation). stored a ∷ later) (observed-words os rest)
+observations-words [] rest = refl
+observations-words (start i ∷ os) rest = ap (λ (later : List Observation). start i ∷ later) (observations-words os rest)
+observations-words (rollback i ∷ os) rest = ap (λ (later : List Observation). rollback i ∷ later) (observations-words os rest)
+observations-words (pc p ∷ os) rest = ap (λ (later : List Observation). pc p ∷ later) (observations-words os rest)
+observations-words (loaded a ∷ os) rest = ap (λ (later : List Observation). loaded a ∷ later) (observations-words os rest)
+observations-words (stored a ∷ os) rest = ap (λ (later : List Observation). stored a ∷ later) (observations-words os rest)
 
 -- an answer that counts the observations whose words stand at the front
 pub printed-words : (n : ℕ) (os : List Observation) (rest : List ℕ) (a : RunAnswer) → observationCount (a .outcome) ≡ length os
     → printed n a (traceWords os ++ rest) ≡ answerLines n os a
 unfolding printed
 printed-words n os rest a e =
-    ap (λ (trace : List Observation). answerLines n trace a) (ap (λ (k : ℕ). observationsIn k (traceWords os ++ rest)) e ∙ observed-words os rest)
+    ap (λ (trace : List Observation). answerLines n trace a) (ap (λ (k : ℕ). observationsIn k (traceWords os ++ rest)) e ∙ observations-words os rest)
 
 -- what a run reports, with its trace area after the call
 pub printed-report : (n : ℕ) (job : Job) (r : Result) (area : List ℕ)

@@ -363,3 +363,7 @@ within-union-mono {s} {t} u w = record
 pub subset-within : (s t : LocationSet) → subset s t ≡ true → Within s t
 unfolding subset member
 subset-within s t h = record { each = inside-has (s .words) (t .words) h }
+
+pub within-subset : (s t : LocationSet) → areWords (s .words) ≡ true → Within s t → subset s t ≡ true
+unfolding subset member
+within-subset s t a w = has-inside (s .words) (t .words) a (w .each)

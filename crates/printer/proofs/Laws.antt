@@ -25,7 +25,7 @@ use Rattle.checker.specs.Reports.{run-rejected}
 use Rattle.listing.specs.Lines.{Put, observationsIn, printed}
 use Rattle.listing.specs.Areas.{put-next, put-fits}
 use Rattle.listing.specs.Traces.{printed-report, printed-refused}
-use Rattle.listing.specs.Lengths.{observed-length, answer-bound}
+use Rattle.listing.specs.Lengths.{observations-length, answer-bound}
 use Rattle.printer.specs.Printing.{instructionCount, traceAfter, Prints, Listed}
 
 -- ---- the number of instructions
@@ -89,7 +89,7 @@ pub printed-bound : (n : ℕ) (a : RunAnswer) (trace : List ℕ) {out out′ : L
 unfolding printed
 printed-bound n a trace p =
     let os = observationsIn (observationCount (a .outcome)) trace in
-    omega (arith, put-next p, answer-bound n os a, observed-length (observationCount (a .outcome)) trace)
+    omega (arith, put-next p, answer-bound n os a, observations-length (observationCount (a .outcome)) trace)
 
 -- ---- the listing, with room for 512 observations
 pub listed : {bs t t′ out out′ : List ℕ} {r : ℕ} → room t ≡ printedRoom → Prints bs t t′ out out′ r → r ≤ length out → Listed bs out out′ r

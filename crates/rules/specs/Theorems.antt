@@ -9,6 +9,7 @@ pub mod Alike
 pub mod AlikeSteps
 pub mod Secrecy
 pub mod JobLaws
+pub mod FileBounds
 pub mod CallLaws
 pub mod FilePlain
 pub mod FileSecrecy

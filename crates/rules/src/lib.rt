@@ -1,4 +1,4 @@
-// The types that the contracts of the checker show. What they mean is said in specs/Rules.
+// The types that the contracts of the checker show, and the kinds of observation. What they mean is said in specs/Rules.
 use location::Location;
 use location::LocationSet;
 ghost use mathlib.Core.Path.{_≡_};

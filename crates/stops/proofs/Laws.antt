@@ -8,10 +8,10 @@ use native.Mathlib.Omega.{arith}
 use lib.Dec.{leb}
 use Rattle.stops.specs.Stops.{closedAt}
 
-pub closed-zero : (d last p : ℕ) → d ≡ 0 → leb last p ≡ closedAt d last p
-closed-zero zero last p e = refl
-closed-zero (suc d) last p e = absurd (omega arith)
+pub closed-zero : (d end p : ℕ) → d ≡ 0 → leb end p ≡ closedAt d end p
+closed-zero zero end p e = refl
+closed-zero (suc d) end p e = absurd (omega arith)
 
-pub closed-open : (d last p : ℕ) → (d ≡ 0 → ⊥) → false ≡ closedAt d last p
-closed-open zero last p h = absurd (h refl)
-closed-open (suc d) last p h = refl
+pub closed-open : (d end p : ℕ) → (d ≡ 0 → ⊥) → false ≡ closedAt d end p
+closed-open zero end p h = absurd (h refl)
+closed-open (suc d) end p h = refl

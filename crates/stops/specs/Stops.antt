@@ -10,8 +10,8 @@ use Rattle.stepping.specs.declared.Progress.{Progress}
 -- ---- one turn
 -- whether a machine with d branches open is at END with nothing open
 abbrev pub closedAt : ℕ → ℕ → ℕ → Bool
-closedAt zero last p = leb last p
-closedAt (suc d) last p = false
+closedAt zero end p = leb end p
+closedAt (suc d) end p = false
 
 -- whether so many observations more fit into an area
 abbrev pub roomFor : List ℕ → Progress → ℕ → Bool

@@ -14,11 +14,11 @@ pub fn has_room(trace: &[u64], c: Progress, k: usize) -> bool
 }
 
 // Whether the machine is at END with nothing open.
-pub fn is_over(c: Control, last: usize) -> bool
-    ensures { λ r. ⌜ r ≡ closedAt (c .depth) last (c .place) ⌝ }
+pub fn is_over(c: Control, end: usize) -> bool
+    ensures { λ r. ⌜ r ≡ closedAt (c .depth) end (c .place) ⌝ }
 {
     if c.depth == 0 {
-        return last <= c.place;
+        return end <= c.place;
     }
     false
 }

@@ -6,8 +6,8 @@ use borrow.Author.Needs.{needs}
 use Rattle.effect.proofs.effect_of.Statement.{statement}
 use Rattle.effect.proofs.effect_of.Tie as tie
 
-operand-requires : tie.Need-operand-requires
-operand-requires c κs =
+source-value-requires : tie.Need-source-value-requires
+source-value-requires c κs =
     let s = c .before .before in
     (sourced (s .args .p .now) (s .args .i) (s .pre .sound) (s .pre .below), omega arith)
 
@@ -79,29 +79,29 @@ returns c = skip-executed (c .before .enum-told .given .1) (c .silent-effect .en
 
 returns-2 : tie.Need-returns-2
 returns-2 c =
-    assign-executed (c .before .before .i .given .1) (rw (c .before .before .i .given .1) at (c .before .before .before .before .operand .ensures)) (c .assigns .ensures _ _)
+    assign-executed (c .before .before .i .given .1) (rw (c .before .before .i .given .1) at (c .before .before .before .before .source-value .ensures)) (c .assigns .ensures _ _)
 
 returns-3 : tie.Need-returns-3
 returns-3 c =
-    load-executed (c .before .before .i2 .given .1) (rw (c .before .before .i2 .given .1) at (c .before .before .before .before .operand .ensures)) (c .load-effect .ensures)
+    load-executed (c .before .before .i2 .given .1) (rw (c .before .before .i2 .given .1) at (c .before .before .before .before .source-value .ensures)) (c .load-effect .ensures)
 
 returns-4 : tie.Need-returns-4
 returns-4 c =
-    store-executed (c .before .before .i3 .given .1) (rw (c .before .before .i3 .given .1) at (c .before .before .before .before .operand .ensures)) (c .store-effect .ensures)
+    store-executed (c .before .before .i3 .given .1) (rw (c .before .before .i3 .given .1) at (c .before .before .before .before .source-value .ensures)) (c .store-effect .ensures)
 
 returns-5 : tie.Need-returns-5
 returns-5 c =
-    jump-executed (c .before .before .enum-told2 .given .1) (rw (c .before .before .enum-told2 .given .1) at (c .before .before .before .before .operand .ensures)) (c .before .jump-to .ensures) (c .goes-to .ensures _ _)
+    jump-executed (c .before .before .enum-told2 .given .1) (rw (c .before .before .enum-told2 .given .1) at (c .before .before .before .before .source-value .ensures)) (c .before .jump-to .ensures) (c .goes-to .ensures _ _)
 
 returns-6 : tie.Need-returns-6
 returns-6 c =
     let x = rw (c .before .before .before .i4 .given .1) at (c .before .before .before .before .before .before .before .before .pre) in
-    branch-executed (c .before .before .before .i4 .given .1) (x .below) refl (rw (c .before .before .before .i4 .given .1) at (c .before .before .before .before .before .operand .ensures)) (c .before .branch-to .ensures) (c .goes-to2 .ensures _ _)
+    branch-executed (c .before .before .before .i4 .given .1) (x .below) refl (rw (c .before .before .before .i4 .given .1) at (c .before .before .before .before .before .source-value .ensures)) (c .before .branch-to .ensures) (c .goes-to2 .ensures _ _)
 
 returns-7 : tie.Need-returns-7
 returns-7 c =
     let x = rw (c .before .before .before .i5 .given .1) at (c .before .before .before .before .before .before .before .before .pre) in
-    assign-if-executed (c .before .before .before .i5 .given .1) (x .below) (rw (c .before .before .before .i5 .given .1) at (c .before .before .before .before .before .operand .ensures)) (c .before .chosen .ensures) (c .assigns2 .ensures _ _)
+    assign-if-executed (c .before .before .before .i5 .given .1) (x .below) (rw (c .before .before .before .i5 .given .1) at (c .before .before .before .before .before .source-value .ensures)) (c .before .chosen .ensures) (c .assigns2 .ensures _ _)
 
 returns-8 : tie.Need-returns-8
 returns-8 c = barrier-executed (c .before .enum-told3 .given .1) (c .silent-effect2 .ensures _ _)
@@ -110,7 +110,7 @@ pub effect-of-spec : {M : Type 1} → statement M
 effect-of-spec =
     tie.close
     (tie.spec
-    operand-requires
+    source-value-requires
     enum-told
     silent-effect-requires
     enum-known-i

@@ -15,7 +15,7 @@ try-open-requires c κs =
     let r = c .before .before .before in
     let p = r .before .before .before .before .before .before .pre in
     let e = rw (r .r .given .1) at (r .before .before .opening-of .ensures) in
-    (p .live, rw (e .1) at (p .below), p .limits .window)
+    (p .can, rw (e .1) at (p .below), p .limits .window)
 
 enum-told : tie.Need-enum-told
 enum-told c = search needs

@@ -16,7 +16,7 @@ has-room-requires c κs =
     let p = c .before .before .before .before .before .before .before .before .pre in
     let n = c .shown .ensures in
     let m = few-observations (c .before .before .effect-of .result .observed) in
-    let r = p .live .counted .room in
+    let r = p .can .counted .room in
     omega (arith, c .before .before .before .before .before .before .before .before .good)
 
 carry-out-requires : tie.Need-carry-out-requires
@@ -27,7 +27,7 @@ carry-out-requires c κs =
     let x = c .before .before .before .before .before .before .effect-of .ensures .location in
     let h = room-words (a .trace .now) (a .c) (c .before .before .before .before .shown .result) (c .before .before .before .has-room .ensures) (c .before .before .if1 .taken) in
     let n = c .before .before .before .before .shown .ensures in (
-      record { fits = p .live .fits; counted = p .live .counted; more = omega arith; live = p .live .live },
+      record { fits = p .can .fits; counted = p .can .counted; more = omega arith; live = p .can .live },
       omega arith,
       effective (a .p .now) (a .t) (a .c) (c .before .before .before .before .before .before .effect-of .ensures) l,
     )

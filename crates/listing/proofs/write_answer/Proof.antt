@@ -3,7 +3,7 @@
 use native.Mathlib.Omega.{arith}
 use Rattle.rules.specs.Rules.Answers.{text}
 use Rattle.listing.specs.Lines.{observationsIn}
-use Rattle.listing.specs.Lengths.{number-line-bound, trace-length, observed-length, summary-bound}
+use Rattle.listing.specs.Lengths.{number-line-bound, trace-length, observations-length, summary-bound}
 use Rattle.listing.proofs.Laws.{put-append}
 use Rattle.listing.proofs.Texts.{printed-refusal, printed-run}
 use borrow.Author.Needs.{needs}
@@ -36,7 +36,7 @@ put-trace-requires c κs =
     omega (
       arith,
       trace-length (a .n) (observationsIn k (a .trace .now)),
-      observed-length k (a .trace .now),
+      observations-length k (a .trace .now),
       c .before .before .before .before .before .before .before .before .good,
     )
 
@@ -47,7 +47,7 @@ put-summary-requires c κs =
     omega (
       arith,
       trace-length (a .n) (observationsIn (o .0 .observations) (a .trace .now)),
-      observed-length (o .0 .observations) (a .trace .now),
+      observations-length (o .0 .observations) (a .trace .now),
       summary-bound (o .0) (a .answer .depends) (a .answer .plain) (o .1 .0),
       c .before .before .before .before .before .before .before .before .before .before .before .before .good,
       c .before .before .before .put-trace .ensures .place,

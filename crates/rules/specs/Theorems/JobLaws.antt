@@ -15,7 +15,7 @@ use Rattle.location.specs.SetLaws.{and-left, and-right}
 use Rattle.rules.specs.declared.Trailer.{Trailer}
 use Rattle.rules.specs.declared.Refusal.{Refusal}
 use Rattle.rules.specs.declared.Refusal.the-variants as refusals
-use Rattle.rules.specs.Rules.Instructions.{Instr}
+use Rattle.rules.specs.Rules.Instructions.{Instr, windowCosts}
 use Rattle.rules.specs.Rules.Runs.{Job}
 use Rattle.rules.specs.Rules.JobFile.{little, Read, got, refused, andThen, instruction, nothingLeft, program, trailerAt, trailer, sized, limits, offsets, wordsAt, stateOf, publicOf, listed, Parsed, accepted, rejected, jobOf, programOf, finish, parse}
 use Rattle.rules.specs.Rules.Pairs.{withState}
@@ -124,7 +124,6 @@ module _ (t : Trailer) (len : ℕ) (h : offsets t len ≡ true) where
 
 -- ---- "n 1 to 512, m 0 to 240, w 0 to 200, b 0 to 1,000,000"
 pub record Limits (t : Trailer) : Type 0 where
-  pub count-least : 1 ≤ t .count
   pub count-most : t .count ≤ 512
   pub cells : t .cells ≤ 240
   pub window : t .window ≤ 200
@@ -138,7 +137,6 @@ limits-hold t h =
     let h3 = and-right (leb (t .cells) 240) _ h2 in
     let h4 = and-right (leb (t .window) 200) _ h3 in
     record {
-      count-least = leb-true 1 (t .count) (and-left (leb 1 (t .count)) _ h);
       count-most = leb-true (t .count) 512 (and-left (leb (t .count) 512) _ h1);
       cells = leb-true (t .cells) 240 (and-left (leb (t .cells) 240) _ h2);
       window = leb-true (t .window) 200 (and-left (leb (t .window) 200) _ h3);
@@ -155,6 +153,10 @@ module _ {bs : List ℕ} {job : Job} (p : Passed bs job) where
   pub job-cells : job .code .cells ≡ trailer bs .cells
   unfolding jobOf
   job-cells = ap (λ (j : Job). j .code .cells) (p .made)
+
+  pub job-costs : job .code .costs ≡ windowCosts
+  unfolding jobOf
+  job-costs = ap (λ (j : Job). j .code .costs) (p .made)
 
   pub job-init : job .init ≡ stateOf (trailer bs) bs
   unfolding jobOf

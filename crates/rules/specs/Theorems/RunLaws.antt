@@ -20,7 +20,7 @@ use Rattle.rules.specs.Rules.Loop.{proceed, halted, ifRoom, ended}
 use Rattle.rules.specs.Rules.Runs.{Log, Result, gather, note, over, fits, halt, run, Job, first, blank, mispredictingRun, plainRun}
 use Rattle.rules.specs.Theorems.LoopLaws.{loop-over, loop-spent, loop-halted, loop-step, loop-ind}
 
--- ---- what holds up a step
+-- ---- what halts the run before a step
 pub halt-fits : (f : Machine → Step) (room : ℕ) (M : Machine) (g : Log) → fits room (f M) g ≡ true → halt f room M g ≡ proceed
 unfolding halt
 halt-fits f room M g e = rw e

@@ -1,12 +1,12 @@
--- `effect::operand` meets its contract, by cases of what is read. Assumes nothing.
+-- `effect::source_value` meets its contract, by cases of what is read. Assumes nothing.
 use mathlib.Core.Path.{ap, _∙_}
 use native.Mathlib.Omega.{arith}
 use Rattle.location.specs.declared.LocationSet.{LocationSet}
 use Rattle.rules.specs.Rules.Expressions.{tagged}
 use Rattle.work.specs.Words.{taggedAt}
 use borrow.Author.Needs.{needs}
-use Rattle.effect.proofs.operand.Statement.{statement}
-use Rattle.effect.proofs.operand.Tie as tie
+use Rattle.effect.proofs.source_value.Statement.{statement}
+use Rattle.effect.proofs.source_value.Tie as tie
 
 source-of-requires : tie.Need-source-of-requires
 source-of-requires c κs = search needs
@@ -49,8 +49,8 @@ returns-2 c =
 returns-3 : tie.Need-returns-3
 returns-3 c = rw (← c .before .before .before .source-of .ensures, c .before .enum-told .given .1) (ap (λ (s : LocationSet). tagged 0 s) (c .empty .ensures))
 
-pub operand-spec : {M : Type 1} → statement M
-operand-spec =
+pub source-value-spec : {M : Type 1} → statement M
+source-value-spec =
     tie.close
     (tie.spec
     source-of-requires
