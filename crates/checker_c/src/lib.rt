@@ -67,16 +67,22 @@ pub extern "C" fn checker_plain_run(
 pub extern "C" fn checker_compare(
     job: &[u8],
     second: &[u8],
-    first: &mut [u64],
-    other: &mut [u64],
+    first_trace: &mut [u64],
+    second_trace: &mut [u64],
     work: &mut [u64],
     answer: &mut [u64; 9],
 ) -> u32
-    ensures returns { λ r. ⌜ PairReturns (pairCall (now (job .entry)) (now (second .entry)) (pairLent (now (first .entry)) (now (other .entry)) (now (work .entry)))) (now (answer .entry)) r (now (answer .exit)) (pairLent (now (first .exit)) (now (other .exit)) (now (work .exit))) ⌝ }
-    ensures unaltered { λ r. ⌜ Unaltered r (now (answer .entry)) (now (answer .exit)) (pairLent (now (first .entry)) (now (other .entry)) (now (work .entry))) (pairLent (now (first .exit)) (now (other .exit)) (now (work .exit))) ⌝ }
-    ensures meaning { λ _. ⌜ PairMeaning (now (job .entry)) (now (second .entry)) (pairLent (now (first .entry)) (now (other .entry)) (now (work .entry))) (pairCall (now (job .entry)) (now (second .entry)) (pairLent (now (first .entry)) (now (other .entry)) (now (work .entry))) .answer) (pairLent (now (first .exit)) (now (other .exit)) (now (work .exit))) ⌝ }
+    ensures returns { λ r. ⌜ PairReturns (pairCall (now (job .entry)) (now (second .entry)) (pairLent (now («first_trace» .entry)) (now («second_trace» .entry)) (now (work .entry)))) (now (answer .entry)) r (now (answer .exit)) (pairLent (now («first_trace» .exit)) (now («second_trace» .exit)) (now (work .exit))) ⌝ }
+    ensures unaltered { λ r. ⌜ Unaltered r (now (answer .entry)) (now (answer .exit)) (pairLent (now («first_trace» .entry)) (now («second_trace» .entry)) (now (work .entry))) (pairLent (now («first_trace» .exit)) (now («second_trace» .exit)) (now (work .exit))) ⌝ }
+    ensures meaning { λ _. ⌜ PairMeaning (now (job .entry)) (now (second .entry)) (pairLent (now («first_trace» .entry)) (now («second_trace» .entry)) (now (work .entry))) (pairCall (now (job .entry)) (now (second .entry)) (pairLent (now («first_trace» .entry)) (now («second_trace» .entry)) (now (work .entry))) .answer) (pairLent (now («first_trace» .exit)) (now («second_trace» .exit)) (now (work .exit))) ⌝ }
 {
-    match checker::compare(job, second, &mut first[..], &mut other[..], &mut work[..]) {
+    match checker::compare(
+        job,
+        second,
+        &mut first_trace[..],
+        &mut second_trace[..],
+        &mut work[..],
+    ) {
         PairAnswer::Refused(n) => answer_words::refusal_number(n),
         PairAnswer::Compared(w, c, d) => {
             answer_words::write_pair(w, c, d, answer);

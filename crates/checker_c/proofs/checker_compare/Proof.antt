@@ -33,7 +33,7 @@ returns : tie.Need-returns
 returns c =
     let a = c .before .before .before .before .before .before .before .before .before .before .before .before .before .before .before .before .before .before .before .args in
     let x = c .before .before .before .before .before .before .before .before .before .before .compare .ensures in
-    let l = pairLent (a .first .now) (a .other .now) (a .work .now) in
+    let l = pairLent (a .first-trace .now) (a .second-trace .now) (a .work .now) in
     (pair-refused (x .0) (a .answer .now) (c .before .before .n .given .1) (c .refusal-number .ensures), (left-alone _ (a .answer .now) (x .1 .0 .refused (c .before .before .n .given .1)), pair-demand (a .job .now) (a .second .now) l (x .0) (x .1 .1)))
 
 same-length-4 : tie.Need-same-length-4
@@ -49,7 +49,7 @@ returns-2 : tie.Need-returns-2
 returns-2 c =
     let a = c .before .before .before .before .before .before .before .before .before .before .before .before .before .before .before .before .before .before .before .before .args in
     let x = c .before .before .before .before .before .before .before .before .before .before .before .compare .ensures in
-    let l = pairLent (a .first .now) (a .other .now) (a .work .now) in
+    let l = pairLent (a .first-trace .now) (a .second-trace .now) (a .work .now) in
     (pair-returned (x .0) (a .answer .now) (c .before .before .before .w .given .1) (c .write-pair .ensures), (carried-out (a .answer .now) _ l _, pair-demand (a .job .now) (a .second .now) l (x .0) (x .1 .1)))
 
 pub checker-compare-spec : {M : Type 1} → statement M
