@@ -169,7 +169,7 @@ fn chosen(p: &[u8], work: &[u64], r: u8, c: Tagged, e: Expression) -> Tagged
     if c.value == 0 {
         return joined(work::load(work, Location::register(r)), deps);
     }
-    joined(expression::evaluate(p, work, e), deps)
+    joined(expression::evaluate(&p[..], &work[..], e), deps)
 }
 
 // The place that a jump goes to: END where there is no such label.

@@ -27,7 +27,7 @@ use Rattle.execution.specs.Turns.{stepBy, codeOf, Loaded, Running}
 -- nothing is done yet
 unfoldable pub beginning : Progress
 beginning = record {
-  control = record { place = 0; depth = 0; log = 0; opened = 0 };
+  control = record { place = 0; depth = 0; log = 0; opened = 0; window = 0 };
   observations = 0;
   steps = 0;
   rollbacks = 0;

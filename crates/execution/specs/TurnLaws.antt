@@ -33,7 +33,7 @@ use Rattle.effect.specs.Registers.{instr-below}
 use Rattle.work.specs.declared.BranchEntry.{BranchEntry}
 use Rattle.work.specs.declared.machine.Control.{Control}
 use Rattle.work.specs.Layout.{labels}
-use Rattle.work.specs.Words.{changeAt, entryAt, windowIn}
+use Rattle.work.specs.Words.{changeAt, entryAt}
 use Rattle.work.specs.Machines.{stateIn, branchesOf, machineOf}
 use Rattle.work.specs.Moves.{expiredOn}
 use Rattle.stepping.specs.declared.Progress.{Progress}
@@ -55,31 +55,31 @@ code-end p t h = go (program (t .count) (t .count) 0 p 0) refl h
     go (refused r) e h = absurd (true≢false (sym h))
 
 -- ---- the open branches
-pub branches-length : (e : ℕ → BranchEntry) (g : ℕ → Change) (σ : State) (k d : ℕ) → length (branchesOf e g σ k d) ≡ d
-branches-length e g σ k zero = refl
-branches-length e g σ k (suc d) = ap suc (branches-length e g _ _ d)
+pub branches-length : (e : ℕ → BranchEntry) (g : ℕ → Change) (σ : State) (v k d : ℕ) → length (branchesOf e g σ v k d) ≡ d
+branches-length e g σ v k zero = refl
+branches-length e g σ v k (suc d) = ap suc (branches-length e g _ _ _ d)
 
 -- END with nothing open, and not so
 module _ (code : Code) (w : List ℕ) (c : Control) (n : ℕ) where
-  over-on-branches : (e : ℕ → BranchEntry) (g : ℕ → Change) (σ : State) (k d : ℕ) → d ≡ 0 → endPlace code ≤ c .place
-      → overOn code (c .place) (branchesOf e g σ k d) ≡ true
+  over-on-branches : (e : ℕ → BranchEntry) (g : ℕ → Change) (σ : State) (v k d : ℕ) → d ≡ 0 → endPlace code ≤ c .place
+      → overOn code (c .place) (branchesOf e g σ v k d) ≡ true
   unfolding overOn
-  over-on-branches e g σ k zero h le = le-leb (endPlace code) (c .place) le
-  over-on-branches e g σ k (suc d) h le = absurd (omega arith)
+  over-on-branches e g σ v k zero h le = le-leb (endPlace code) (c .place) le
+  over-on-branches e g σ v k (suc d) h le = absurd (omega arith)
 
   pub over-closed : c .depth ≡ 0 → endPlace code ≤ c .place → over code (machineOf w c n) ≡ true
   unfolding over
-  over-closed = over-on-branches (entryAt w) (changeAt w) (stateIn w n) (c .log) (c .depth)
+  over-closed = over-on-branches (entryAt w) (changeAt w) (stateIn w n) (c .window) (c .log) (c .depth)
 
-  on-branches : (e : ℕ → BranchEntry) (g : ℕ → Change) (σ : State) (k d : ℕ) → (d ≡ 0 → c .place < endPlace code)
-      → overOn code (c .place) (branchesOf e g σ k d) ≡ false
+  on-branches : (e : ℕ → BranchEntry) (g : ℕ → Change) (σ : State) (v k d : ℕ) → (d ≡ 0 → c .place < endPlace code)
+      → overOn code (c .place) (branchesOf e g σ v k d) ≡ false
   unfolding overOn
-  on-branches e g σ k zero h = lt-leb (endPlace code) (c .place) (h refl)
-  on-branches e g σ k (suc d) h = refl
+  on-branches e g σ v k zero h = lt-leb (endPlace code) (c .place) (h refl)
+  on-branches e g σ v k (suc d) h = refl
 
   pub over-not : (c .depth ≡ 0 → c .place < endPlace code) → over code (machineOf w c n) ≡ false
   unfolding over
-  over-not = on-branches (entryAt w) (changeAt w) (stateIn w n) (c .log) (c .depth)
+  over-not = on-branches (entryAt w) (changeAt w) (stateIn w n) (c .window) (c .log) (c .depth)
 
 -- ---- which rule: a top branch that has expired, or not
 pub record Top (code : Code) (M : Machine) : Type 0 where
@@ -113,19 +113,18 @@ closed-not-expired end w c n h = rw h
 
 -- a machine with a top branch that has not expired: it has some window left, and the place is one of the program's
 pub not-expired : (end : ℕ) (w : List ℕ) (c : Control) (n : ℕ) → expiredOn end (c .place) (machineOf w c n .branches) ≡ false
-    → 0 < c .depth → (0 < windowIn w (c .depth)) × (c .place < end)
-not-expired end w c n h = go (stateIn w n) (c .log) (c .depth) h
+    → 0 < c .depth → (0 < c .window) × (c .place < end)
+not-expired end w c n h = go (c .depth) h
   where
     pick : (v : ℕ) (a b : Bool) → eqb v 0 ≡ a → leb end (c .place) ≡ b → (a || b) ≡ false → (0 < v) × (c .place < end)
     pick v true b e f h = absurd (true≢false h)
     pick v false true e f h = absurd (true≢false h)
     pick v false false e f h = let z = eqb-false v 0 e in (omega arith, leb-false end (c .place) f)
 
-    go : (σ : State) (k d : ℕ) → expiredOn end (c .place) (branchesOf (entryAt w) (changeAt w) σ k d) ≡ false → 0 < d
-        → (0 < windowIn w d) × (c .place < end)
-    go σ k zero h lt = absurd (omega arith)
-    go σ k (suc d) h lt =
-        pick (entryAt w d .window) (eqb (entryAt w d .window) 0) (leb end (c .place)) refl refl h
+    go : (d : ℕ) → expiredOn end (c .place) (branchesOf (entryAt w) (changeAt w) (stateIn w n) (c .window) (c .log) d) ≡ false → 0 < d
+        → (0 < c .window) × (c .place < end)
+    go zero h lt = absurd (omega arith)
+    go (suc d) h lt = pick (c .window) (eqb (c .window) 0) (leb end (c .place)) refl refl h
 
 -- the test of END with nothing open
 pub closed-true : (d end p : ℕ) → closedAt d end p ≡ true → (d ≡ 0) × (end ≤ p)
@@ -245,7 +244,7 @@ module _ (p : List ℕ) (t : Trailer) (mode : Mode) (w area : List ℕ) (c : Pro
         rw f
         (rw (zero-add (c .control .place)) at (labelled (t .count) (t .count) 0 p 0 (r .loaded .accepted) (c .control .place) inside))
 
-    pub advancing : (0 < c .control .depth → 0 < windowIn w (c .control .depth)) → Advancing p t w area i c
+    pub advancing : (0 < c .control .depth → 0 < c .control .window) → Advancing p t w area i c
     advancing live = record {
       can = record {
         fits = r .fits;
@@ -313,7 +312,7 @@ module _ (p : List ℕ) (t : Trailer) (mode : Mode) (w₀ a₀ : List ℕ) (R : 
       → machineOf w′ c′ (locations t) ≡ plainStep program-code (machineOf w c (locations t)) .next → c′ .depth ≡ 0
   unfolding plainStep ordinary lower
   plain-closed w w′ c c′ d e =
-      sym (branches-length (entryAt w′) (changeAt w′) (stateIn w′ (locations t)) (c′ .log) (c′ .depth))
+      sym (branches-length (entryAt w′) (changeAt w′) (stateIn w′ (locations t)) (c′ .window) (c′ .log) (c′ .depth))
       ∙ ap (λ (M : Machine). length (M .branches)) (rw d at e)
 
   still-closed : (w w′ : List ℕ) (c c′ : Control) (m : Mode) → (m ≡ modes.Plain → c .depth ≡ 0)

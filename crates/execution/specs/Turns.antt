@@ -23,7 +23,6 @@ use Rattle.instruction.specs.declared.Instruction.{Instruction}
 use Rattle.instruction.specs.declared.Instruction.the-variants.{BranchZero}
 use Rattle.instruction.specs.Meaning.{meaning}
 use Rattle.work.specs.Layout.{labels}
-use Rattle.work.specs.Words.{windowIn}
 use Rattle.work.specs.Machines.{machineOf, Fit}
 use Rattle.effect.specs.Registers.{RegistersBelow}
 use Rattle.stepping.specs.declared.Progress.{Progress}
@@ -87,7 +86,7 @@ pub record CanStep (w area : List ℕ) (c : Progress) : Type 0 where
   pub fits : Fit w (c .control)
   pub counted : Counted c area
   pub place : c .control .place < 512
-  pub live : 0 < c .control .depth → 0 < windowIn w (c .control .depth)
+  pub live : 0 < c .control .depth → 0 < c .control .window
 
 -- rule 2 for beqz r, l
 pub record OpeningTried (w w′ area area′ : List ℕ) (r l window : ℕ) (c : Progress) (x : Next) (c′ : Progress) : Type 0 where

@@ -188,7 +188,7 @@ fn take_turn(
             progress: c,
         };
     }
-    if work::machine::expired(&work[..], control, t.count) {
+    if work::machine::expired(control, t.count) {
         return try_roll_back(&mut work[..], &mut trace[..], c);
     }
     let label = Label::new(control.place);
@@ -206,6 +206,7 @@ fn start() -> Progress
             depth: 0,
             log: 0,
             opened: 0,
+            window: 0,
         },
         observations: 0,
         steps: 0,

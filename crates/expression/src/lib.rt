@@ -195,7 +195,8 @@ fn operand_value(work: &[u64], o: Operand) -> Tagged
     }
 }
 
-// The value of an expression that keeps the postfix rule: one operand, or two and their operator, need no stack.
+// The value of an expression that keeps the postfix rule: one operand, or two and their operator, need no stack. The slices are
+// taken anew for a longer one, so that a step with a short one does not set them up.
 pub fn value_of(p: &[u8], work: &[u64], e: Expression) -> Tagged
     requires { ⌜ (sound (tokensOf (now p) e) ≡ true) × (operandBase registers ≤ length (now work)) ⌝ }
     ensures { λ r. ⌜ r ≡ eval (taggedAt (now (work .entry))) (tokensOf (now (p .entry)) e) ⌝ }
@@ -212,6 +213,6 @@ pub fn value_of(p: &[u8], work: &[u64], e: Expression) -> Tagged
                 deps: left.union(right),
             }
         }
-        Shape::Long => evaluate(p, work, e),
+        Shape::Long => evaluate(&p[..], &work[..], e),
     }
 }

@@ -1,29 +1,26 @@
 -- What the code's counts, stores and windows are in the rules.
 -- Assumes nothing.
 use mathlib.Core.Path.{_≡_, refl, sym, ap, _∙_}
-use mathlib.Core.Bool.{Bool, true, false, cond}
 use mathlib.Core.List.{List, [], _∷_, append-nil}
 use mathlib.Core.Logic.{_≢_}
-use Prim.Native.Nat.{ℕ, zero, suc, _+_, _-_, _*_, _<_}
+use Prim.Native.Nat.{ℕ, zero, suc, _+_, _*_, _<_}
 use native.Mathlib.Omega.{arith}
-use lib.Dec.{eqb}
-use lib.ListN.{length, getD}
+use lib.ListN.{length}
 use lib.Seq.{sets}
 use Rattle.location.specs.declared.LocationSet.{LocationSet}
 use Rattle.location.specs.Sets.{union}
 use Rattle.rules.specs.Rules.Calls.{observationWords, traceWords}
-use Rattle.rules.specs.Rules.Instructions.{Observation, Instr, kind, windowCosts}
+use Rattle.rules.specs.Rules.Instructions.{Observation, Instr, windowCosts}
 use Rattle.rules.specs.Rules.Plain.{State, Code}
-use Rattle.rules.specs.Rules.Mispredicting.{Branch, remaining, lower, newWindow}
+use Rattle.rules.specs.Rules.Mispredicting.{remaining, lower, newWindow}
 use Rattle.rules.specs.Rules.Runs.{gather}
 use Rattle.rules.specs.Theorems.Undo.{Change, remaining-less, windowCosts-positive}
 use Rattle.instruction.specs.declared.Instruction.{Instruction}
 use Rattle.instruction.specs.Meaning.{meaning}
 use Rattle.work.specs.declared.BranchEntry.{BranchEntry}
 use Rattle.work.specs.declared.machine.Control.{Control}
-use Rattle.work.specs.Words.{windowIn}
 use Rattle.work.specs.Machines.{branchesOf}
-use Rattle.work.specs.Moves.{topWindow, lowerTo, windowOn}
+use Rattle.work.specs.Moves.{lowerTo, windowOn}
 use Rattle.effect.specs.declared.Observed.{Observed}
 use Rattle.effect.specs.Effects.{observations}
 use Rattle.stepping.specs.Progress.{gatherAt}
@@ -37,11 +34,11 @@ pub keeps-plain : (d : ℕ) (plain s : LocationSet) → (d ≡ 0 → ⊥) → pl
 keeps-plain zero plain s h = absurd (h refl)
 keeps-plain (suc d) plain s h = refl
 
-pub gathered : (e : ℕ → BranchEntry) (g : ℕ → Change) (σ : State) (k d : ℕ) (plain s : LocationSet)
-    → gatherAt d plain s ≡ gather (branchesOf e g σ k d) plain s
+pub gathered : (e : ℕ → BranchEntry) (g : ℕ → Change) (σ : State) (v k d : ℕ) (plain s : LocationSet)
+    → gatherAt d plain s ≡ gather (branchesOf e g σ v k d) plain s
 unfolding gather
-gathered e g σ k zero plain s = refl
-gathered e g σ k (suc d) plain s = refl
+gathered e g σ v k zero plain s = refl
+gathered e g σ v k (suc d) plain s = refl
 
 -- ---- the observations in the trace area
 -- two, one after the other
@@ -63,40 +60,26 @@ unfolding traceWords
 shows-one t t′ k a b o x e ex et = rw e (refl, et ∙ ap (sets t (2 * k)) (ex ∙ sym (append-nil (observationWords x))))
 
 -- ---- the window
--- what is left of the top's window
-pub top-lowered : (code : Code) (i : Instr) (bs : List Branch) → lowerTo (remaining code i (topWindow bs)) bs ≡ lower code i bs
+-- what is left of the top's, where it was v
+pub top-lowered : (code : Code) (i : Instr) (e : ℕ → BranchEntry) (g : ℕ → Change) (σ : State) (v k d : ℕ)
+    → lowerTo (remaining code i v) (branchesOf e g σ v k d) ≡ lower code i (branchesOf e g σ v k d)
 unfolding lower
-top-lowered code i [] = refl
-top-lowered code i (b ∷ bs) = refl
+top-lowered code i e g σ v k zero = refl
+top-lowered code i e g σ v k (suc d) = refl
 
 -- a new branch's window
-pub window-lowered : (code : Code) (i : Instr) (bs : List Branch)
-    → windowOn bs (code .window) (remaining code i (topWindow bs)) ≡ newWindow code (lower code i bs)
+pub window-lowered : (code : Code) (i : Instr) (e : ℕ → BranchEntry) (g : ℕ → Change) (σ : State) (v k d : ℕ)
+    → windowOn (branchesOf e g σ v k d) (code .window) (remaining code i v) ≡ newWindow code (lower code i (branchesOf e g σ v k d))
 unfolding lower newWindow
-window-lowered code i [] = refl
-window-lowered code i (b ∷ bs) = refl
+window-lowered code i e g σ v k zero = refl
+window-lowered code i e g σ v k (suc d) = refl
 
-pub leaves : (w : List ℕ) (c : Control) (i : Instruction) (u v : ℕ) → u ≡ windowIn w (c .depth)
-    → ((p : List ℕ) (code : Code) → code .costs ≡ windowCosts → v ≡ remaining code (meaning p i) u) → Leaves w c i v
-leaves w c i u v eu ev = record { exact = exact; less = less }
+pub leaves : (c : Control) (i : Instruction) (v : ℕ)
+    → ((p : List ℕ) (code : Code) → code .costs ≡ windowCosts → v ≡ remaining code (meaning p i) (c .window)) → Leaves c i v
+leaves c i v exact = record { exact = exact; less = less }
   where
-    exact : (p : List ℕ) (code : Code) → code .costs ≡ windowCosts → v ≡ remaining code (meaning p i) (windowIn w (c .depth))
-    exact p code h = ev p code h ∙ ap (remaining code (meaning p i)) eu
-
-    less : 0 < windowIn w (c .depth) → v < windowIn w (c .depth)
+    less : 0 < c .window → v < c .window
     less h =
         let any : Code = record { prog = []; cells = 0; window = 0; costs = windowCosts } in
-        let ne : windowIn w (c .depth) ≢ 0 = λ z. omega arith in
-        omega (arith, exact [] any refl, remaining-less any windowCosts-positive (meaning [] i) (windowIn w (c .depth)) ne)
-
--- with nothing open
-remaining-zero : (code : Code) (i : Instr) → remaining code i 0 ≡ 0
-unfolding remaining
-remaining-zero code i = go (eqb (kind i) 7)
-  where
-    go : (b : Bool) → cond b 0 (0 - getD (code .costs) (kind i) 0) ≡ 0
-    go true = refl
-    go false = omega arith
-
-pub leaves-none : (w : List ℕ) (c : Control) (i : Instruction) → c .depth ≡ 0 → Leaves w c i 0
-leaves-none w c i e = leaves w c i 0 0 (sym (ap (windowIn w) e)) (λ p code h. sym (remaining-zero code (meaning p i)))
+        let ne : c .window ≢ 0 = λ z. omega arith in
+        omega (arith, exact [] any refl, remaining-less any windowCosts-positive (meaning [] i) (c .window) ne)

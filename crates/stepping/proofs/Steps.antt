@@ -16,7 +16,7 @@ use Rattle.rules.specs.Rules.Calls.{traceWords}
 use Rattle.rules.specs.Rules.Instructions.{Observation, windowCosts}
 use Rattle.rules.specs.Rules.Plain.{at, put, Code, branchTo}
 use Rattle.rules.specs.Rules.Plain as plain
-use Rattle.rules.specs.Rules.Mispredicting.{Branch, Machine, Step, remaining, lower, newWindow, rolling, opening, ordinary}
+use Rattle.rules.specs.Rules.Mispredicting.{Branch, Machine, Step, lower, newWindow, rolling, opening, ordinary}
 use Rattle.rules.specs.Rules.Runs.{note}
 use Rattle.instruction.specs.declared.Instruction.{Instruction}
 use Rattle.instruction.specs.declared.Instruction.the-variants.{BranchZero}
@@ -26,8 +26,7 @@ use Rattle.work.specs.declared.machine.RolledBack.{RolledBack}
 use Rattle.work.specs.Layout.{labels}
 use Rattle.work.specs.Words.{taggedAt, entryAt, changeAt}
 use Rattle.work.specs.Machines.{stateIn, machineOf, Fit}
-use Rattle.work.specs.Moves.{topWindow, lowerTo, windowOn, ordinaryNext, openingNext, Moves, RollsBack}
-use Rattle.work.proofs.Rules.{top-window}
+use Rattle.work.specs.Moves.{lowerTo, windowOn, ordinaryNext, openingNext, Moves, RollsBack}
 use Rattle.effect.specs.declared.Effect.{Effect}
 use Rattle.effect.specs.Effects.{observations, stateAfter, effectMeaning}
 use Rattle.work.proofs.States.{state-at}
@@ -43,7 +42,7 @@ module _ (w w′ t t′ : List ℕ) (c c′ : Progress) (n : ℕ) (s : Step) (co
   noted : (os : List Observation) → logOf (os ++ s .obs) c′ ≡ note (machineOf w (c .control) n) s (logOf os c)
   unfolding note
   noted os =
-      let P = gathered (entryAt w) (changeAt w) (stateIn w n) (c .control .log) (c .control .depth) (c .plain) (s .seen) in
+      let P = gathered (entryAt w) (changeAt w) (stateIn w n) (c .control .window) (c .control .log) (c .control .depth) (c .plain) (s .seen) in
       ap (logOf (os ++ s .obs)) counted
       ∙ (λ i. record {
         trace = os ++ s .obs;
@@ -87,27 +86,26 @@ rolled-back {w} {w′} {t} {t′} {c} {c′} {r} {seen} m et es ec =
     }
 
 -- ---- what an instruction leaves of the top's window, in the machine
-module _ (w : List ℕ) (c : Control) (n v : ℕ) (i : Instruction) (left : Leaves w c i v) (p : List ℕ) (code : Code)
+module _ (w : List ℕ) (c : Control) (n v : ℕ) (i : Instruction) (left : Leaves c i v) (p : List ℕ) (code : Code)
     (costs : code .costs ≡ windowCosts) where
   abbrev open-branches : List Branch
   open-branches = machineOf w c n .branches
 
-  window-left : v ≡ remaining code (meaning p i) (topWindow open-branches)
-  window-left =
-      left .exact p code costs
-      ∙ ap (remaining code (meaning p i)) (sym (top-window w (changeAt w) (stateIn w n) (c .log) (c .depth)))
-
   branches-left : lowerTo v open-branches ≡ lower code (meaning p i) open-branches
-  branches-left = ap (λ (u : ℕ). lowerTo u open-branches) window-left ∙ top-lowered code (meaning p i) open-branches
+  branches-left =
+      ap (λ (u : ℕ). lowerTo u open-branches) (left .exact p code costs)
+      ∙ top-lowered code (meaning p i) (entryAt w) (changeAt w) (stateIn w n) (c .window) (c .log) (c .depth)
 
   new-left : windowOn open-branches (code .window) v ≡ newWindow code (lower code (meaning p i) open-branches)
-  new-left = ap (windowOn open-branches (code .window)) window-left ∙ window-lowered code (meaning p i) open-branches
+  new-left =
+      ap (windowOn open-branches (code .window)) (left .exact p code costs)
+      ∙ window-lowered code (meaning p i) (entryAt w) (changeAt w) (stateIn w n) (c .window) (c .log) (c .depth)
 
 -- ---- rule 2
 pub opened : {w w′ t t′ : List ℕ} {c c′ : Progress} {r window wrong target v : ℕ} {l : Label} {x : Tagged} {control : Control} → r < registers
     → Moves w w′ (c .control) control (λ M. openingNext M wrong target window v) → x ≡ taggedAt w r
     → target ≡ branchTo x (l .0) (c .control .place + 1) → wrong ≡ branchTo x (c .control .place + 1) (l .0)
-    → Leaves w (c .control) (BranchZero r l) v
+    → Leaves (c .control) (BranchZero r l) v
     → t′ ≡ sets t (2 * c .observations) (0 ∷ c .control .opened ∷ 2 ∷ wrong ∷ []) → c′ ≡ progressAfter c control 2 0 (x .deps)
     → OpenedTo w w′ t t′ r (l .0) window c c′
 unfolding opening traceWords
@@ -151,7 +149,7 @@ stepOf M bs x = record {
 }
 
 pub carried-out : {w w′ t t′ : List ℕ} {c c′ : Progress} {i : Instruction} {e : Effect} {v k : ℕ} {control : Control}
-    → Moves w w′ (c .control) control (λ M. ordinaryNext M (stateAfter (M .state) e) (e .place) v) → Leaves w (c .control) i v
+    → Moves w w′ (c .control) control (λ M. ordinaryNext M (stateAfter (M .state) e) (e .place) v) → Leaves (c .control) i v
     → k ≡ length (observations (e .observed)) → t′ ≡ sets t (2 * c .observations) (traceWords (observations (e .observed)))
     → c′ ≡ progressAfter c control k 0 (e .seen) → (p : List ℕ) → CarriedOutTo p w w′ t t′ i e c c′
 unfolding ordinary

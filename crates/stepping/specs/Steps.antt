@@ -13,7 +13,6 @@ use Rattle.rules.specs.Rules.Runs.{note}
 use Rattle.rules.specs.Rules.Calls.{traceWords}
 use Rattle.work.specs.declared.machine.Control.{Control}
 use Rattle.work.specs.Layout.{labels}
-use Rattle.work.specs.Words.{windowIn}
 use Rattle.work.specs.Machines.{stateIn, machineOf, Fit}
 use Rattle.instruction.specs.declared.Instruction.{Instruction}
 use Rattle.instruction.specs.Meaning.{meaning}
@@ -74,9 +73,9 @@ pub record Steppable (w t : List ℕ) (observations : ℕ) (c : Progress) : Type
   pub fits : Fit w (c .control)
   pub counted : Counted c t
   pub more : 2 * (c .observations + observations) ≤ length t
-  pub live : 0 < c .control .depth → 0 < windowIn w (c .control .depth)
+  pub live : 0 < c .control .depth → 0 < c .control .window
 
 -- What instruction i leaves of the top's window: less than there was, if there was any.
-pub record Leaves (w : List ℕ) (c : Control) (i : Instruction) (v : ℕ) : Type 0 where
-  pub exact : (p : List ℕ) (code : Code) → code .costs ≡ windowCosts → v ≡ remaining code (meaning p i) (windowIn w (c .depth))
-  pub less : 0 < windowIn w (c .depth) → v < windowIn w (c .depth)
+pub record Leaves (c : Control) (i : Instruction) (v : ℕ) : Type 0 where
+  pub exact : (p : List ℕ) (code : Code) → code .costs ≡ windowCosts → v ≡ remaining code (meaning p i) (c .window)
+  pub less : 0 < c .window → v < c .window

@@ -19,7 +19,6 @@ ghost use lib.ListN.{length};
 ghost use lib.Seq.{sets};
 ghost use Rattle.location.specs.Sets.{registers, limit};
 ghost use Rattle.rules.specs.Rules.Calls.{traceWords};
-ghost use Rattle.work.specs.Words.{windowIn};
 ghost use Rattle.work.specs.Machines.{maxWindow, Fit};
 ghost use Rattle.work.specs.Moves.{Moves, ordinaryNext};
 ghost use Rattle.effect.specs.Effects.{observations, stateAfter};
@@ -101,16 +100,11 @@ pub fn roll_back(work: &mut [u64], trace: &mut [u64], c: Progress) -> Progress
     count_step(c, next, 2, 1, LocationSet::empty())
 }
 
-// What an instruction leaves of the top's window; 0 with nothing open.
-fn remaining_window(work: &[u64], c: Control, i: Instruction) -> usize
-    requires { ⌜ Fit (now work) c ⌝ }
-    ensures { λ r. ⌜ Leaves (now (work .entry)) c i r ⌝ }
+// What an instruction leaves of the top's window.
+fn remaining_window(c: Control, i: Instruction) -> usize
+    ensures { λ r. ⌜ Leaves c i r ⌝ }
 {
-    if c.depth == 0 {
-        return 0;
-    }
-    let window = work::machine::top_window(work, c);
-    instruction::lowered(window as u64, i) as usize
+    instruction::lowered(c.window as u64, i) as usize
 }
 
 // Rule 2 for beqz r, l, with its observations; w is the window of a branch that is opened with none open.
@@ -130,7 +124,7 @@ pub fn open_branch(
     let next = control.place + 1;
     let target = effect::branch_to(t, l, next);
     let wrong = effect::branch_to(t, Label::new(next), l.index());
-    let remaining = remaining_window(&work[..], control, Instruction::BranchZero(r, l));
+    let remaining = remaining_window(control, Instruction::BranchZero(r, l));
     let opened = work::machine::open_branch(&mut work[..], control, wrong, target, w, remaining);
     observe_branch(&mut trace[..], c.observations, START, control.opened, wrong);
     let seen = t.deps;
@@ -161,7 +155,7 @@ fn observe_effect(trace: &mut [u64], k: usize, o: Observed) -> usize
 
 // The machine goes on as an effect says, with so much left of the top's window.
 fn apply_effect(work: &mut [u64], c: Control, e: Effect, remaining: usize) -> Control
-    requires { ⌜ Fit (now work) c × (e .location .0 < limit) × (0 < c .depth → remaining < windowIn (now work) (c .depth)) ⌝ }
+    requires { ⌜ Fit (now work) c × (e .location .0 < limit) × (0 < c .depth → remaining < c .window) ⌝ }
     ensures { λ r. ⌜ Moves (now (work .entry)) (now (work .exit)) c r (λ M. ordinaryNext M (stateAfter (M .state) e) (e .place) remaining) ⌝ }
 {
     if e.writes {
@@ -169,7 +163,7 @@ fn apply_effect(work: &mut [u64], c: Control, e: Effect, remaining: usize) -> Co
         let v = e.value;
         return work::machine::assign(&mut work[..], c, l, v, e.place, remaining);
     }
-    work::machine::go(&mut work[..], c, e.place, remaining)
+    work::machine::go(c, e.place, remaining)
 }
 
 // Rule 3 for an instruction with its effect, and its observation if there is one.
@@ -186,7 +180,7 @@ pub fn carry_out(
     let control = c.control;
     let observed = e.observed;
     let seen = e.seen;
-    let remaining = remaining_window(&work[..], control, i);
+    let remaining = remaining_window(control, i);
     let next = apply_effect(&mut work[..], control, e, remaining);
     let shown = observe_effect(&mut trace[..], c.observations, observed);
     count_step(c, next, shown, 0, seen)

@@ -87,7 +87,7 @@ entry-same k s =
     let e₁ = s .word 1 (lit< tt) in
     let e₂ = s .word 2 (lit< tt) in
     let e₃ = s .word 3 (lit< tt) in
-    λ t. record { id = e₀ t; target = e₁ t; window = e₂ t; mark = e₃ t }
+    λ t. record { id = e₀ t; target = e₁ t; outer = e₂ t; mark = e₃ t }
 
 -- the log and the branches stand past the operands
 pub log-same : (w w′ : List ℕ) → drop logBase w ≡ drop logBase w′ → changeAt w ≡ changeAt w′
@@ -126,23 +126,10 @@ change-stored w k l v hl h f =
 
 pub entry-stored : (w : List ℕ) (k : ℕ) (b : BranchEntry) → branchBase k + 4 ≤ length w → entryAt (entryStored w k b) k ≡ b
 entry-stored w k b f =
-    let vs = b .id ∷ b .target ∷ b .window ∷ b .mark ∷ [] in
+    let vs = b .id ∷ b .target ∷ b .outer ∷ b .mark ∷ [] in
     let i = branchBase k in
     let e₀ = first-in vs w i (lit< tt) f in
     let e₁ = in-sets vs w i 1 (lit< tt) f in
     let e₂ = in-sets vs w i 2 (lit< tt) f in
     let e₃ = in-sets vs w i 3 (lit< tt) f in
-    λ t. record { id = e₀ t; target = e₁ t; window = e₂ t; mark = e₃ t }
-
--- a branch's entry with another window
-abbrev pub withWindow : BranchEntry → ℕ → BranchEntry
-withWindow b v = record { id = b .id; target = b .target; window = v; mark = b .mark }
-
-pub entry-window : (w : List ℕ) (k v : ℕ) → branchBase k + 4 ≤ length w → entryAt (set w (branchBase k + 2) v) k ≡ withWindow (entryAt w k) v
-entry-window w k v f =
-    let i = branchBase k in
-    let e₀ = getD-set-other w (i + 2) i v 0 (omega arith) in
-    let e₁ = getD-set-other w (i + 2) (i + 1) v 0 (omega arith) in
-    let e₂ = getD-set-same w (i + 2) v 0 (omega arith) in
-    let e₃ = getD-set-other w (i + 2) (i + 3) v 0 (omega arith) in
-    λ t. record { id = e₀ t; target = e₁ t; window = e₂ t; mark = e₃ t }
+    λ t. record { id = e₀ t; target = e₁ t; outer = e₂ t; mark = e₃ t }

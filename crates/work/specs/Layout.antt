@@ -13,8 +13,8 @@ logBase = 1280
 abbrev pub changeBase : ℕ → ℕ
 changeBase k = logBase + 6 * k
 
--- and the open branches downwards, 4 words each: id, target, window, and the length of the log when it was opened. The first one
--- stands 1202 words past the log's first; no number brings one below that word.
+-- and the open branches downwards, 4 words each: id, target, and of when it was opened the window left to the branch below and the
+-- length of the log. The first one stands 1202 words past the log's first; no number brings one below that word.
 abbrev pub firstBranch : ℕ
 firstBranch = 1202
 

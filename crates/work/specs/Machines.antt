@@ -31,19 +31,20 @@ lastChanges g (suc k) (suc j) = g k ∷ lastChanges g k j
 abbrev pub savedAt : (ℕ → Change) → State → ℕ → ℕ → State
 savedAt g σ k mark = restore (lastChanges g k (k - mark)) σ
 
--- the d open branches, the last one first, where e i is the entry of branch number i, and the log has k changes
-abbrev pub branchesOf : (ℕ → BranchEntry) → (ℕ → Change) → State → ℕ → ℕ → List Branch
-branchesOf e g σ k zero = []
-branchesOf e g σ k (suc d) =
-    record { id = e d .id; saved = savedAt g σ k (e d .mark); target = e d .target; window = e d .window }
-    ∷ branchesOf e g (savedAt g σ k (e d .mark)) (e d .mark) d
+-- the d open branches, the last one first, where e i is the entry of branch number i, the last one's window is v, and the log has
+-- k changes
+abbrev pub branchesOf : (ℕ → BranchEntry) → (ℕ → Change) → State → ℕ → ℕ → ℕ → List Branch
+branchesOf e g σ v k zero = []
+branchesOf e g σ v k (suc d) =
+    record { id = e d .id; saved = savedAt g σ k (e d .mark); target = e d .target; window = v }
+    ∷ branchesOf e g (savedAt g σ k (e d .mark)) (e d .outer) (e d .mark) d
 
 -- the machine with n locations
 abbrev pub machineOf : List ℕ → Control → ℕ → Machine
 machineOf w c n = record {
   state = stateIn w n;
   place = c .place;
-  branches = branchesOf (entryAt w) (changeAt w) (stateIn w n) (c .log) (c .depth);
+  branches = branchesOf (entryAt w) (changeAt w) (stateIn w n) (c .window) (c .log) (c .depth);
   opened = c .opened;
 }
 
@@ -51,14 +52,14 @@ machineOf w c n = record {
 abbrev pub maxWindow : ℕ
 maxWindow = 200
 
--- Of d open branches and a log of k changes: the marks rise with the branches, and with nothing open the log is empty. A change
+-- Of d open branches, the last one with the window v, and a log of k changes: the marks rise with the branches, and with nothing open the log is empty. A change
 -- or a branch costs the top at least 1 of its window, so that there are at most 200 changes and 201 branches, and changes and
 -- branches are at most 201 together.
-abbrev pub WindowBound : (ℕ → BranchEntry) → ℕ → ℕ → Type 0
-WindowBound e zero k = k ≡ 0
-WindowBound e (suc d) k = (e d .mark ≤ k) × (k + d + e d .window ≤ maxWindow) × WindowBound e d (e d .mark)
+abbrev pub WindowBound : (ℕ → BranchEntry) → ℕ → ℕ → ℕ → Type 0
+WindowBound e v zero k = k ≡ 0
+WindowBound e v (suc d) k = (e d .mark ≤ k) × (k + d + v ≤ maxWindow) × WindowBound e (e d .outer) d (e d .mark)
 
 -- the working area is long enough, and the log and the branches do not meet
 pub record Fit (w : List ℕ) (c : Control) : Type 0 where
   pub room : workingWords ≤ length w
-  pub bound : WindowBound (entryAt w) (c .depth) (c .log)
+  pub bound : WindowBound (entryAt w) (c .window) (c .depth) (c .log)

@@ -14,11 +14,6 @@ use Rattle.work.specs.declared.machine.RolledBack.{RolledBack}
 use Rattle.work.specs.Layout.{labels}
 use Rattle.work.specs.Machines.{machineOf, Fit}
 
--- the top's window, and 0 with nothing open
-abbrev pub topWindow : List Branch → ℕ
-topWindow [] = 0
-topWindow (b ∷ bs) = b .window
-
 -- the branches with v left of the top's window
 abbrev pub lowerTo : ℕ → List Branch → List Branch
 lowerTo v [] = []

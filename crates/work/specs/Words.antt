@@ -3,7 +3,7 @@
 -- Assumes nothing.
 use mathlib.Core.List.{List, [], _∷_}
 use Prim.Native.Nat.{ℕ, zero, suc, _+_, _%_}
-use lib.ListN.{getD, set}
+use lib.ListN.{getD}
 use lib.Seq.{sets}
 use Rattle.location.specs.Sets.{limit}
 use Rattle.rules.specs.declared.Tagged.{Tagged}
@@ -49,22 +49,12 @@ abbrev pub entryAt : List ℕ → ℕ → BranchEntry
 entryAt w k = record {
   id = getD w (branchBase k) 0;
   target = getD w (branchBase k + 1) 0;
-  window = getD w (branchBase k + 2) 0;
+  outer = getD w (branchBase k + 2) 0;
   mark = getD w (branchBase k + 3) 0;
 }
 
 abbrev pub entryStored : List ℕ → ℕ → BranchEntry → List ℕ
-entryStored w k b = sets w (branchBase k) (b .id ∷ b .target ∷ b .window ∷ b .mark ∷ [])
-
--- v left of the window of the last of d branches, if there is one
-abbrev pub loweredIn : List ℕ → ℕ → ℕ → List ℕ
-loweredIn w zero v = w
-loweredIn w (suc d) v = set w (branchBase d + 2) v
-
--- the window of the last of d branches, and 0 of none
-abbrev pub windowIn : List ℕ → ℕ → ℕ
-windowIn w zero = 0
-windowIn w (suc d) = entryAt w d .window
+entryStored w k b = sets w (branchBase k) (b .id ∷ b .target ∷ b .outer ∷ b .mark ∷ [])
 
 -- the window of a branch that is opened over d others: w over none, else what is left of the last one's
 abbrev pub windowAfter : ℕ → ℕ → ℕ → ℕ

@@ -8,7 +8,7 @@ use rules::Tagged;
 ghost use mathlib.Core.Path.{_≡_};
 ghost use Prim.Native.Nat.{_+_, _-_, _*_, _<_, _≤_};
 ghost use mathlib.Core.List.{_∷_};
-ghost use lib.ListN.{length, set, replicate};
+ghost use lib.ListN.{length, replicate};
 ghost use lib.Seq.{sets};
 ghost use Rattle.rules.specs.Rules.Calls.{written, workingWords};
 ghost use Rattle.work.specs.Layout.{operandBase, changeBase, firstBranch, branchBase};
@@ -29,11 +29,12 @@ pub const LABELS: usize = 2486;
 // How many words there are; those past the table of labels are free.
 pub const WORDS: usize = 4096;
 
-// What the words hold of an open branch: `mark` is the length of the log when it was opened.
+// What the words hold of an open branch: `outer` is what was left of the window of the branch below when it was opened, and `mark`
+// the length of the log then.
 pub struct BranchEntry {
     pub id: usize,
     pub target: usize,
-    pub window: usize,
+    pub outer: usize,
     pub mark: usize,
 }
 
@@ -115,7 +116,7 @@ pub fn load_branch(work: &[u64], k: usize) -> BranchEntry
     BranchEntry {
         id: work[at] as usize,
         target: work[at + 1] as usize,
-        window: work[at + 2] as usize,
+        outer: work[at + 2] as usize,
         mark: work[at + 3] as usize,
     }
 }
@@ -128,16 +129,8 @@ pub fn push_branch(work: &mut [u64], k: usize, b: BranchEntry)
     let at = LOG + (BRANCHES - ENTRY * k);
     work[at] = b.id as u64;
     work[at + 1] = b.target as u64;
-    work[at + 2] = b.window as u64;
+    work[at + 2] = b.outer as u64;
     work[at + 3] = b.mark as u64;
-}
-
-pub fn set_window(work: &mut [u64], k: usize, window: usize)
-    requires { ⌜ 4 * k ≤ firstBranch ⌝ }
-    requires { ⌜ branchBase k + 4 ≤ length (now work) ⌝ }
-    ensures { λ _. ⌜ now (work .exit) ≡ set (now (work .entry)) (branchBase k + 2) window ⌝ }
-{
-    work[LOG + (BRANCHES - ENTRY * k) + 2] = window as u64;
 }
 
 // The working words become 0.

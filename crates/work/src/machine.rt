@@ -4,21 +4,22 @@ use super::BranchEntry;
 use location::Location;
 use rules::Tagged;
 ghost use mathlib.Core.Path.{_≡_};
+ghost use mathlib.Core.List.{List};
 ghost use Prim.Native.Nat.{ℕ, _+_, _^_, _<_, _≤_};
-ghost use lib.ListN.{length};
 ghost use Rattle.location.specs.Sets.{limit};
-ghost use Rattle.rules.specs.Rules.Calls.{workingWords};
 ghost use Rattle.rules.specs.Rules.Plain.{put};
-ghost use Rattle.work.specs.Words.{windowIn, loweredIn, windowAfter};
+ghost use Rattle.work.specs.Words.{windowAfter};
 ghost use Rattle.work.specs.Machines.{machineOf, maxWindow, Fit};
 ghost use Rattle.work.specs.Moves.{Moves, RollsBack, ordinaryNext, openingNext, expiredOn};
 
-// The place, how many branches are open, how many changes are logged, and how many branches were opened in all.
+// The place, how many branches are open, how many changes are logged, how many branches were opened in all, and the window of the
+// top one, which means nothing with none open.
 pub struct Control {
     pub place: usize,
     pub depth: usize,
     pub log: usize,
     pub opened: usize,
+    pub window: usize,
 }
 
 // The control after a rollback, with the id and the true target of the branch that was rolled back.
@@ -44,24 +45,13 @@ pub fn roll_back(work: &mut [u64], c: Control) -> RolledBack
         depth,
         log: mark,
         opened: c.opened,
+        window: top.outer,
     };
     RolledBack {
         control,
         id: top.id,
         target: top.target,
     }
-}
-
-// So much is left of the top's window, if a branch is open.
-fn lower_top(work: &mut [u64], depth: usize, remaining: usize)
-    requires { ⌜ depth ≤ maxWindow + 1 ⌝ }
-    requires { ⌜ workingWords ≤ length (now work) ⌝ }
-    ensures { λ _. ⌜ now (work .exit) ≡ loweredIn (now (work .entry)) depth remaining ⌝ }
-{
-    if depth == 0 {
-        return;
-    }
-    super::set_window(&mut work[..], depth - 1, remaining);
 }
 
 // The window of a branch that is opened over so many others.
@@ -85,7 +75,7 @@ pub fn open_branch(
     remaining: usize,
 ) -> Control
     requires { ⌜ Fit (now work) c ⌝ }
-    requires { ⌜ (0 < c .depth → remaining < windowIn (now work) (c .depth)) ⌝ }
+    requires { ⌜ (0 < c .depth → remaining < c .window) ⌝ }
     requires { ⌜ window ≤ maxWindow ⌝ }
     requires { ⌜ c .opened + 1 < 2 ^ 64 ⌝ }
     ensures { λ r. ⌜ Moves (now (work .entry)) (now (work .exit)) c r (λ M. openingNext M wrong target window remaining) ⌝ }
@@ -93,12 +83,10 @@ pub fn open_branch(
     let k = c.depth;
     let log = c.log;
     let opened = c.opened;
-    let own = new_window(k, window, remaining);
-    lower_top(&mut work[..], k, remaining);
     let b = BranchEntry {
         id: opened,
         target,
-        window: own,
+        outer: remaining,
         mark: log,
     };
     super::push_branch(&mut work[..], k, b);
@@ -107,6 +95,7 @@ pub fn open_branch(
         depth: k + 1,
         log,
         opened: opened + 1,
+        window: new_window(k, window, remaining),
     }
 }
 
@@ -120,7 +109,7 @@ pub fn assign(
     remaining: usize,
 ) -> Control
     requires { ⌜ Fit (now work) c ⌝ }
-    requires { ⌜ (0 < c .depth → remaining < windowIn (now work) (c .depth)) ⌝ }
+    requires { ⌜ (0 < c .depth → remaining < c .window) ⌝ }
     requires { ⌜ l .0 < limit ⌝ }
     ensures { λ r. ⌜ Moves (now (work .entry)) (now (work .exit)) c r (λ M. ordinaryNext M (put (M .state) (l .0) v) place remaining) ⌝ }
 {
@@ -134,56 +123,40 @@ pub fn assign(
             depth,
             log,
             opened,
+            window: remaining,
         };
     }
     super::change(&mut work[..], log, l, v);
-    lower_top(&mut work[..], depth, remaining);
     Control {
         place,
         depth,
         log: log + 1,
         opened,
+        window: remaining,
     }
 }
 
-// Rule 3 for an instruction that changes no location.
-pub fn go(work: &mut [u64], c: Control, place: usize, remaining: usize) -> Control
-    requires { ⌜ Fit (now work) c ⌝ }
-    requires { ⌜ (0 < c .depth → remaining ≤ windowIn (now work) (c .depth)) ⌝ }
-    ensures { λ r. ⌜ Moves (now (work .entry)) (now (work .exit)) c r (λ M. ordinaryNext M (M .state) place remaining) ⌝ }
+// Rule 3 for an instruction that changes no location: nor does it change a word.
+pub fn go(c: Control, place: usize, remaining: usize) -> Control
+    ensures { λ r. ⌜ ((w : List ℕ) → Fit w c → (0 < c .depth → remaining ≤ c .window) → Moves w w c r (λ M. ordinaryNext M (M .state) place remaining)) ⌝ }
 {
-    let depth = c.depth;
-    lower_top(&mut work[..], depth, remaining);
     Control {
         place,
-        depth,
+        depth: c.depth,
         log: c.log,
         opened: c.opened,
+        window: remaining,
     }
-}
-
-// The window of the top branch; 0 with nothing open.
-pub fn top_window(work: &[u64], c: Control) -> usize
-    requires { ⌜ Fit (now work) c ⌝ }
-    ensures { λ r. ⌜ r ≡ windowIn (now (work .entry)) (c .depth) ⌝ }
-{
-    let depth = c.depth;
-    if depth == 0 {
-        return 0;
-    }
-    let top = super::load_branch(work, depth - 1);
-    top.window
 }
 
 // Whether rule 1 is next, in a program that ends at a place.
-pub fn expired(work: &[u64], c: Control, end: usize) -> bool
-    requires { ⌜ Fit (now work) c ⌝ }
-    ensures { λ r. ⌜ ((n : ℕ) → r ≡ expiredOn end (c .place) (machineOf (now (work .entry)) c n .branches)) ⌝ }
+pub fn expired(c: Control, end: usize) -> bool
+    ensures { λ r. ⌜ ((w : List ℕ) (n : ℕ) → r ≡ expiredOn end (c .place) (machineOf w c n .branches)) ⌝ }
 {
     if c.depth == 0 {
         return false;
     }
-    if top_window(work, c) == 0 {
+    if c.window == 0 {
         return true;
     }
     end <= c.place

@@ -30,11 +30,11 @@ expired-requires c κs = search needs
 
 try-roll-back-requires : tie.Need-try-roll-back-requires
 try-roll-back-requires c κs =
-    let a = c .before .before .before .before .before .before .before .before .before .before .before .before .before .before .args in
-    let r = c .before .before .before .before .before .before .before .before .before .before .before .before .before .before .pre in
+    let a = c .before .before .before .before .before .before .before .before .before .before .before .before .before .args in
+    let r = c .before .before .before .before .before .before .before .before .before .before .before .before .before .pre in
     let w = a .work .now in
-    let d = expired-depth (entryAt w) (changeAt w) (stateIn w 0) (a .c .control .log) (a .c .control .depth) (a .t .count) (a .c .control .place)
-    (sym (c .before .before .before .expired .ensures 0) ∙ c .before .before .if3 .taken) in
+    let d = expired-depth (entryAt w) (changeAt w) (stateIn w 0) (a .c .control .window) (a .c .control .log) (a .c .control .depth) (a .t .count) (a .c .control .place)
+    (sym (c .before .before .before .expired .ensures w 0) ∙ c .before .before .if3 .taken) in
     (r .fits, d, r .counted)
 
 same-length : tie.Need-same-length
@@ -45,30 +45,30 @@ same-length-2 c = search needs
 
 returns-3 : tie.Need-returns-3
 returns-3 c =
-    let a = c .before .before .before .before .before .before .before .before .before .before .before .before .before .before .before .before .before .before .before .args in
-    let k = closed-false (a .c .control .depth) (a .t .count) (a .c .control .place) (sym (c .before .before .before .before .before .before .before .before .before .before .before .before .before .before .is-over .ensures) ∙ c .before .before .before .before .before .before .before .before .before .before .before .before .before .if1 .left) in
-    turned-back (a .p .now) (a .t) (a .mode) (a .work .now) _ (a .trace .now) _ (a .c) _ _ (c .before .before .before .before .before .before .before .before .before .before .before .before .before .before .before .before .before .before .before .pre) k (c .before .before .before .before .before .before .before .before .before .before .if2 .left)
-    (sym (c .before .before .before .before .before .before .before .before .expired .ensures (locations (a .t))) ∙ c .before .before .before .before .before .before .before .if3 .taken) (c .before .before .before .before .try-roll-back .ensures)
+    let a = c .before .before .before .before .before .before .before .before .before .before .before .before .before .before .before .before .before .before .args in
+    let k = closed-false (a .c .control .depth) (a .t .count) (a .c .control .place) (sym (c .before .before .before .before .before .before .before .before .before .before .before .before .before .is-over .ensures) ∙ c .before .before .before .before .before .before .before .before .before .before .before .before .if1 .left) in
+    turned-back (a .p .now) (a .t) (a .mode) (a .work .now) _ (a .trace .now) _ (a .c) _ _ (c .before .before .before .before .before .before .before .before .before .before .before .before .before .before .before .before .before .before .pre) k (c .before .before .before .before .before .before .before .before .before .if2 .left)
+    (sym (c .before .before .before .before .before .before .before .before .expired .ensures (a .work .now) (locations (a .t))) ∙ c .before .before .before .before .before .before .before .if3 .taken) (c .before .before .before .before .try-roll-back .ensures)
 
 new-requires : tie.Need-new-requires
 new-requires c κs = search needs
 
 fetch-requires : tie.Need-fetch-requires
 fetch-requires c κs =
-    let a = c .before .before .before .before .before .before .before .before .before .before .before .before .before .before .args in
+    let a = c .before .before .before .before .before .before .before .before .before .before .before .before .before .args in
     let n = locations (a .t) in
-    let i = inside (a .t .count) (a .work .now) (a .c .control) n (sym (c .before .before .before .before .before .before .before .before .before .is-over .ensures) ∙ c .before .before .before .before .before .before .before .before .if1 .left)
-    (sym (c .before .before .before .expired .ensures n) ∙ c .before .before .if3 .left) in
-    rw (c .before .new .ensures) (fetchable (a .p .now) (a .t) (a .mode) (a .work .now) (a .trace .now) (a .c) (c .before .before .before .before .before .before .before .before .before .before .before .before .before .before .pre) i)
+    let i = inside (a .t .count) (a .work .now) (a .c .control) n (sym (c .before .before .before .before .before .before .before .before .is-over .ensures) ∙ c .before .before .before .before .before .before .before .if1 .left)
+    (sym (c .before .before .before .expired .ensures (a .work .now) n) ∙ c .before .before .if3 .left) in
+    rw (c .before .new .ensures) (fetchable (a .p .now) (a .t) (a .mode) (a .work .now) (a .trace .now) (a .c) (c .before .before .before .before .before .before .before .before .before .before .before .before .before .pre) i)
 
 advance-requires : tie.Need-advance-requires
 advance-requires c κs =
-    let a = c .before .before .before .before .before .before .before .before .before .before .before .before .before .before .before .before .before .args in
+    let a = c .before .before .before .before .before .before .before .before .before .before .before .before .before .before .before .before .args in
     let n = locations (a .t) in
-    let e = sym (c .before .before .before .before .before .before .expired .ensures n) ∙ c .before .before .before .before .before .if3 .left in
-    let i = inside (a .t .count) (a .work .now) (a .c .control) n (sym (c .before .before .before .before .before .before .before .before .before .before .before .before .is-over .ensures) ∙ c .before .before .before .before .before .before .before .before .before .before .before .if1 .left) e in
+    let e = sym (c .before .before .before .before .before .before .expired .ensures (a .work .now) n) ∙ c .before .before .before .before .before .if3 .left in
+    let i = inside (a .t .count) (a .work .now) (a .c .control) n (sym (c .before .before .before .before .before .before .before .before .before .before .before .is-over .ensures) ∙ c .before .before .before .before .before .before .before .before .before .before .if1 .left) e in
     let f = rw (c .before .before .before .before .new .ensures) at (c .before .before .fetch .ensures) in
-    advancing (a .p .now) (a .t) (a .mode) (a .work .now) (a .trace .now) (a .c) (c .before .before .before .before .before .before .before .before .before .before .before .before .before .before .before .before .before .pre) i _ f (λ h. not-expired (a .t .count) (a .work .now) (a .c .control) n e h .0)
+    advancing (a .p .now) (a .t) (a .mode) (a .work .now) (a .trace .now) (a .c) (c .before .before .before .before .before .before .before .before .before .before .before .before .before .before .before .before .pre) i _ f (λ h. not-expired (a .t .count) (a .work .now) (a .c .control) n e h .0)
 
 same-length-3 : tie.Need-same-length-3
 same-length-3 c = search needs
@@ -78,15 +78,15 @@ same-length-4 c = search needs
 
 returns-4 : tie.Need-returns-4
 returns-4 c =
-    let a = c .before .before .before .before .before .before .before .before .before .before .before .before .before .before .before .before .before .before .before .before .before .before .args in
+    let a = c .before .before .before .before .before .before .before .before .before .before .before .before .before .before .before .before .before .before .before .before .before .args in
     let n = locations (a .t) in
-    let e = sym (c .before .before .before .before .before .before .before .before .before .before .before .expired .ensures n) ∙ c .before .before .before .before .before .before .before .before .before .before .if3 .left in
-    let o = sym (c .before .before .before .before .before .before .before .before .before .before .before .before .before .before .before .before .before .is-over .ensures) ∙ c .before .before .before .before .before .before .before .before .before .before .before .before .before .before .before .before .if1 .left in
+    let e = sym (c .before .before .before .before .before .before .before .before .before .before .before .expired .ensures (a .work .now) n) ∙ c .before .before .before .before .before .before .before .before .before .before .if3 .left in
+    let o = sym (c .before .before .before .before .before .before .before .before .before .before .before .before .before .before .before .before .is-over .ensures) ∙ c .before .before .before .before .before .before .before .before .before .before .before .before .before .before .before .if1 .left in
     let i = inside (a .t .count) (a .work .now) (a .c .control) n o e in
     let f = rw (c .before .before .before .before .before .before .before .before .before .new .ensures) at (c .before .before .before .before .before .before .before .fetch .ensures) in
     let k = closed-false (a .c .control .depth) (a .t .count) (a .c .control .place) o in
-    turned-on (a .p .now) (a .t) (a .mode) (a .work .now) _ (a .trace .now) _ (c .before .before .before .before .before .before .before .fetch .result) (a .c) _ _ (c .before .before .before .before .before .before .before .before .before .before .before .before .before .before .before .before .before .before .before .before .before .before .pre) k (c .before .before .before .before .before .before .before .before .before .before .before .before .before .if2 .left) e
-    (fetched-same (a .p .now) (a .t) (a .mode) (a .work .now) (a .trace .now) (a .c) (c .before .before .before .before .before .before .before .before .before .before .before .before .before .before .before .before .before .before .before .before .before .before .pre) i (c .before .before .before .before .before .before .before .fetch .result) f) (c .before .before .before .before .advance .ensures)
+    turned-on (a .p .now) (a .t) (a .mode) (a .work .now) _ (a .trace .now) _ (c .before .before .before .before .before .before .before .fetch .result) (a .c) _ _ (c .before .before .before .before .before .before .before .before .before .before .before .before .before .before .before .before .before .before .before .before .before .pre) k (c .before .before .before .before .before .before .before .before .before .before .before .before .if2 .left) e
+    (fetched-same (a .p .now) (a .t) (a .mode) (a .work .now) (a .trace .now) (a .c) (c .before .before .before .before .before .before .before .before .before .before .before .before .before .before .before .before .before .before .before .before .before .pre) i (c .before .before .before .before .before .before .before .fetch .result) f) (c .before .before .before .before .advance .ensures)
 
 pub take-turn-spec : {M : Type 1} → statement M
 take-turn-spec =

@@ -1,24 +1,114 @@
--- `instruction::cost` meets its contract: the entry of the table at the kind. Assumes nothing.
-use mathlib.Core.Path.{ap}
-use Prim.Native.Nat.{ℕ}
-use lib.ListN.{getD}
+-- `instruction::cost` meets its contract: the entry of the table at each kind. Assumes nothing.
 use Rattle.rules.specs.Rules.Instructions.{windowCosts}
 use borrow.Author.Needs.{needs}
 use Rattle.instruction.proofs.cost.Statement.{statement}
 use Rattle.instruction.proofs.cost.Tie as tie
 
-kind-requires : tie.Need-kind-requires
-kind-requires c κs = search needs
-
-mul-result : tie.Need-mul-result
-mul-result c = search needs
+enum-told : tie.Need-enum-told
+enum-told c = search needs
 
 array-read-result : tie.Need-array-read-result
 array-read-result c = search needs
 
+enum-told-2 : tie.Need-enum-told-2
+enum-told-2 c = search needs
+
+array-read-result-2 : tie.Need-array-read-result-2
+array-read-result-2 c = search needs
+
+enum-told-3 : tie.Need-enum-told-3
+enum-told-3 c = search needs
+
+array-read-result-3 : tie.Need-array-read-result-3
+array-read-result-3 c = search needs
+
+enum-told-4 : tie.Need-enum-told-4
+enum-told-4 c = search needs
+
+array-read-result-4 : tie.Need-array-read-result-4
+array-read-result-4 c = search needs
+
+enum-told-5 : tie.Need-enum-told-5
+enum-told-5 c = search needs
+
+array-read-result-5 : tie.Need-array-read-result-5
+array-read-result-5 c = search needs
+
+enum-told-6 : tie.Need-enum-told-6
+enum-told-6 c = search needs
+
+array-read-result-6 : tie.Need-array-read-result-6
+array-read-result-6 c = search needs
+
+enum-told-7 : tie.Need-enum-told-7
+enum-told-7 c = search needs
+
+array-read-result-7 : tie.Need-array-read-result-7
+array-read-result-7 c = search needs
+
+enum-told-8 : tie.Need-enum-told-8
+enum-told-8 c = search needs
+
+array-read-result-8 : tie.Need-array-read-result-8
+array-read-result-8 c = search needs
+
 returns : tie.Need-returns
 unfolding windowCosts
-returns c = λ p. ap (λ (k : ℕ). getD windowCosts k 0) (c .kind .ensures .0 p)
+returns c = λ p. rw (c .enum-told .given .1)
+
+returns-2 : tie.Need-returns-2
+unfolding windowCosts
+returns-2 c = λ p. rw (c .enum-told2 .given .1)
+
+returns-3 : tie.Need-returns-3
+unfolding windowCosts
+returns-3 c = λ p. rw (c .enum-told3 .given .1)
+
+returns-4 : tie.Need-returns-4
+unfolding windowCosts
+returns-4 c = λ p. rw (c .enum-told4 .given .1)
+
+returns-5 : tie.Need-returns-5
+unfolding windowCosts
+returns-5 c = λ p. rw (c .enum-told5 .given .1)
+
+returns-6 : tie.Need-returns-6
+unfolding windowCosts
+returns-6 c = λ p. rw (c .enum-told6 .given .1)
+
+returns-7 : tie.Need-returns-7
+unfolding windowCosts
+returns-7 c = λ p. rw (c .enum-told7 .given .1)
+
+returns-8 : tie.Need-returns-8
+unfolding windowCosts
+returns-8 c = λ p. rw (c .enum-told8 .given .1)
 
 pub cost-spec : {M : Type 1} → statement M
-cost-spec = tie.close (tie.spec kind-requires mul-result array-read-result returns)
+cost-spec =
+    tie.close
+    (tie.spec
+    enum-told
+    array-read-result
+    enum-told-2
+    array-read-result-2
+    enum-told-3
+    array-read-result-3
+    enum-told-4
+    array-read-result-4
+    enum-told-5
+    array-read-result-5
+    enum-told-6
+    array-read-result-6
+    enum-told-7
+    array-read-result-7
+    enum-told-8
+    array-read-result-8
+    returns
+    returns-2
+    returns-3
+    returns-4
+    returns-5
+    returns-6
+    returns-7
+    returns-8)

@@ -15,14 +15,13 @@ returns : tie.Need-returns
 returns c = let a = c .before .before .before .before .before .before .before .before .args in moved-by (a .e) (a .remaining) (c .before .before .before .before .before .before .if1 .taken) (c .before .before .assign .ensures)
 
 go-requires : tie.Need-go-requires
-go-requires c κs = let p = c .before .before .before .pre in (p .0, λ h. let l = p .2 h in omega arith)
-
-same-length-2 : tie.Need-same-length-2
-same-length-2 c = search needs
+go-requires c κs = search needs
 
 returns-2 : tie.Need-returns-2
-returns-2 c = let a = c .before .before .before .before .before .before .args in moved-by (a .e) (a .remaining) (c .before .before .before .before .if1 .left) (c .before .before .go .ensures)
+returns-2 c =
+    let a = c .before .before .before .args in
+    let p = c .before .before .before .pre in
+    moved-by (a .e) (a .remaining) (c .before .if1 .left) (c .go .ensures (a .work .now) (p .0) (λ h. let l = p .2 h in omega arith))
 
 pub apply-effect-spec : {M : Type 1} → statement M
-apply-effect-spec =
-    tie.close (tie.spec assign-requires same-length returns go-requires same-length-2 returns-2)
+apply-effect-spec = tie.close (tie.spec assign-requires same-length returns go-requires returns-2)

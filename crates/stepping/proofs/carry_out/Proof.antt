@@ -9,7 +9,7 @@ remaining-window-requires c κs = search needs
 
 apply-effect-requires : tie.Need-apply-effect-requires
 apply-effect-requires c κs =
-    let p = c .before .before .before .before .before .before .before .pre in
+    let p = c .before .before .before .before .before .before .pre in
     (p .0 .fits, p .1, λ h. c .before .remaining-window .ensures .less (p .0 .live h))
 
 observe-effect-requires : tie.Need-observe-effect-requires

@@ -34,14 +34,14 @@ remaining-window-requires c κs = search needs
 
 open-branch-requires : tie.Need-open-branch-requires
 open-branch-requires c κs =
-    let p = c .before .before .before .before .before .before .before .before .before .before .before .before .before .before .pre in
+    let p = c .before .before .before .before .before .before .before .before .before .before .before .before .before .pre in
     (p .0 .fits, ((λ h. c .before .remaining-window .ensures .less (p .0 .live h)), (p .3, omega (arith, p .0 .counted .opened, p .0 .counted .steps))))
 
 observe-branch-requires : tie.Need-observe-branch-requires
-observe-branch-requires c κs = omega (arith, c .before .before .before .before .before .before .before .before .before .before .before .before .before .before .before .before .before .before .pre .0 .more)
+observe-branch-requires c κs = omega (arith, c .before .before .before .before .before .before .before .before .before .before .before .before .before .before .before .before .before .pre .0 .more)
 
 count-step-requires : tie.Need-count-step-requires
-count-step-requires c κs = let p = c .before .before .before .before .before .before .before .before .before .before .before .before .before .before .before .before .before .before .before .before .before .before .pre in omega (arith, p .0 .more, p .0 .counted .steps, p .0 .counted .rollbacks, c .before .before .before .before .before .before .before .before .before .before .before .before .before .before .before .before .before .before .before .before .before .before .good .1 .0)
+count-step-requires c κs = let p = c .before .before .before .before .before .before .before .before .before .before .before .before .before .before .before .before .before .before .before .before .before .pre in omega (arith, p .0 .more, p .0 .counted .steps, p .0 .counted .rollbacks, c .before .before .before .before .before .before .before .before .before .before .before .before .before .before .before .before .before .before .before .before .before .good .1 .0)
 
 same-length : tie.Need-same-length
 same-length c = search needs
@@ -51,11 +51,11 @@ same-length-2 c = search needs
 
 returns : tie.Need-returns
 returns c =
-    let p = c .before .before .before .before .before .before .before .before .before .before .before .before .before .before .before .before .before .before .before .before .before .before .before .pre in
-    let a = c .before .before .before .before .before .before .before .before .before .before .before .before .before .before .before .before .before .before .before .before .before .before .before .args in
-    let t = c .before .before .before .before .before .before .before .before .before .before .before .before .before .before .before .before .before .load .result in
-    opened (p .2) (c .before .before .before .before .before .before .before .before .open-branch .ensures) (c .before .before .before .before .before .before .before .before .before .before .before .before .before .before .before .before .before .load .ensures ∙ ap (taggedAt (a .work .now)) (c .before .before .before .before .before .before .before .before .before .before .before .before .before .before .before .before .before .before .register .ensures))
-    (c .before .before .before .before .before .before .before .before .before .before .before .before .before .before .before .branch-to .ensures) (c .before .before .before .before .before .before .before .before .before .before .before .before .branch-to2 .ensures ∙ (λ i. branchTo t (c .before .before .before .before .before .before .before .before .before .before .before .before .before .before .new .ensures i) (c .before .before .before .before .before .before .before .before .before .before .before .before .before .index .ensures i)))
+    let p = c .before .before .before .before .before .before .before .before .before .before .before .before .before .before .before .before .before .before .before .before .before .before .pre in
+    let a = c .before .before .before .before .before .before .before .before .before .before .before .before .before .before .before .before .before .before .before .before .before .before .args in
+    let t = c .before .before .before .before .before .before .before .before .before .before .before .before .before .before .before .before .load .result in
+    opened (p .2) (c .before .before .before .before .before .before .before .before .open-branch .ensures) (c .before .before .before .before .before .before .before .before .before .before .before .before .before .before .before .before .load .ensures ∙ ap (taggedAt (a .work .now)) (c .before .before .before .before .before .before .before .before .before .before .before .before .before .before .before .before .before .register .ensures))
+    (c .before .before .before .before .before .before .before .before .before .before .before .before .before .before .branch-to .ensures) (c .before .before .before .before .before .before .before .before .before .before .before .branch-to2 .ensures ∙ (λ i. branchTo t (c .before .before .before .before .before .before .before .before .before .before .before .before .before .new .ensures i) (c .before .before .before .before .before .before .before .before .before .before .before .before .index .ensures i)))
     (c .before .before .before .before .before .before .before .before .before .before .remaining-window .ensures) (c .before .before .before .before .observe-branch .ensures) (c .count-step .ensures)
 
 pub open-branch-spec : {M : Type 1} → statement M

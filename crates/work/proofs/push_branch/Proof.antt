@@ -55,7 +55,7 @@ same-length c = search needs
 returns : tie.Need-returns
 returns c =
     let a = c .args in
-    store-four (a .work .now) (branchBase (a .k)) (a .b .id) (a .b .target) (a .b .window) (a .b .mark)
+    store-four (a .work .now) (branchBase (a .k)) (a .b .id) (a .b .target) (a .b .outer) (a .b .mark)
 
 pub push-branch-spec : {M : Type 1} → statement M
 push-branch-spec =

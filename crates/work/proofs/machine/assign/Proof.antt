@@ -1,10 +1,7 @@
--- `assign` meets its contract: with nothing open a store, else a change with the top lowered. Assumes nothing.
-use mathlib.Core.Path.{_≡_, ap, _∙_}
-use mathlib.Core.List.{List}
-use Prim.Native.Nat.{ℕ}
+-- `assign` meets its contract: with nothing open a store, else a change. Assumes nothing.
+use mathlib.Core.Path.{_≡_}
 use native.Mathlib.Omega.{arith}
 use lib.ListN.{length}
-use Rattle.work.specs.Words.{loweredIn}
 use Rattle.work.proofs.Moves.{fit-bound, moved-to, assign-plain, assign-open}
 use borrow.Author.Needs.{needs}
 use Rattle.work.proofs.machine.assign.Statement.{statement}
@@ -29,36 +26,20 @@ change-requires c κs =
     let f = c .before .before .before .pre .0 in
     omega (arith, fit-bound f, f .room, c .before .before .before .pre .1 .1)
 
-lower-top-requires : tie.Need-lower-top-requires
-lower-top-requires c κs =
-    let f = c .before .before .before .before .before .before .before .pre .0 in
-    omega (arith, fit-bound f, f .room, c .before .before .before .change .kept .0)
-
-add-t19 : tie.Need-add-t19
-add-t19 c = omega (arith, fit-bound (c .before .before .before .before .before .before .before .before .before .before .pre .0))
+add-t17 : tie.Need-add-t17
+add-t17 c = omega (arith, fit-bound (c .before .before .before .before .before .before .pre .0))
 
 same-length-2 : tie.Need-same-length-2
 same-length-2 c = search needs
 
 returns-2 : tie.Need-returns-2
 returns-2 c =
-    let a = c .before .before .before .before .before .before .before .before .before .before .args in
-    let p = c .before .before .before .before .before .before .before .before .before .before .pre in
+    let a = c .before .before .before .before .before .before .args in
+    let p = c .before .before .before .before .before .before .pre in
     let h : length (a .v .deps .words) ≡ 4 = search needs in
-    let o = c .before .before .before .before .before .before .before .before .if1 .left in
-    let C = c .before .before .before .before .before .before .change .ensures in
-    let e = c .before .before .lower-top .ensures ∙ ap (λ (w : List ℕ). loweredIn w (a .c .depth) (a .remaining)) C in
-    moved-to e (assign-open (a .work .now) (a .c) (a .l .0) (a .place) (a .remaining) (a .v) (p .0) (p .1 .1) h o (p .1 .0))
+    let o = c .before .before .before .before .if1 .left in
+    moved-to (c .before .before .change .ensures) (assign-open (a .work .now) (a .c) (a .l .0) (a .place) (a .remaining) (a .v) (p .0) (p .1 .1) h o (p .1 .0))
 
 pub assign-spec : {M : Type 1} → statement M
 assign-spec =
-    tie.close
-    (tie.spec
-    store-requires
-    same-length
-    returns
-    change-requires
-    lower-top-requires
-    add-t19
-    same-length-2
-    returns-2)
+    tie.close (tie.spec store-requires same-length returns change-requires add-t17 same-length-2 returns-2)
