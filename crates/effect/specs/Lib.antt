@@ -1,4 +1,3 @@
 pub mod Registers
 pub mod States
 pub mod Sources
-pub mod Effects

@@ -5,36 +5,30 @@ use mathlib.Core.Bool.{Bool, true, false}
 use mathlib.Core.List.{List}
 use Prim.Native.Nat.{ℕ, zero, suc, _+_, _*_, _/_, _<_, _≤_}
 use native.Mathlib.Omega.{arith}
-use lib.ListN.{length, replicate, length-replicate}
-use borrow.Author.Tests.{leb-true}
+use lib.ListN.{length}
+use borrow.Author.Tests.{leb-true, le-leb}
 use Rattle.location.specs.Sets.{registers}
 use Rattle.rules.specs.declared.Stop.the-variants.{TraceFull}
 use Rattle.rules.specs.declared.Trailer.{Trailer}
-use Rattle.rules.specs.Rules.Instructions.{skip, windowCosts}
 use Rattle.rules.specs.Rules.Plain as plain
-use Rattle.rules.specs.Rules.Plain.{Code, endPlace}
+use Rattle.rules.specs.Rules.Plain.{State, Code}
 use Rattle.location.specs.declared.Label.{Label}
-use Rattle.rules.specs.Rules.Mispredicting.{rolling, opening, ordinary, forward}
+use Rattle.rules.specs.Rules.Mispredicting.{rolling, opening, forward}
 use Rattle.rules.specs.Rules.JobFile.{locations}
 use Rattle.rules.specs.Theorems.JobLaws.{Limits}
 use Rattle.instruction.specs.declared.Instruction.{Instruction}
-use Rattle.instruction.specs.Meaning.{meaning}
 use Rattle.work.specs.declared.machine.Control.{Control}
-use Rattle.work.specs.Machines.{machineOf}
+use Rattle.work.specs.Machines.{stateIn, machineOf}
 use Rattle.work.specs.Moves.{expiredOn}
-use Rattle.effect.specs.declared.Observed.{Observed}
-use Rattle.effect.specs.declared.Observed.the-variants as shown
-use Rattle.effect.specs.declared.Effect.{Effect}
-use Rattle.effect.specs.Effects.{observations, Executed}
 use Rattle.stepping.specs.declared.Progress.{Progress}
-use Rattle.stepping.specs.Steps.{RolledBackTo, OpenedTo, CarriedOutTo, Effective}
+use Rattle.stepping.specs.Steps.{Counted, RolledBackTo, OpenedTo, CarriedOut}
 use Rattle.execution.specs.declared.Mode.{Mode}
 use Rattle.execution.specs.declared.Opening.the-variants as openings
 use Rattle.execution.specs.declared.Next.{Next}
 use Rattle.execution.specs.declared.Next.the-variants as next
 use Rattle.execution.specs.TurnLaws.{closed-false, not-expired}
 use Rattle.stops.specs.Stops.{closedAt, roomFor}
-use Rattle.execution.specs.Turns.{Unchanged, RollBackTried, OpeningTried, CodeOf, CarryingTried, Opens, Advanced}
+use Rattle.execution.specs.Turns.{Unchanged, RollBackTried, OpeningTried, EffectTried, CarryingTried, Opens, Advanced}
 
 -- room for k observations, as a number of words
 pub room-words : (area : List ℕ) (c : Progress) (k : ℕ) {x : Bool} → x ≡ roomFor area c k → x ≡ true → 2 * (c .observations + k) ≤ length area
@@ -42,21 +36,6 @@ room-words area c k e t = let h = leb-true (c .observations + k) (length area / 
 
 abbrev pub unchanged : (w area : List ℕ) (c : Progress) → Unchanged w w area area c c
 unchanged w area c = record { work = refl; trace = refl; progress = refl }
-
--- an effect that was computed is that of its instruction, whatever program of that length and those cells it stands in
-pub effective : (p : List ℕ) (t : Trailer) (c : Progress) {w : List ℕ} {i : Instruction} {e : Effect}
-    → Executed p w (t .count) (t .cells) (c .control .place) i e → t .cells ≤ 240 → Effective w c i e
-unfolding endPlace
-effective p t c x h =
-    let code : Code = record { prog = replicate (t .count) skip; cells = t .cells; window = t .window; costs = windowCosts } in
-    record {
-      bytes = p;
-      locations = registers + t .cells;
-      code = code;
-      most = omega arith;
-      costs = refl;
-      same = x .exact code (length-replicate (t .count) skip) refl;
-    }
 
 module _ {w w′ area area′ : List ℕ} {c c′ : Progress} {x : Bool} where
   pub rolled : x ≡ roomFor area c 2 → x ≡ true → RolledBackTo w w′ area area′ c c′ → RollBackTried w w′ area area′ c next.Go c′
@@ -77,35 +56,19 @@ module _ (w : List ℕ) {area : List ℕ} {c : Progress} {x : Bool} where
   unfolding opening
   not-opened r l window e f = record { tried = λ n code h k q s. (sym e ∙ f, refl, unchanged w area c) }
 
--- ---- rule 3: the observations of an instruction are those of its effect
-module _ {p w : List ℕ} {t : Trailer} (c : Progress) {i : Instruction} {e : Effect}
-    (x : Executed p w (t .count) (t .cells) (c .control .place) i e) (limits : Limits t) where
-  observed-same : (code : Code) → CodeOf t code
-      → length (observations (e .observed)) ≡ length (ordinary code (machineOf w (c .control) (locations t)) (meaning p i) .obs)
-  unfolding ordinary
-  observed-same code k = ap (λ (y : plain.Effect). length (y .obs)) (x .exact code (k .count) (k .cells))
+-- ---- rule 3 for an instruction that shows k observations
+module _ {cells : ℕ} {i : Instruction} (w : List ℕ) {area : List ℕ} {c : Progress} (rule : Code → State → plain.Effect) (k : ℕ)
+    (shows : (code : Code) → length (rule code (stateIn w (registers + cells)) .obs) ≡ k) {x : Bool} (e : x ≡ roomFor area c k) where
+  pub carried : {w′ area′ : List ℕ} {c′ : Progress} → x ≡ true → CarriedOut w w′ area area′ cells i rule c c′
+      → EffectTried w w′ area area′ cells i rule c next.Go c′
+  carried t m = record { tried = λ p code ec costs. (ap (roomFor area c) (shows code) ∙ sym e ∙ t, m .made p code ec costs) }
 
-  pub carried : {w′ area area′ : List ℕ} {c′ : Progress} {b : Bool} {k : ℕ} → k ≡ length (observations (e .observed))
-      → b ≡ roomFor area c k → b ≡ true → ((q : List ℕ) → CarriedOutTo q w w′ area area′ i e c c′)
-      → CarryingTried p t w w′ area area′ i c next.Go c′
-  carried {area = area} n r y m = record {
-    tried = λ code s. (
-      ap (roomFor area c) (sym (n ∙ observed-same code s)) ∙ sym r ∙ y,
-      m p .made (locations t) code (let h = limits .cells in omega arith) (s .costs) (x .exact code (s .count) (s .cells)),
-    );
-  }
+  pub not-carried : x ≡ false → EffectTried w w area area cells i rule c (next.Halt TraceFull) c
+  not-carried f = record { tried = λ p code ec costs. (ap (roomFor area c) (shows code) ∙ sym e ∙ f, refl, unchanged w area c) }
 
-  pub not-carried : {area : List ℕ} {b : Bool} {k : ℕ} → k ≡ length (observations (e .observed)) → b ≡ roomFor area c k → b ≡ false
-      → CarryingTried p t w w area area i c (next.Halt TraceFull) c
-  not-carried {area = area} n r f = record {
-    tried = λ code s. (ap (roomFor area c) (sym (n ∙ observed-same code s)) ∙ sym r ∙ f, refl, unchanged w area c);
-  }
-
-pub few-observations : (o : Observed) → length (observations o) ≤ 1
-few-observations shown.Nothing = omega arith
-few-observations (shown.Place q) = omega arith
-few-observations (shown.Load a) = omega arith
-few-observations (shown.Store a) = omega arith
+-- there is always room for nothing
+pub room-for-none : (area : List ℕ) (c : Progress) → Counted c area → true ≡ roomFor area c 0
+room-for-none area c h = let r = h .room in sym (le-leb (c .observations + 0) (length area / 2) (omega arith))
 
 -- ---- an instruction in each of the two runs
 module _ {p : List ℕ} {t : Trailer} {mode : Mode} {w w′ area area′ : List ℕ} {i : Instruction} {c : Progress} {x : Next} {c′ : Progress} where

@@ -247,10 +247,9 @@ module _ (p : List ℕ) (t : Trailer) (mode : Mode) (w area : List ℕ) (c : Pro
     pub advancing : (0 < c .control .depth → 0 < c .control .window) → Advancing p t w area i c
     advancing live = record {
       can = record {
-        fits = r .fits;
+        live = record { fits = r .fits; window = live };
         counted = r .counted;
         place = let k = r .loaded .limits .count-most in omega arith;
-        live = live;
       };
       limits = r .loaded .limits;
       sound = stands .sound;

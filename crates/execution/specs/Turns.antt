@@ -3,14 +3,17 @@
 use mathlib.Core.Path.{_≡_}
 use mathlib.Core.Bool.{true, false}
 use mathlib.Core.List.{List, [], _∷_}
-use Prim.Native.Nat.{ℕ, _+_, _-_, _/_, _<_, _≤_}
+use Prim.Native.Nat.{ℕ, _+_, _-_, _*_, _/_, _<_, _≤_}
 use lib.ListN.{length, getD, drop}
+use lib.Seq.{sets}
+use Rattle.location.specs.declared.LocationSet.{LocationSet}
 use Rattle.location.specs.Sets.{limit, registers}
 use Rattle.rules.specs.declared.Stop.{Stop}
 use Rattle.rules.specs.declared.Stop.the-variants.{TraceFull}
 use Rattle.rules.specs.declared.Trailer.{Trailer}
 use Rattle.rules.specs.Rules.Instructions.{Instr, Observation, windowCosts}
-use Rattle.rules.specs.Rules.Plain.{Code, endPlace}
+use Rattle.rules.specs.Rules.Plain.{State, Code, endPlace}
+use Rattle.rules.specs.Rules.Plain as plain
 use Rattle.rules.specs.Rules.Mispredicting.{Branch, Machine, Step, rolling, opening, ordinary, forward, step, plainStep}
 use Rattle.rules.specs.Rules.Loop.{ended}
 use Rattle.rules.specs.Rules.Runs.{Result, fits, over, run}
@@ -23,12 +26,12 @@ use Rattle.instruction.specs.declared.Instruction.{Instruction}
 use Rattle.instruction.specs.declared.Instruction.the-variants.{BranchZero}
 use Rattle.instruction.specs.Meaning.{meaning}
 use Rattle.work.specs.Layout.{labels}
-use Rattle.work.specs.Machines.{machineOf, Fit}
+use Rattle.work.specs.Machines.{stateIn, machineOf, Fit}
 use Rattle.effect.specs.Registers.{RegistersBelow}
 use Rattle.stepping.specs.declared.Progress.{Progress}
 use Rattle.stops.specs.Stops.{roomFor}
 use Rattle.stepping.specs.Progress.{logOf}
-use Rattle.stepping.specs.Steps.{Counted, Made}
+use Rattle.stepping.specs.Steps.{Counted, Made, Live, Passed, stepWith}
 use Rattle.execution.specs.declared.Mode.{Mode}
 use Rattle.execution.specs.declared.Mode.the-variants as modes
 use Rattle.execution.specs.declared.Opening.{Opening}
@@ -83,10 +86,9 @@ pub record RollBackTried (w w′ area area′ : List ℕ) (c : Progress) (x : Ne
 
 -- What rules 2 and 3 ask, beside room for their observations.
 pub record CanStep (w area : List ℕ) (c : Progress) : Type 0 where
-  pub fits : Fit w (c .control)
+  pub live : Live w c
   pub counted : Counted c area
   pub place : c .control .place < 512
-  pub live : 0 < c .control .depth → 0 < c .control .window
 
 -- rule 2 for beqz r, l
 pub record OpeningTried (w w′ area area′ : List ℕ) (r l window : ℕ) (c : Progress) (x : Next) (c′ : Progress) : Type 0 where
@@ -100,7 +102,19 @@ pub record CodeOf (t : Trailer) (code : Code) : Type 0 where
   pub window : code .window ≡ t .window
   pub costs : code .costs ≡ windowCosts
 
--- rule 3 for the instruction i
+-- rule 3 for the instruction i, with the effect that a rule gives in the state of so many cells
+pub record EffectTried (w w′ area area′ : List ℕ) (cells : ℕ) (i : Instruction) (rule : Code → State → plain.Effect) (c : Progress) (x : Next) (c′ : Progress) : Type 0 where
+  pub tried : (p : List ℕ) (code : Code) → code .cells ≡ cells → code .costs ≡ windowCosts
+      → Tried (registers + cells)
+      (stepWith code (machineOf w (c .control) (registers + cells)) (meaning p i) (rule code (stateIn w (registers + cells)))) w w′ area area′ c x c′
+
+-- a jump or a branch to a place, which rests on s: made if its observation fits, and else nothing was done
+abbrev pub GoTried : ℕ → LocationSet → Instruction → List ℕ → List ℕ → Progress → Next → Progress → Type 0
+GoTried place s i area area′ c next.Go c′ =
+    (roomFor area c 1 ≡ true) × Passed place 1 s i c c′ × (area′ ≡ sets area (2 * c .observations) (2 ∷ place ∷ []))
+GoTried place s i area area′ c (next.Halt x) c′ = (roomFor area c 1 ≡ false) × (x ≡ TraceFull) × (area′ ≡ area) × (c′ ≡ c)
+
+-- rule 3 for the instruction i, with the rules' own effect
 pub record CarryingTried (p : List ℕ) (t : Trailer) (w w′ area area′ : List ℕ) (i : Instruction) (c : Progress) (x : Next) (c′ : Progress) : Type 0 where
   pub tried : (code : Code) → CodeOf t code
       → Tried (locations t) (ordinary code (machineOf w (c .control) (locations t)) (meaning p i)) w w′ area area′ c x c′

@@ -1,22 +1,23 @@
 // The plain run and the mispredicting run over the lent areas: one turn after another, until a stop.
-use effect::Observed;
 use instruction::Instruction;
 use location::Label;
 use location::LocationSet;
 use rules::Stop;
+use rules::Tagged;
 use rules::Trailer;
 use stepping::Progress;
 use work::machine::Control;
 ghost use mathlib.Core.Path.{_≡_};
-ghost use Prim.Native.Nat.{_<_, _≤_};
+ghost use Prim.Native.Nat.{_+_, _<_, _≤_};
 ghost use lib.ListN.{length};
-ghost use Rattle.location.specs.Sets.{registers};
+ghost use Rattle.location.specs.Sets.{registers, limit};
+ghost use Rattle.rules.specs.Rules.Plain.{loadEffect, storeEffect};
 ghost use Rattle.rules.specs.Rules.Calls.{workingWords};
 ghost use Rattle.work.specs.Machines.{Fit, maxWindow};
-ghost use Rattle.effect.specs.Effects.{observations};
 ghost use Rattle.stepping.specs.Steps.{Counted};
+ghost use Rattle.execution.specs.declared.Next.the-variants.{Go};
 ghost use Rattle.execution.specs.Starts.{beginning, whole};
-ghost use Rattle.execution.specs.Turns.{RollBackTried, CanStep, OpeningTried, CarryingTried, Advancing, Opens, Advanced, Ready, Loaded, Turned, RanTo};
+ghost use Rattle.execution.specs.Turns.{RollBackTried, CanStep, OpeningTried, EffectTried, GoTried, CarryingTried, Advancing, Opens, Advanced, Ready, Loaded, Turned, RanTo};
 
 // Which of the two runs.
 pub enum Mode {
@@ -79,19 +80,88 @@ fn try_open(
     }
 }
 
-// How many observations an instruction makes.
-fn shown(o: Observed) -> usize
-    ensures { λ r. ⌜ r ≡ length (observations o) ⌝ }
+// A load of register r from the address a, if its observation fits.
+fn try_load(
+    work: &mut [u64],
+    trace: &mut [u64],
+    c: Progress,
+    i: Instruction,
+    cells: usize,
+    r: u8,
+    a: Tagged,
+) -> Turn
+    requires { ⌜ CanStep (now work) (now trace) c × (r < registers) × (registers + cells ≤ limit) ⌝ }
+    ensures { λ x. ⌜ EffectTried (now (work .entry)) (now (work .exit)) (now (trace .entry)) (now (trace .exit)) cells i (λ code σ. loadEffect code σ (c .control .place) r a) c (x .next) (x .progress) ⌝ }
 {
-    match o {
-        Observed::Nothing => 0,
-        Observed::Place(_) => 1,
-        Observed::Load(_) => 1,
-        Observed::Store(_) => 1,
+    if stops::has_room(&trace[..], c, 1) {
+        let progress = stepping::load(&mut work[..], &mut trace[..], c, i, cells, r, a);
+        return Turn {
+            next: Next::Go,
+            progress,
+        };
+    }
+    Turn {
+        next: Next::Halt(Stop::TraceFull),
+        progress: c,
     }
 }
 
-// Rule 3, if its observation fits.
+// A store of register r at the address a, if its observation fits.
+fn try_store(
+    work: &mut [u64],
+    trace: &mut [u64],
+    c: Progress,
+    i: Instruction,
+    cells: usize,
+    r: u8,
+    a: Tagged,
+) -> Turn
+    requires { ⌜ CanStep (now work) (now trace) c × (r < registers) × (registers + cells ≤ limit) ⌝ }
+    ensures { λ x. ⌜ EffectTried (now (work .entry)) (now (work .exit)) (now (trace .entry)) (now (trace .exit)) cells i (λ code σ. storeEffect code σ (c .control .place) r a) c (x .next) (x .progress) ⌝ }
+{
+    if stops::has_room(&trace[..], c, 1) {
+        let progress = stepping::store(&mut work[..], &mut trace[..], c, i, cells, r, a);
+        return Turn {
+            next: Next::Go,
+            progress,
+        };
+    }
+    Turn {
+        next: Next::Halt(Stop::TraceFull),
+        progress: c,
+    }
+}
+
+// A jump or a branch to a place, which rests on v, if its observation fits.
+fn try_go_to(trace: &mut [u64], c: Progress, i: Instruction, place: usize, v: Tagged) -> Turn
+    requires { ⌜ Counted c (now trace) ⌝ }
+    ensures { λ x. ⌜ GoTried place (v .deps) i (now (trace .entry)) (now (trace .exit)) c (x .next) (x .progress) ⌝ }
+{
+    if stops::has_room(&trace[..], c, 1) {
+        let progress = stepping::go_to(&mut trace[..], c, i, place, v);
+        return Turn {
+            next: Next::Go,
+            progress,
+        };
+    }
+    Turn {
+        next: Next::Halt(Stop::TraceFull),
+        progress: c,
+    }
+}
+
+// A step was made.
+fn stepped(progress: Progress) -> Turn
+    ensures { λ r. ⌜ (r .next ≡ Go) × (r .progress ≡ progress) ⌝ }
+{
+    Turn {
+        next: Next::Go,
+        progress,
+    }
+}
+
+// Rule 3, if its observation fits. What the instruction reads first is evaluated here; each kind then goes its own way to the end of
+// the step, so that nothing is decided twice.
 fn try_carry_out(
     p: &[u8],
     t: Trailer,
@@ -103,19 +173,33 @@ fn try_carry_out(
     requires { ⌜ Advancing (now p) t (now work) (now trace) i c ⌝ }
     ensures { λ r. ⌜ CarryingTried (now (p .entry)) t (now (work .entry)) (now (work .exit)) (now (trace .entry)) (now (trace .exit)) i c (r .next) (r .progress) ⌝ }
 {
+    let a = effect::source_value(p, &work[..], i);
     let control = c.control;
-    let e = effect::effect_of(p, &work[..], t.count, t.cells, control.place, i);
-    let observed = e.observed;
-    if stops::has_room(&trace[..], c, shown(observed)) {
-        let progress = stepping::carry_out(&mut work[..], &mut trace[..], c, i, e);
-        return Turn {
-            next: Next::Go,
-            progress,
-        };
-    }
-    Turn {
-        next: Next::Halt(Stop::TraceFull),
-        progress: c,
+    let next = control.place + 1;
+    match i {
+        Instruction::Skip => stepped(stepping::skip(c, i)),
+        Instruction::Assign(r, _) => stepped(stepping::assign(&mut work[..], c, i, r, a)),
+        Instruction::Load(r, _) => try_load(&mut work[..], &mut trace[..], c, i, t.cells, r, a),
+        Instruction::Store(r, _) => try_store(&mut work[..], &mut trace[..], c, i, t.cells, r, a),
+        Instruction::Jump(_) => try_go_to(
+            &mut trace[..],
+            c,
+            i,
+            effect::jump_to(a.value, t.count),
+            a,
+        ),
+        Instruction::BranchZero(_, l) => try_go_to(
+            &mut trace[..],
+            c,
+            i,
+            effect::branch_to(a, l, next),
+            a,
+        ),
+        Instruction::AssignIf(r, _, e) => {
+            let v = effect::chosen(p, &work[..], r, a, e);
+            stepped(stepping::assign(&mut work[..], c, i, r, v))
+        }
+        Instruction::Barrier => stepped(stepping::skip(c, i)),
     }
 }
 

@@ -21,8 +21,6 @@ use Rattle.work.specs.declared.BranchEntry.{BranchEntry}
 use Rattle.work.specs.declared.machine.Control.{Control}
 use Rattle.work.specs.Machines.{branchesOf}
 use Rattle.work.specs.Moves.{lowerTo, windowOn}
-use Rattle.effect.specs.declared.Observed.{Observed}
-use Rattle.effect.specs.Effects.{observations}
 use Rattle.stepping.specs.Progress.{gatherAt}
 use Rattle.stepping.specs.Steps.{Leaves}
 
@@ -47,17 +45,6 @@ pub stored-twice : (t t₁ t₂ : List ℕ) (k a b x y : ℕ) → t₁ ≡ sets 
 stored-twice t t₁ t₂ k a b x y e₁ e₂ =
     let s : 2 * (k + 1) ≡ suc (suc (2 * k)) = omega arith in
     e₂ ∙ (λ i. sets (e₁ i) (s i) (x ∷ y ∷ []))
-
--- one or none, as an instruction shows it
-pub shows-none : (t : List ℕ) (k : ℕ) (o : Observed) → observations o ≡ []
-    → (0 ≡ length (observations o)) × (t ≡ sets t (2 * k) (traceWords (observations o)))
-unfolding traceWords
-shows-none t k o e = rw e (refl, refl)
-
-pub shows-one : (t t′ : List ℕ) (k a b : ℕ) (o : Observed) (x : Observation) → observations o ≡ x ∷ [] → a ∷ b ∷ [] ≡ observationWords x
-    → t′ ≡ sets t (2 * k) (a ∷ b ∷ []) → (1 ≡ length (observations o)) × (t′ ≡ sets t (2 * k) (traceWords (observations o)))
-unfolding traceWords
-shows-one t t′ k a b o x e ex et = rw e (refl, et ∙ ap (sets t (2 * k)) (ex ∙ sym (append-nil (observationWords x))))
 
 -- ---- the window
 -- what is left of the top's, where it was v

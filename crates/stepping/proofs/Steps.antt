@@ -1,8 +1,8 @@
 -- Each rule of a step, from its parts: the machine's move, the words stored in the trace area, and the counts.
 -- Assumes nothing.
-use mathlib.Core.Path.{_≡_, sym, ap, _∙_, subst}
-use mathlib.Core.Bool.{Bool, cond}
-use mathlib.Core.List.{List, [], _∷_, _++_}
+use mathlib.Core.Path.{_≡_, refl, sym, ap, _∙_, subst}
+use mathlib.Core.List.{List, [], _∷_, _++_, append-nil}
+use mathlib.Core.Logic.{_≢_}
 use Prim.Native.Nat.{ℕ, suc, _+_, _*_, _<_, _≤_}
 use native.Mathlib.Numerals.{add-one}
 use native.Mathlib.Omega.{arith}
@@ -10,13 +10,14 @@ use lib.ListN.{length, drop}
 use lib.Seq.{sets}
 use Rattle.location.specs.declared.LocationSet.{LocationSet}
 use Rattle.location.specs.declared.Label.{Label}
-use Rattle.location.specs.Sets.{registers, empty, union}
+use Rattle.location.specs.Sets.{registers, limit, empty, union}
 use Rattle.rules.specs.declared.Tagged.{Tagged}
-use Rattle.rules.specs.Rules.Calls.{traceWords}
-use Rattle.rules.specs.Rules.Instructions.{Observation, windowCosts}
-use Rattle.rules.specs.Rules.Plain.{at, put, Code, branchTo}
+use Rattle.rules.specs.Rules.Calls.{observationWords, traceWords}
+use Rattle.rules.specs.Rules.Instructions.{Instr, beqz, Observation, pc, windowCosts}
+use Rattle.rules.specs.Rules.Plain.{State, at, put, Code, branchTo, silent, goEffect}
 use Rattle.rules.specs.Rules.Plain as plain
-use Rattle.rules.specs.Rules.Mispredicting.{Branch, Machine, Step, lower, newWindow, rolling, opening, ordinary}
+use Rattle.rules.specs.Rules.Mispredicting.{Branch, Machine, Step, remaining, lower, newWindow, rolling, opening}
+use Rattle.rules.specs.Theorems.Undo.{remaining-less, windowCosts-positive}
 use Rattle.rules.specs.Rules.Runs.{note}
 use Rattle.instruction.specs.declared.Instruction.{Instruction}
 use Rattle.instruction.specs.declared.Instruction.the-variants.{BranchZero}
@@ -26,13 +27,12 @@ use Rattle.work.specs.declared.machine.RolledBack.{RolledBack}
 use Rattle.work.specs.Layout.{labels}
 use Rattle.work.specs.Words.{taggedAt, entryAt, changeAt}
 use Rattle.work.specs.Machines.{stateIn, machineOf, Fit}
-use Rattle.work.specs.Moves.{lowerTo, windowOn, ordinaryNext, openingNext, Moves, RollsBack}
-use Rattle.effect.specs.declared.Effect.{Effect}
-use Rattle.effect.specs.Effects.{observations, stateAfter, effectMeaning}
+use Rattle.work.specs.Moves.{lowerTo, windowOn, ordinaryNext, gone, openingNext, Moves, RollsBack}
 use Rattle.work.proofs.States.{state-at}
+use Rattle.work.proofs.Moves.{go-law}
 use Rattle.stepping.specs.declared.Progress.{Progress}
 use Rattle.stepping.specs.Progress.{logOf, progressAfter}
-use Rattle.stepping.specs.Steps.{Made, Leaves, RolledBackTo, OpenedTo, CarriedOutTo}
+use Rattle.stepping.specs.Steps.{Made, Leaves, RolledBackTo, OpenedTo, stepWith, CarriedOut, Passed, MovesAt, Live}
 use Rattle.stepping.proofs.Laws.{gathered, top-lowered, window-lowered}
 
 -- ---- any step
@@ -86,20 +86,18 @@ rolled-back {w} {w′} {t} {t′} {c} {c′} {r} {seen} m et es ec =
     }
 
 -- ---- what an instruction leaves of the top's window, in the machine
-module _ (w : List ℕ) (c : Control) (n v : ℕ) (i : Instruction) (left : Leaves c i v) (p : List ℕ) (code : Code)
-    (costs : code .costs ≡ windowCosts) where
+module _ (w : List ℕ) (c : Control) (n v : ℕ) (i : Instr) (code : Code) (left : v ≡ remaining code i (c .window)) where
   abbrev open-branches : List Branch
   open-branches = machineOf w c n .branches
 
-  branches-left : lowerTo v open-branches ≡ lower code (meaning p i) open-branches
+  branches-left : lowerTo v open-branches ≡ lower code i open-branches
   branches-left =
-      ap (λ (u : ℕ). lowerTo u open-branches) (left .exact p code costs)
-      ∙ top-lowered code (meaning p i) (entryAt w) (changeAt w) (stateIn w n) (c .window) (c .log) (c .depth)
+      ap (λ (u : ℕ). lowerTo u open-branches) left ∙ top-lowered code i (entryAt w) (changeAt w) (stateIn w n) (c .window) (c .log) (c .depth)
 
-  new-left : windowOn open-branches (code .window) v ≡ newWindow code (lower code (meaning p i) open-branches)
+  new-left : windowOn open-branches (code .window) v ≡ newWindow code (lower code i open-branches)
   new-left =
-      ap (windowOn open-branches (code .window)) (left .exact p code costs)
-      ∙ window-lowered code (meaning p i) (entryAt w) (changeAt w) (stateIn w n) (c .window) (c .log) (c .depth)
+      ap (windowOn open-branches (code .window)) left
+      ∙ window-lowered code i (entryAt w) (changeAt w) (stateIn w n) (c .window) (c .log) (c .depth)
 
 -- ---- rule 2
 pub opened : {w w′ t t′ : List ℕ} {c c′ : Progress} {r window wrong target v : ℕ} {l : Label} {x : Tagged} {control : Control} → r < registers
@@ -117,8 +115,8 @@ opened {w} {w′} {t} {t′} {c} {c′} {r} {window} {wrong} {target} {v} {l} {x
           let N = add-one (c .control .place) in
           let G = eg ∙ (λ i. branchTo (A i) (l .0) (N i)) in
           let W = ew ∙ (λ i. branchTo (A i) (N i) (l .0)) in
-          let B = branches-left w (c .control) n v (BranchZero r l) left [] code hc in
-          let U = ap (λ (u : ℕ). windowOn (M .branches) u v) (sym hw) ∙ new-left w (c .control) n v (BranchZero r l) left [] code hc in
+          let B = branches-left w (c .control) n v (beqz r (l .0)) code (left .exact [] code hc) in
+          let U = ap (λ (u : ℕ). windowOn (M .branches) u v) (sym hw) ∙ new-left w (c .control) n v (beqz r (l .0)) code (left .exact [] code hc) in
           made-of w w′ t t′ c c′ n (opening code M r (l .0)) control (ec ∙ ap (λ (y : Tagged). progressAfter c control 2 0 (y .deps)) A)
           (m .machine n hn
           ∙ (λ i. record {
@@ -130,38 +128,96 @@ opened {w} {w′} {t} {t′} {c} {c′} {r} {window} {wrong} {target} {v} {l} {x
           (m .fits) (m .frame) (et ∙ (λ i. sets t (2 * c .observations) (0 ∷ c .control .opened ∷ 2 ∷ W i ∷ []))) (omega arith) (omega arith);
     }
 
--- ---- rule 3
--- the machine after an effect, where b says whether a location takes a word
-abbrev nextBy : Effect → ℕ → Bool → Machine → Machine
-nextBy e v b M = ordinaryNext M (cond b (put (M .state) (e .location .0) (e .value)) (M .state)) (e .place) v
+-- ---- rule 3: from the machine's move to state σ and place q, with v left of the top's window
+module _ {n : ℕ} {w w′ t t′ : List ℕ} {c c′ : Progress} (i : Instruction) {v q : ℕ} {control : Control} {σ : State}
+    (m : machineOf w′ control n ≡ ordinaryNext (machineOf w (c .control) n) σ q v) (fits : Fit w′ control) (frame : drop labels w′ ≡ drop labels w)
+    (p : List ℕ) (code : Code) (left : v ≡ remaining code (meaning p i) (c .control .window)) where
+  -- the effect x is that state, that place, and what was counted and written
+  carried : (x : plain.Effect) → σ ≡ x .state → q ≡ x .place → t′ ≡ sets t (2 * c .observations) (traceWords (x .obs))
+      → c′ ≡ progressAfter c control (length (x .obs)) 0 (x .seen) → Made n (stepWith code (machineOf w (c .control) n) (meaning p i) x) w w′ t t′ c c′
+  carried x es eq et ec =
+      let M = machineOf w (c .control) n in
+      let B = branches-left w (c .control) n v (meaning p i) code left in
+      made-of w w′ t t′ c c′ n (stepWith code M (meaning p i) x) control ec
+      (m ∙ (λ j. record { state = es j; place = eq j; branches = B j; opened = M .opened })) fits frame et (omega arith) (omega arith)
 
-pub moved-by : {w w′ : List ℕ} {c c′ : Control} (e : Effect) (v : ℕ) {b : Bool} → e .writes ≡ b → Moves w w′ c c′ (nextBy e v b)
-    → Moves w w′ c c′ (nextBy e v (e .writes))
-moved-by {w} {w′} {c} {c′} e v h m = subst (λ (b : Bool). Moves w w′ c c′ (nextBy e v b)) (sym h) m
+  -- nothing is shown
+  pub carried-silently : {s : LocationSet} → q ≡ c .control .place + 1 → t′ ≡ t → s ≡ empty → c′ ≡ progressAfter c control 0 0 s
+      → Made n (stepWith code (machineOf w (c .control) n) (meaning p i) (silent σ (c .control .place))) w w′ t t′ c c′
+  unfolding traceWords
+  carried-silently eq et es ec =
+      carried (silent σ (c .control .place)) refl (eq ∙ add-one (c .control .place)) et (ec ∙ ap (progressAfter c control 0 0) es)
 
--- the step of an instruction with the effect x
-abbrev stepOf : Machine → List Branch → plain.Effect → Step
-stepOf M bs x = record {
-  next = record { state = x .state; place = x .place; branches = bs; opened = M .opened };
-  obs = x .obs;
-  seen = x .seen;
-  back = 0;
+  -- one observation is shown, of the kind a with the value b
+  pub carried-shown : {a b : ℕ} (o : Observation) {s : LocationSet} (τ : State) (r : ℕ) → σ ≡ τ → q ≡ r → a ∷ b ∷ [] ≡ observationWords o
+      → t′ ≡ sets t (2 * c .observations) (a ∷ b ∷ []) → c′ ≡ progressAfter c control 1 0 s
+      → Made n (stepWith code (machineOf w (c .control) n) (meaning p i) (record { state = τ; place = r; obs = o ∷ []; seen = s })) w w′ t t′ c c′
+  unfolding traceWords
+  carried-shown o {s} τ r es eq eo et ec =
+      carried (record { state = τ; place = r; obs = o ∷ []; seen = s }) es eq
+      (et ∙ ap (sets t (2 * c .observations)) (eo ∙ sym (append-nil (observationWords o)))) ec
+
+-- ---- rule 3 for an instruction that gives location l the word x
+module _ {w w′ t t′ : List ℕ} {c c′ : Progress} {i : Instruction} {v : ℕ} {control : Control} (l : ℕ) (x : Tagged) (leaves : Leaves (c .control) i v)
+    (m : Moves w w′ (c .control) control (λ M. ordinaryNext M (put (M .state) l x) (c .control .place + 1) v)) (n : ℕ) (most : n ≤ limit)
+    (p : List ℕ) (code : Code) (costs : code .costs ≡ windowCosts) where
+  pub assigned : (r : ℕ) {s : LocationSet} → l ≡ r → t′ ≡ t → s ≡ empty → c′ ≡ progressAfter c control 0 0 s
+      → Made n (stepWith code (machineOf w (c .control) n) (meaning p i) (silent (put (stateIn w n) r x) (c .control .place))) w w′ t t′ c c′
+  assigned r el et es ec =
+      let m′ = m .machine n most ∙ (λ j. ordinaryNext (machineOf w (c .control) n) (put (stateIn w n) (el j) x) (c .control .place + 1) v) in
+      carried-silently i m′ (m .fits) (m .frame) p code (leaves .exact p code costs) refl et es ec
+
+  -- and shows an observation
+  pub assigned-shown : {a b : ℕ} (o : Observation) {s : LocationSet} (r : ℕ) (y : Tagged) → l ≡ r → x ≡ y → a ∷ b ∷ [] ≡ observationWords o
+      → t′ ≡ sets t (2 * c .observations) (a ∷ b ∷ []) → c′ ≡ progressAfter c control 1 0 s
+      → Made n (stepWith code (machineOf w (c .control) n) (meaning p i)
+      (record { state = put (stateIn w n) r y; place = suc (c .control .place); obs = o ∷ []; seen = s })) w w′ t t′ c c′
+  assigned-shown o r y el ex eo et ec =
+      carried-shown i (m .machine n most) (m .fits) (m .frame) p code (leaves .exact p code costs) o (put (stateIn w n) r y) (suc (c .control .place))
+      (λ j. put (stateIn w n) (el j) (ex j)) (add-one (c .control .place)) eo et ec
+
+-- ---- rule 3 for an instruction that changes no location
+-- from what the callees give
+pub passed : {c c′ : Progress} {i : Instruction} {q k v : ℕ} {control : Control} {s s′ : LocationSet} → Leaves (c .control) i v
+    → control ≡ gone (c .control) q v → s′ ≡ s → c′ ≡ progressAfter c control k 0 s′ → Passed q k s i c c′
+passed {c} {c′} {i} {q} {k} left eg es ec = record {
+  exact = λ p code costs.
+      let L = left .exact p code costs in
+      ec ∙ (λ j. progressAfter c ((eg ∙ (λ u. gone (c .control) q (L u))) j) k 0 (es j));
 }
 
-pub carried-out : {w w′ t t′ : List ℕ} {c c′ : Progress} {i : Instruction} {e : Effect} {v k : ℕ} {control : Control}
-    → Moves w w′ (c .control) control (λ M. ordinaryNext M (stateAfter (M .state) e) (e .place) v) → Leaves (c .control) i v
-    → k ≡ length (observations (e .observed)) → t′ ≡ sets t (2 * c .observations) (traceWords (observations (e .observed)))
-    → c′ ≡ progressAfter c control k 0 (e .seen) → (p : List ℕ) → CarriedOutTo p w w′ t t′ i e c c′
-unfolding ordinary
-carried-out {w} {w′} {t} {t′} {c} {c′} {i} {e} {v} {k} {control} m left ek et ec p =
-    record {
-      made = λ n code hn hc x.
-          let M = machineOf w (c .control) n in
-          let B = branches-left w (c .control) n v i left p code hc in
-          let bs = lower code (meaning p i) (M .branches) in
-          subst (λ (y : plain.Effect). Made n (stepOf M bs y) w w′ t t′ c c′) x
-          (made-of w w′ t t′ c c′ n (stepOf M bs (effectMeaning (stateIn w n) e)) control
-          (ec ∙ ap (λ (j : ℕ). progressAfter c control j 0 (e .seen)) ek)
-          (m .machine n hn ∙ (λ j. record { state = stateAfter (M .state) e; place = e .place; branches = B j; opened = M .opened }))
-          (m .fits) (m .frame) et (omega arith) (omega arith));
-    }
+lower-window : {w : List ℕ} {c : Progress} (i : Instr) → Live w c → (code : Code) → code .costs ≡ windowCosts → 0 < c .control .depth
+    → remaining code i (c .control .window) ≤ c .control .window
+lower-window {c = c} i live code costs d =
+    let h = live .window d in
+    let ne : c .control .window ≢ 0 = λ z. omega arith in
+    omega (arith, remaining-less code (rw costs windowCosts-positive) i (c .control .window) ne)
+
+module _ {w t : List ℕ} {c c′ : Progress} {i : Instruction} {cells : ℕ} (live : Live w c) (most : registers + cells ≤ limit) where
+  pub passed-silently : Passed (c .control .place + 1) 0 empty i c c′ → CarriedOut w w t t cells i (λ code σ. silent σ (c .control .place)) c c′
+  passed-silently h = record {
+    made = λ p code ec costs.
+        let v = remaining code (meaning p i) (c .control .window) in
+        let m = go-law w (c .control) (c .control .place + 1) v (live .fits) (lower-window (meaning p i) live code costs) in
+        carried-silently i (m .machine (registers + cells) most) (m .fits) (m .frame) p code refl refl refl refl (h .exact p code costs);
+  }
+
+  pub passed-shown : {t′ : List ℕ} (q : ℕ) (x : Tagged) → Passed q 1 (x .deps) i c c′ → t′ ≡ sets t (2 * c .observations) (2 ∷ q ∷ [])
+      → CarriedOut w w t t′ cells i (λ code σ. goEffect σ q x) c c′
+  passed-shown q x h et = record {
+    made = λ p code ec costs.
+        let n = registers + cells in
+        let v = remaining code (meaning p i) (c .control .window) in
+        let m = go-law w (c .control) q v (live .fits) (lower-window (meaning p i) live code costs) in
+        carried-shown i (m .machine n most) (m .fits) (m .frame) p code refl (pc q) (stateIn w n) q refl refl refl et (h .exact p code costs);
+  }
+
+-- ---- a move at n locations, to the state τ, which is that of the move
+pub moves-at : (n : ℕ) {w w′ : List ℕ} {c c′ : Control} {q v : ℕ} (σ τ : State → State) → n ≤ limit
+    → Moves w w′ c c′ (λ M. ordinaryNext M (σ (M .state)) q v) → σ (stateIn w n) ≡ τ (stateIn w n)
+    → MovesAt n w w′ c c′ (λ M. ordinaryNext M (τ (M .state)) q v)
+moves-at n {w} {w′} {c} {c′} {q} {v} σ τ h m e = record {
+  machine = m .machine n h ∙ ap (λ (ρ : State). ordinaryNext (machineOf w c n) ρ q v) e;
+  fits = m .fits;
+  frame = m .frame;
+}

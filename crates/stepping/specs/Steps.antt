@@ -5,21 +5,22 @@ use mathlib.Core.List.{List, _∷_, _++_}
 use Prim.Native.Nat.{ℕ, _+_, _*_, _<_, _≤_}
 use lib.ListN.{length, drop}
 use lib.Seq.{sets}
+use Rattle.location.specs.declared.LocationSet.{LocationSet}
 use Rattle.location.specs.Sets.{registers, limit}
-use Rattle.rules.specs.Rules.Instructions.{Observation, windowCosts}
-use Rattle.rules.specs.Rules.Plain.{Code, exec}
-use Rattle.rules.specs.Rules.Mispredicting.{Branch, Step, remaining, rolling, opening, ordinary}
+use Rattle.rules.specs.Rules.Instructions.{Observation, Instr, windowCosts}
+use Rattle.rules.specs.Rules.Plain.{State, Code}
+use Rattle.rules.specs.Rules.Plain as plain
+use Rattle.rules.specs.Rules.Mispredicting.{Branch, Machine, Step, remaining, lower, rolling, opening}
 use Rattle.rules.specs.Rules.Runs.{note}
 use Rattle.rules.specs.Rules.Calls.{traceWords}
 use Rattle.work.specs.declared.machine.Control.{Control}
 use Rattle.work.specs.Layout.{labels}
 use Rattle.work.specs.Machines.{stateIn, machineOf, Fit}
+use Rattle.work.specs.Moves.{gone}
 use Rattle.instruction.specs.declared.Instruction.{Instruction}
 use Rattle.instruction.specs.Meaning.{meaning}
-use Rattle.effect.specs.declared.Effect.{Effect}
-use Rattle.effect.specs.Effects.{effectMeaning}
 use Rattle.stepping.specs.declared.Progress.{Progress}
-use Rattle.stepping.specs.Progress.{logOf}
+use Rattle.stepping.specs.Progress.{logOf, progressAfter}
 
 -- The counts stay far below 2 ^ 64: no more branches were opened, and no more rollbacks made, than steps; and the trace area has
 -- the observations made.
@@ -51,29 +52,42 @@ pub record OpenedTo (w w′ t t′ : List ℕ) (r l window : ℕ) (c c′ : Prog
   pub made : (n : ℕ) (code : Code) → registers ≤ n → n ≤ limit → code .window ≡ window → code .costs ≡ windowCosts
       → Made n (opening code (machineOf w (c .control) n) r l) w w′ t t′ c c′
 
--- rule 3 for an instruction of the bytes p, with the effect e
-pub record CarriedOutTo (p w w′ t t′ : List ℕ) (i : Instruction) (e : Effect) (c c′ : Progress) : Type 0 where
-  pub made : (n : ℕ) (code : Code) → n ≤ limit → code .costs ≡ windowCosts
-      → effectMeaning (stateIn w n) e ≡ exec code (stateIn w n) (c .control .place) (meaning p i)
-      → Made n (ordinary code (machineOf w (c .control) n) (meaning p i)) w w′ t t′ c c′
+-- rule 3 for an instruction with the effect x
+abbrev pub stepWith : Code → Machine → Instr → plain.Effect → Step
+stepWith code M i x = record {
+  next = record { state = x .state; place = x .place; branches = lower code i (M .branches); opened = M .opened };
+  obs = x .obs;
+  seen = x .seen;
+  back = 0;
+}
 
--- What rule 3 asks of its effect: it is what instruction i does in the state of some n locations, for some program. Then the result
--- is that of rule 3 for every such program (CarriedOutTo).
-pub record Effective (w : List ℕ) (c : Progress) (i : Instruction) (e : Effect) : Type 0 where
-  pub bytes : List ℕ
-  pub locations : ℕ
-  pub code : Code
-  pub most : locations ≤ limit
-  pub costs : code .costs ≡ windowCosts
-  pub same : effectMeaning (stateIn w locations) e ≡ exec code (stateIn w locations) (c .control .place) (meaning bytes i)
+-- Rule 3 for instruction i, with the effect that a rule gives in the state of so many cells.
+pub record CarriedOut (w w′ t t′ : List ℕ) (cells : ℕ) (i : Instruction) (rule : Code → State → plain.Effect) (c c′ : Progress) : Type 0 where
+  pub made : (p : List ℕ) (code : Code) → code .cells ≡ cells → code .costs ≡ windowCosts
+      → Made (registers + cells)
+      (stepWith code (machineOf w (c .control) (registers + cells)) (meaning p i) (rule code (stateIn w (registers + cells)))) w w′ t t′ c c′
 
--- What rules 2 and 3 ask in common: the words fit, the counts are small, the trace area has room for so many observations
--- more, and an open branch has some window left.
-pub record Steppable (w t : List ℕ) (observations : ℕ) (c : Progress) : Type 0 where
+-- The progress after an instruction that changes no location and goes to a place, with so many observations, which rest on s.
+pub record Passed (place observations : ℕ) (s : LocationSet) (i : Instruction) (c c′ : Progress) : Type 0 where
+  pub exact : (p : List ℕ) (code : Code) → code .costs ≡ windowCosts
+      → c′ ≡ progressAfter c (gone (c .control) place (remaining code (meaning p i) (c .control .window))) observations 0 s
+
+-- The words of one machine with n locations become those of the next.
+pub record MovesAt (n : ℕ) (w w′ : List ℕ) (c c′ : Control) (next : Machine → Machine) : Type 0 where
+  pub machine : machineOf w′ c′ n ≡ next (machineOf w c n)
+  pub fits : Fit w′ c′
+  pub frame : drop labels w′ ≡ drop labels w
+
+-- The words fit, and an open branch has some window left.
+pub record Live (w : List ℕ) (c : Progress) : Type 0 where
   pub fits : Fit w (c .control)
+  pub window : 0 < c .control .depth → 0 < c .control .window
+
+-- What rules 2 and 3 ask in common: that, small counts, and room in the trace area for so many observations more.
+pub record Steppable (w t : List ℕ) (observations : ℕ) (c : Progress) : Type 0 where
+  pub live : Live w c
   pub counted : Counted c t
   pub more : 2 * (c .observations + observations) ≤ length t
-  pub live : 0 < c .control .depth → 0 < c .control .window
 
 -- What instruction i leaves of the top's window: less than there was, if there was any.
 pub record Leaves (c : Control) (i : Instruction) (v : ℕ) : Type 0 where

@@ -1,11 +1,11 @@
 // The three rules of a step, carried out over the lent areas: the machine in the working words, the observations in the trace
 // area, and the progress by value.
-use effect::Effect;
-use effect::Observed;
 use instruction::Instruction;
+use location::Address;
 use location::Label;
 use location::Location;
 use location::LocationSet;
+use rules::Tagged;
 use rules::observation::LOAD;
 use rules::observation::PC;
 use rules::observation::ROLLBACK;
@@ -17,13 +17,12 @@ ghost use mathlib.Core.List.{List, [], _∷_};
 ghost use Prim.Native.Nat.{ℕ, _+_, _*_, _^_, _<_, _≤_};
 ghost use lib.ListN.{length};
 ghost use lib.Seq.{sets};
-ghost use Rattle.location.specs.Sets.{registers, limit};
-ghost use Rattle.rules.specs.Rules.Calls.{traceWords};
+ghost use Rattle.location.specs.Sets.{registers, limit, empty};
+ghost use Rattle.rules.specs.Rules.Plain.{Code, at, put, storedTo, silent, loadEffect, storeEffect};
 ghost use Rattle.work.specs.Machines.{maxWindow, Fit};
-ghost use Rattle.work.specs.Moves.{Moves, ordinaryNext};
-ghost use Rattle.effect.specs.Effects.{observations, stateAfter};
+ghost use Rattle.work.specs.Moves.{ordinaryNext};
 ghost use Rattle.stepping.specs.Progress.{gatherAt, progressAfter};
-ghost use Rattle.stepping.specs.Steps.{Counted, Steppable, Leaves, RolledBackTo, OpenedTo, CarriedOutTo, Effective};
+ghost use Rattle.stepping.specs.Steps.{Counted, Live, Steppable, Leaves, MovesAt, RolledBackTo, OpenedTo, CarriedOut, Passed};
 
 // Where a run stands: the machine's control, the counts, the full set and the plain set.
 pub struct Progress {
@@ -131,57 +130,108 @@ pub fn open_branch(
     count_step(c, opened, 2, 0, seen)
 }
 
-// What one instruction shows, as observation number k if it shows anything; how many observations that is.
-fn observe_effect(trace: &mut [u64], k: usize, o: Observed) -> usize
-    requires { ⌜ 2 * (k + length (observations o)) ≤ length (now trace) ⌝ }
-    ensures { λ r. ⌜ (r ≡ length (observations o)) × (now (trace .exit) ≡ sets (now (trace .entry)) (2 * k) (traceWords (observations o))) ⌝ }
+// Rule 3 for an instruction that changes no location and shows nothing.
+pub fn skip(c: Progress, i: Instruction) -> Progress
+    requires { ⌜ (c .control .place + 1 < 2 ^ 64) × (c .steps + 1 < 2 ^ 64) ⌝ }
+    ensures { λ x. ⌜ Passed (c .control .place + 1) 0 empty i c x ⌝ }
 {
-    match o {
-        Observed::Nothing => 0,
-        Observed::Place(p) => {
-            observe(&mut trace[..], k, PC, p as u64);
-            1
-        }
-        Observed::Load(a) => {
-            observe(&mut trace[..], k, LOAD, a.value());
-            1
-        }
-        Observed::Store(a) => {
-            observe(&mut trace[..], k, STORE, a.value());
-            1
-        }
-    }
+    let control = c.control;
+    let remaining = remaining_window(control, i);
+    let next = work::machine::go(control, control.place + 1, remaining);
+    count_step(c, next, 0, 0, LocationSet::empty())
 }
 
-// The machine goes on as an effect says, with so much left of the top's window.
-fn apply_effect(work: &mut [u64], c: Control, e: Effect, remaining: usize) -> Control
-    requires { ⌜ Fit (now work) c × (e .location .0 < limit) × (0 < c .depth → remaining < c .window) ⌝ }
-    ensures { λ r. ⌜ Moves (now (work .entry)) (now (work .exit)) c r (λ M. ordinaryNext M (stateAfter (M .state) e) (e .place) remaining) ⌝ }
+// Rule 3 for an instruction that gives register r the word v and shows nothing.
+pub fn assign(work: &mut [u64], c: Progress, i: Instruction, r: u8, v: Tagged) -> Progress
+    requires { ⌜ Live (now work) c × (c .control .place + 1 < 2 ^ 64) × (c .steps + 1 < 2 ^ 64) × (r < registers) ⌝ }
+    ensures { λ x. ⌜ ((t : List ℕ) (cells : ℕ) → registers + cells ≤ limit → CarriedOut (now (work .entry)) (now (work .exit)) t t cells i (λ code σ. silent (put σ r v) (c .control .place)) c x) ⌝ }
 {
-    if e.writes {
-        let l = e.location;
-        let v = e.value;
-        return work::machine::assign(&mut work[..], c, l, v, e.place, remaining);
-    }
-    work::machine::go(c, e.place, remaining)
+    let control = c.control;
+    let remaining = remaining_window(control, i);
+    let l = Location::register(r);
+    let place = control.place + 1;
+    let next = work::machine::assign(&mut work[..], control, l, v, place, remaining);
+    count_step(c, next, 0, 0, LocationSet::empty())
 }
 
-// Rule 3 for an instruction with its effect, and its observation if there is one.
-pub fn carry_out(
+// Rule 3 for a load of register r from the address a.
+pub fn load(
     work: &mut [u64],
     trace: &mut [u64],
     c: Progress,
     i: Instruction,
-    e: Effect,
+    cells: usize,
+    r: u8,
+    a: Tagged,
 ) -> Progress
-    requires { ⌜ Steppable (now work) (now trace) (length (observations (e .observed))) c × (e .location .0 < limit) × Effective (now work) c i e ⌝ }
-    ensures { λ r. ⌜ ((p : List ℕ) → CarriedOutTo p (now (work .entry)) (now (work .exit)) (now (trace .entry)) (now (trace .exit)) i e c r) ⌝ }
+    requires { ⌜ Steppable (now work) (now trace) 1 c × (c .control .place + 1 < 2 ^ 64) × (r < registers) × (registers + cells ≤ limit) ⌝ }
+    ensures { λ x. ⌜ CarriedOut (now (work .entry)) (now (work .exit)) (now (trace .entry)) (now (trace .exit)) cells i (λ code σ. loadEffect code σ (c .control .place) r a) c x ⌝ }
 {
     let control = c.control;
-    let observed = e.observed;
-    let seen = e.seen;
     let remaining = remaining_window(control, i);
-    let next = apply_effect(&mut work[..], control, e, remaining);
-    let shown = observe_effect(&mut trace[..], c.observations, observed);
-    count_step(c, next, shown, 0, seen)
+    let v = effect::loaded_from(&work[..], cells, a);
+    let to = Location::register(r);
+    let place = control.place + 1;
+    let next = work::machine::assign(&mut work[..], control, to, v, place, remaining);
+    observe(&mut trace[..], c.observations, LOAD, a.value);
+    let seen = a.deps;
+    count_step(c, next, 1, 0, seen)
+}
+
+// The move of a store of register r at the address a, with so much left of the top's window: the cell takes the register, if there is
+// such a cell.
+fn store_word(
+    work: &mut [u64],
+    c: Control,
+    cells: usize,
+    r: u8,
+    a: Tagged,
+    remaining: usize,
+) -> Control
+    requires { ⌜ Fit (now work) c × (0 < c .depth → remaining < c .window) × (c .place + 1 < 2 ^ 64) × (r < registers) × (registers + cells ≤ limit) ⌝ }
+    ensures { λ x. ⌜ ((code : Code) → code .cells ≡ cells → MovesAt (registers + cells) (now (work .entry)) (now (work .exit)) c x (λ M. ordinaryNext M (storedTo code (M .state) a (at (M .state) r)) (c .place + 1) remaining)) ⌝ }
+{
+    let place = c.place + 1;
+    let value = a.value;
+    if cells as u64 <= value {
+        return work::machine::go(c, place, remaining);
+    }
+    let deps = a.deps;
+    let l = Location::cell(Address::new(value));
+    let v = effect::joined(work::load(&work[..], Location::register(r)), deps);
+    work::machine::assign(&mut work[..], c, l, v, place, remaining)
+}
+
+// Rule 3 for a store of register r at the address a.
+pub fn store(
+    work: &mut [u64],
+    trace: &mut [u64],
+    c: Progress,
+    i: Instruction,
+    cells: usize,
+    r: u8,
+    a: Tagged,
+) -> Progress
+    requires { ⌜ Steppable (now work) (now trace) 1 c × (c .control .place + 1 < 2 ^ 64) × (r < registers) × (registers + cells ≤ limit) ⌝ }
+    ensures { λ x. ⌜ CarriedOut (now (work .entry)) (now (work .exit)) (now (trace .entry)) (now (trace .exit)) cells i (λ code σ. storeEffect code σ (c .control .place) r a) c x ⌝ }
+{
+    let control = c.control;
+    let remaining = remaining_window(control, i);
+    let next = store_word(&mut work[..], control, cells, r, a, remaining);
+    observe(&mut trace[..], c.observations, STORE, a.value);
+    let seen = a.deps;
+    count_step(c, next, 1, 0, seen)
+}
+
+// Rule 3 for a jump or a branch to a place, which rests on v.
+pub fn go_to(trace: &mut [u64], c: Progress, i: Instruction, place: usize, v: Tagged) -> Progress
+    requires { ⌜ (2 * (c .observations + 1) ≤ length (now trace)) × (c .steps + 1 < 2 ^ 64) ⌝ }
+    ensures { λ x. ⌜ Passed place 1 (v .deps) i c x × (now (trace .exit) ≡ sets (now (trace .entry)) (2 * c .observations) (2 ∷ place ∷ [])) ⌝ }
+{
+    let control = c.control;
+    let remaining = remaining_window(control, i);
+    let next = work::machine::go(control, place, remaining);
+    observe(&mut trace[..], c.observations, PC, place as u64);
+    let seen = v.deps;
+    count_step(c, next, 1, 0, seen)
 }

@@ -19,7 +19,7 @@ use Rattle.work.specs.declared.machine.RolledBack.{RolledBack}
 use Rattle.work.specs.Layout.{operandBase, changeBase, branchBase, labels, logBase, firstBranch}
 use Rattle.work.specs.Words.{taggedAt, stored, changeAt, changed, undone, entryAt, entryStored, windowAfter, taggedWords}
 use Rattle.work.specs.Machines.{stateIn, savedAt, branchesOf, machineOf, maxWindow, WindowBound, Fit}
-use Rattle.work.specs.Moves.{lowerTo, windowOn, ordinaryNext, openingNext, Moves, RollsBack}
+use Rattle.work.specs.Moves.{lowerTo, windowOn, ordinaryNext, gone, openingNext, Moves, RollsBack}
 use Rattle.work.proofs.Ranges.{drop-sets, drop-past, log-same, entries-same}
 use Rattle.work.proofs.States.{state-stored, drop-undone, length-undone, state-undone, changed-state}
 use Rattle.work.proofs.Laws.{length-changed}
@@ -44,7 +44,7 @@ after-above (suc d) u v h = refl
 
 -- ---- rule 3, with the state as it is
 pub go-law : (w : List ℕ) (c : Control) (p v : ℕ) → Fit w c → (0 < c .depth → v ≤ c .window)
-    → Moves w w c (record { place = p; depth = c .depth; log = c .log; opened = c .opened; window = v }) (λ M. ordinaryNext M (M .state) p v)
+    → Moves w w c (gone c p v) (λ M. ordinaryNext M (M .state) p v)
 go-law w c p v f b =
     record {
       machine = λ n hn.
@@ -53,6 +53,11 @@ go-law w c p v f b =
       fits = record { room = f .room; bound = bound-left (entryAt w) (c .window) v (c .depth) (c .log) b (f .bound) };
       frame = refl;
     }
+
+-- and to a control that is equal
+pub gone-to : (w : List ℕ) {c r : Control} {p v : ℕ} → r ≡ gone c p v → Fit w c → (0 < c .depth → v ≤ c .window)
+    → Moves w w c r (λ M. ordinaryNext M (M .state) p v)
+gone-to w {c} {r} {p} {v} e f b = subst (λ (x : Control). Moves w w c x (λ M. ordinaryNext M (M .state) p v)) (sym e) (go-law w c p v f b)
 
 -- ---- rule 3, with location l given the word x
 module _ (w : List ℕ) (c : Control) (l p v : ℕ) (x : Tagged) (f : Fit w c) (hl : l < limit) (e : length (x .deps .words) ≡ 4) where

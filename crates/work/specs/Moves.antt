@@ -28,6 +28,10 @@ expiredOn end p (b ∷ bs) = eqb (b .window) 0 || leb end p
 abbrev pub ordinaryNext : Machine → State → ℕ → ℕ → Machine
 ordinaryNext M σ p v = record { state = σ; place = p; branches = lowerTo v (M .branches); opened = M .opened }
 
+-- the control after it, where no location changes
+abbrev pub gone : Control → ℕ → ℕ → Control
+gone c p v = record { place = p; depth = c .depth; log = c .log; opened = c .opened; window = v }
+
 -- a new branch's window: with nothing open it is w, else what is left of the old top's
 abbrev pub windowOn : List Branch → ℕ → ℕ → ℕ
 windowOn [] w v = w

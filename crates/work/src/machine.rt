@@ -10,7 +10,7 @@ ghost use Rattle.location.specs.Sets.{limit};
 ghost use Rattle.rules.specs.Rules.Plain.{put};
 ghost use Rattle.work.specs.Words.{windowAfter};
 ghost use Rattle.work.specs.Machines.{machineOf, maxWindow, Fit};
-ghost use Rattle.work.specs.Moves.{Moves, RollsBack, ordinaryNext, openingNext, expiredOn};
+ghost use Rattle.work.specs.Moves.{Moves, RollsBack, ordinaryNext, gone, openingNext, expiredOn};
 
 // The place, how many branches are open, how many changes are logged, how many branches were opened in all, and the window of the
 // top one, which means nothing with none open.
@@ -138,7 +138,7 @@ pub fn assign(
 
 // Rule 3 for an instruction that changes no location: nor does it change a word.
 pub fn go(c: Control, place: usize, remaining: usize) -> Control
-    ensures { λ r. ⌜ ((w : List ℕ) → Fit w c → (0 < c .depth → remaining ≤ c .window) → Moves w w c r (λ M. ordinaryNext M (M .state) place remaining)) ⌝ }
+    ensures { λ r. ⌜ r ≡ gone c place remaining ⌝ }
 {
     Control {
         place,

@@ -14,7 +14,7 @@ open-branch-requires c κs =
     let p = c .before .before .before .before .before .before .before .pre in
     let h = room-words (a .trace .now) (a .c) 2 (c .before .before .before .has-room .ensures) (c .before .before .if1 .taken) in
     let l = p .0 .place in
-    (record { fits = p .0 .fits; counted = p .0 .counted; more = h; live = p .0 .live }, omega arith, p .1, p .2)
+    (record { live = p .0 .live; counted = p .0 .counted; more = h }, omega arith, p .1, p .2)
 
 same-length : tie.Need-same-length
 same-length c = search needs

@@ -1,0 +1,56 @@
+-- `assign` meets its contract: the move and the counts are rule 3. Assumes nothing.
+use mathlib.Core.Path.{refl}
+use Prim.Native.Nat.{_+_}
+use native.Mathlib.Omega.{arith}
+use Rattle.location.specs.Sets.{registers}
+use Rattle.stepping.proofs.Steps.{assigned}
+use borrow.Author.Needs.{needs}
+use Rattle.stepping.proofs.assign.Statement.{statement}
+use Rattle.stepping.proofs.assign.Tie as tie
+
+remaining-window-requires : tie.Need-remaining-window-requires
+remaining-window-requires c κs = search needs
+
+register-requires : tie.Need-register-requires
+register-requires c κs = search needs
+
+add-place : tie.Need-add-place
+add-place c = search needs
+
+assign-requires : tie.Need-assign-requires
+assign-requires c κs =
+    let p = c .before .before .before .before .before .before .pre in
+    let r = c .before .before .register .ensures in
+    let h = p .3 in
+    (p .0 .fits, ((λ d. c .before .before .before .remaining-window .ensures .less (p .0 .window d)), omega arith))
+
+empty-requires : tie.Need-empty-requires
+empty-requires c κs = search needs
+
+count-step-requires : tie.Need-count-step-requires
+count-step-requires c κs = let p = c .before .before .before .before .before .before .before .before .before .before .pre in omega (arith, p .2, c .before .before .before .before .before .before .before .before .before .before .good)
+
+same-length : tie.Need-same-length
+same-length c = search needs
+
+returns : tie.Need-returns
+returns c =
+    let a = c .before .before .before .before .before .before .before .before .before .before .before .args in
+    λ t cells most. record {
+      made = λ p code ec costs.
+          assigned _ (a .v) (c .before .before .before .before .before .before .before .before .remaining-window .ensures) (c .before .before .before .before .assign .ensures) (registers + cells) most p code costs (a .r) (c .before .before .before .before .before .before .before .register .ensures) refl
+          (c .before .empty .ensures) (c .count-step .ensures);
+    }
+
+pub assign-spec : {M : Type 1} → statement M
+assign-spec =
+    tie.close
+    (tie.spec
+    remaining-window-requires
+    register-requires
+    add-place
+    assign-requires
+    empty-requires
+    count-step-requires
+    same-length
+    returns)

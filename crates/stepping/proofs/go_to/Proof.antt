@@ -1,0 +1,35 @@
+-- `go_to` meets its contract. Assumes nothing.
+use mathlib.Core.Path.{refl}
+use Rattle.stepping.proofs.Steps.{passed}
+use borrow.Author.Needs.{needs}
+use Rattle.stepping.proofs.go_to.Statement.{statement}
+use Rattle.stepping.proofs.go_to.Tie as tie
+
+remaining-window-requires : tie.Need-remaining-window-requires
+remaining-window-requires c κs = search needs
+
+go-requires : tie.Need-go-requires
+go-requires c κs = search needs
+
+observe-requires : tie.Need-observe-requires
+observe-requires c κs = search needs
+
+count-step-requires : tie.Need-count-step-requires
+count-step-requires c κs = search needs
+
+same-length : tie.Need-same-length
+same-length c = search needs
+
+returns : tie.Need-returns
+returns c = (passed (c .before .before .before .before .before .before .before .remaining-window .ensures) (c .before .before .before .before .before .before .go .ensures) refl (c .count-step .ensures), c .before .before .before .before .observe .ensures)
+
+pub go-to-spec : {M : Type 1} → statement M
+go-to-spec =
+    tie.close
+    (tie.spec
+    remaining-window-requires
+    go-requires
+    observe-requires
+    count-step-requires
+    same-length
+    returns)

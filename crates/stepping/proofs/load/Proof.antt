@@ -1,0 +1,69 @@
+-- `load` meets its contract: the move, the observation and the counts are rule 3. Assumes nothing.
+use mathlib.Core.Path.{refl}
+use Prim.Native.Nat.{_+_}
+use native.Mathlib.Omega.{arith}
+use Rattle.location.specs.Sets.{registers}
+use Rattle.rules.specs.Rules.Instructions.{loaded}
+use Rattle.rules.specs.Rules.Plain.{loadedFrom}
+use Rattle.work.specs.Machines.{stateIn}
+use Rattle.stepping.proofs.Steps.{assigned-shown}
+use borrow.Author.Needs.{needs}
+use Rattle.stepping.proofs.load.Statement.{statement}
+use Rattle.stepping.proofs.load.Tie as tie
+
+remaining-window-requires : tie.Need-remaining-window-requires
+remaining-window-requires c κs = search needs
+
+loaded-from-requires : tie.Need-loaded-from-requires
+loaded-from-requires c κs = search needs
+
+register-requires : tie.Need-register-requires
+register-requires c κs = search needs
+
+add-place : tie.Need-add-place
+add-place c = search needs
+
+assign-requires : tie.Need-assign-requires
+assign-requires c κs =
+    let p = c .before .before .before .before .before .before .before .before .before .pre in
+    let r = c .before .before .register .ensures in
+    let h = p .2 in
+    (p .0 .live .fits, ((λ d. c .before .before .before .before .before .remaining-window .ensures .less (p .0 .live .window d)), omega arith))
+
+observe-requires : tie.Need-observe-requires
+observe-requires c κs = search needs
+
+count-step-requires : tie.Need-count-step-requires
+count-step-requires c κs = let p = c .before .before .before .before .before .before .before .before .before .before .before .before .before .before .before .before .before .pre in omega (arith, p .0 .more, p .0 .counted .steps, c .before .before .before .before .before .before .before .before .before .before .before .before .before .before .before .before .before .good)
+
+same-length : tie.Need-same-length
+same-length c = search needs
+
+same-length-2 : tie.Need-same-length-2
+same-length-2 c = search needs
+
+returns : tie.Need-returns
+returns c =
+    let a = c .before .before .before .before .before .before .before .before .before .before .before .before .before .before .before .before .before .before .args in
+    let n = registers + a .cells in
+    record {
+      made = λ p code ec costs.
+          assigned-shown _ _ (c .before .before .before .before .before .before .before .before .before .before .before .before .before .before .remaining-window .ensures) (c .before .before .before .before .before .before .before .before .assign .ensures) n (c .before .before .before .before .before .before .before .before .before .before .before .before .before .before .before .before .before .before .pre .3) p code costs (loaded (a .a .value)) (a .r)
+          (loadedFrom code (stateIn (a .work .now) n) (a .a)) (c .before .before .before .before .before .before .before .before .before .before .before .register .ensures) (c .before .before .before .before .before .before .before .before .before .before .before .before .loaded-from .ensures code ec) refl (c .before .before .before .before .observe .ensures)
+          (c .count-step .ensures);
+    }
+
+pub load-spec : {M : Type 1} → statement M
+load-spec =
+    tie.close
+    (tie.spec
+    remaining-window-requires
+    loaded-from-requires
+    register-requires
+    add-place
+    assign-requires
+    observe-requires
+    count-step-requires
+    same-length
+    same-length-2
+    returns)

@@ -1,0 +1,57 @@
+-- `store` meets its contract: the move, the observation and the counts are rule 3. Assumes nothing.
+use mathlib.Core.Path.{refl}
+use Prim.Native.Nat.{suc, _+_}
+use native.Mathlib.Numerals.{add-one}
+use native.Mathlib.Omega.{arith}
+use Rattle.location.specs.Sets.{registers}
+use Rattle.rules.specs.Rules.Instructions.{stored}
+use Rattle.rules.specs.Rules.Plain.{at, storedTo}
+use Rattle.work.specs.Machines.{stateIn}
+use Rattle.stepping.proofs.Steps.{carried-shown}
+use borrow.Author.Needs.{needs}
+use Rattle.stepping.proofs.store.Statement.{statement}
+use Rattle.stepping.proofs.store.Tie as tie
+
+remaining-window-requires : tie.Need-remaining-window-requires
+remaining-window-requires c κs = search needs
+
+store-word-requires : tie.Need-store-word-requires
+store-word-requires c κs =
+    let p = c .before .before .before .before .before .pre in
+    (p .0 .live .fits, (λ d. c .before .remaining-window .ensures .less (p .0 .live .window d)), p .1, p .2, p .3)
+
+observe-requires : tie.Need-observe-requires
+observe-requires c κs = search needs
+
+count-step-requires : tie.Need-count-step-requires
+count-step-requires c κs = let p = c .before .before .before .before .before .before .before .before .before .before .before .before .before .pre in omega (arith, p .0 .more, p .0 .counted .steps, c .before .before .before .before .before .before .before .before .before .before .before .before .before .good)
+
+same-length : tie.Need-same-length
+same-length c = search needs
+
+same-length-2 : tie.Need-same-length-2
+same-length-2 c = search needs
+
+returns : tie.Need-returns
+returns c =
+    let a = c .before .before .before .before .before .before .before .before .before .before .before .before .before .before .args in
+    let σ = stateIn (a .work .now) (registers + a .cells) in
+    record {
+      made = λ p code ec costs.
+          let m = c .before .before .before .before .before .before .before .before .store-word .ensures code ec in
+          carried-shown (a .i) (m .machine) (m .fits) (m .frame) p code (c .before .before .before .before .before .before .before .before .before .before .remaining-window .ensures .exact p code costs) (stored (a .a .value))
+          (storedTo code σ (a .a) (at σ (a .r))) (suc (a .c .control .place)) refl (add-one (a .c .control .place)) refl (c .before .before .before .before .observe .ensures)
+          (c .count-step .ensures);
+    }
+
+pub store-spec : {M : Type 1} → statement M
+store-spec =
+    tie.close
+    (tie.spec
+    remaining-window-requires
+    store-word-requires
+    observe-requires
+    count-step-requires
+    same-length
+    same-length-2
+    returns)

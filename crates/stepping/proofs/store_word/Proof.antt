@@ -1,0 +1,80 @@
+-- `store_word` meets its contract: the test is the rules', and with a cell the word is. Assumes nothing.
+use Prim.Native.Nat.{_+_}
+use native.Mathlib.Omega.{arith}
+use Rattle.location.specs.Sets.{registers}
+use Rattle.rules.specs.Rules.Plain.{State, at, put, storedTo}
+use Rattle.work.specs.Machines.{stateIn}
+use Rattle.work.proofs.Moves.{gone-to}
+use Rattle.effect.proofs.Laws.{store-inside, store-outside}
+use Rattle.stepping.proofs.Steps.{moves-at}
+use borrow.Author.Needs.{needs}
+use Rattle.stepping.proofs.store_word.Statement.{statement}
+use Rattle.stepping.proofs.store_word.Tie as tie
+
+add-place : tie.Need-add-place
+add-place c = search needs
+
+go-requires : tie.Need-go-requires
+go-requires c κs = search needs
+
+returns : tie.Need-returns
+returns c = λ code ec.
+    let a = c .before .before .before .before .args in
+    let p = c .before .before .before .before .pre in
+    let w = a .work .now in
+    let n = registers + a .cells in
+    let m = gone-to w (c .go .ensures) (p .0) (λ d. let l = p .1 d in omega arith) in
+    moves-at n (λ (σ : State). σ) (λ (σ : State). storedTo code σ (a .a) (at σ (a .r))) (p .4) m
+    (store-outside w (a .cells) (a .a) code ec (at (stateIn w n) (a .r)) (c .before .if1 .taken))
+
+new-requires : tie.Need-new-requires
+new-requires c κs = search needs
+
+cell-requires : tie.Need-cell-requires
+cell-requires c κs = search needs
+
+register-requires : tie.Need-register-requires
+register-requires c κs = search needs
+
+load-requires : tie.Need-load-requires
+load-requires c κs = search needs
+
+joined-requires : tie.Need-joined-requires
+joined-requires c κs = search needs
+
+assign-requires : tie.Need-assign-requires
+assign-requires c κs =
+    let p = c .before .before .before .before .before .before .before .before .before .before .before .pre in
+    let l = c .before .before .before .before .before .cell .ensures in
+    let n = c .before .before .before .before .before .before .new .ensures in
+    let h = c .before .before .before .before .before .before .before .before .if1 .left in
+    let m = p .4 in
+    (p .0, (p .1, omega arith))
+
+same-length : tie.Need-same-length
+same-length c = search needs
+
+returns-2 : tie.Need-returns-2
+returns-2 c = λ code ec.
+    let a = c .before .before .before .before .before .before .before .before .before .before .before .before .before .before .args in
+    let p = c .before .before .before .before .before .before .before .before .before .before .before .before .before .before .pre in
+    let w = a .work .now in
+    moves-at (registers + a .cells) (λ (σ : State). put σ _ _) (λ (σ : State). storedTo code σ (a .a) (at σ (a .r))) (p .4) (c .before .before .assign .ensures)
+    (store-inside w (a .cells) (a .a) code ec (a .r) (c .before .before .before .before .before .before .before .before .before .before .before .if1 .left) (p .3) (c .before .before .before .before .before .before .before .before .before .new .ensures) (c .before .before .before .before .before .before .before .before .cell .ensures) (c .before .before .before .before .before .before .register .ensures)
+    (c .before .before .before .before .before .load .ensures) (c .before .before .before .before .joined .ensures))
+
+pub store-word-spec : {M : Type 1} → statement M
+store-word-spec =
+    tie.close
+    (tie.spec
+    add-place
+    go-requires
+    returns
+    new-requires
+    cell-requires
+    register-requires
+    load-requires
+    joined-requires
+    assign-requires
+    same-length
+    returns-2)
