@@ -1,6 +1,6 @@
 -- How what the callees give makes up what the rules say of an instruction.
 -- Assumes nothing.
-use mathlib.Core.Path.{_≡_, refl, sym, ap, _∙_}
+use mathlib.Core.Path.{_≡_, sym, ap, _∙_}
 use mathlib.Core.Bool.{true}
 use mathlib.Core.List.{List}
 use Prim.Native.Nat.{ℕ, _+_, _<_, _≤_}
@@ -25,7 +25,7 @@ use Rattle.effect.specs.States.{state-value}
 use Rattle.effect.specs.Sources.{sourceOf, Sourced}
 
 -- the state in the words, with so many cells
-abbrev pub stateOf : List ℕ → ℕ → State
+abbrev stateOf : List ℕ → ℕ → State
 stateOf w cells = stateIn w (registers + cells)
 
 -- ---- a conditional assignment: not taken, where register number l is r and holds t; and taken

@@ -46,7 +46,7 @@ pub fn loaded_from(work: &[u64], cells: usize, a: Tagged) -> Tagged
 }
 
 // What register r holds after a conditional assignment on c: the expression is evaluated only where it is assigned. It is so by
-// `evaluate`, so that `value_of` has one caller and can be made part of a step.
+// `evaluate`, so that `value_of` has one caller and can be made part of a step; the slices are taken anew, as in `value_of`.
 pub fn chosen(p: &[u8], work: &[u64], r: u8, c: Tagged, e: Expression) -> Tagged
     requires { ⌜ sound (tokensOf (now p) e) ≡ true ⌝ }
     requires { ⌜ operandBase registers ≤ length (now work) ⌝ }

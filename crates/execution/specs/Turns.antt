@@ -11,12 +11,12 @@ use Rattle.location.specs.Sets.{limit, registers}
 use Rattle.rules.specs.declared.Stop.{Stop}
 use Rattle.rules.specs.declared.Stop.the-variants.{TraceFull}
 use Rattle.rules.specs.declared.Trailer.{Trailer}
-use Rattle.rules.specs.Rules.Instructions.{Instr, Observation, windowCosts}
+use Rattle.rules.specs.Rules.Instructions.{Instr, Observation, pc, windowCosts}
 use Rattle.rules.specs.Rules.Plain.{State, Code, endPlace}
 use Rattle.rules.specs.Rules.Plain as plain
-use Rattle.rules.specs.Rules.Mispredicting.{Branch, Machine, Step, rolling, opening, ordinary, forward, step, plainStep}
+use Rattle.rules.specs.Rules.Mispredicting.{Branch, Machine, Step, rolling, opening, stepWith, ordinary, forward, step, plainStep}
 use Rattle.rules.specs.Rules.Loop.{ended}
-use Rattle.rules.specs.Rules.Runs.{Result, fits, over, run}
+use Rattle.rules.specs.Rules.Runs.{Result, over, run}
 use Rattle.rules.specs.Rules.JobFile.{postfix, program, locations}
 use Rattle.rules.specs.Rules.Calls.{written, traceWords}
 use Rattle.rules.specs.Theorems.JobLaws.{Limits}
@@ -31,7 +31,7 @@ use Rattle.effect.specs.Registers.{RegistersBelow}
 use Rattle.stepping.specs.declared.Progress.{Progress}
 use Rattle.stops.specs.Stops.{roomFor}
 use Rattle.stepping.specs.Progress.{logOf}
-use Rattle.stepping.specs.Steps.{Counted, Made, Live, Passed, stepWith}
+use Rattle.stepping.specs.Steps.{Counted, Made, Live, StateKept}
 use Rattle.execution.specs.declared.Mode.{Mode}
 use Rattle.execution.specs.declared.Mode.the-variants as modes
 use Rattle.execution.specs.declared.Opening.{Opening}
@@ -103,7 +103,8 @@ pub record CodeOf (t : Trailer) (code : Code) : Type 0 where
   pub costs : code .costs ≡ windowCosts
 
 -- rule 3 for the instruction i, with the effect that a rule gives in the state of so many cells
-pub record EffectTried (w w′ area area′ : List ℕ) (cells : ℕ) (i : Instruction) (rule : Code → State → plain.Effect) (c : Progress) (x : Next) (c′ : Progress) : Type 0 where
+pub record EffectTried (w w′ area area′ : List ℕ) (cells : ℕ) (i : Instruction) (rule : Code → State → plain.Effect) (c : Progress) (x : Next)
+    (c′ : Progress) : Type 0 where
   pub tried : (p : List ℕ) (code : Code) → code .cells ≡ cells → code .costs ≡ windowCosts
       → Tried (registers + cells)
       (stepWith code (machineOf w (c .control) (registers + cells)) (meaning p i) (rule code (stateIn w (registers + cells)))) w w′ area area′ c x c′
@@ -111,7 +112,7 @@ pub record EffectTried (w w′ area area′ : List ℕ) (cells : ℕ) (i : Instr
 -- a jump or a branch to a place, which rests on s: made if its observation fits, and else nothing was done
 abbrev pub GoTried : ℕ → LocationSet → Instruction → List ℕ → List ℕ → Progress → Next → Progress → Type 0
 GoTried place s i area area′ c next.Go c′ =
-    (roomFor area c 1 ≡ true) × Passed place 1 s i c c′ × (area′ ≡ sets area (2 * c .observations) (2 ∷ place ∷ []))
+    (roomFor area c 1 ≡ true) × StateKept place 1 s i c c′ × (area′ ≡ sets area (2 * c .observations) (traceWords (pc place ∷ [])))
 GoTried place s i area area′ c (next.Halt x) c′ = (roomFor area c 1 ≡ false) × (x ≡ TraceFull) × (area′ ≡ area) × (c′ ≡ c)
 
 -- rule 3 for the instruction i, with the rules' own effect

@@ -8,13 +8,13 @@ use rules::Trailer;
 use stepping::Progress;
 use work::machine::Control;
 ghost use mathlib.Core.Path.{_≡_};
-ghost use Prim.Native.Nat.{_+_, _<_, _≤_};
+ghost use Prim.Native.Nat.{_+_, _^_, _<_, _≤_};
 ghost use lib.ListN.{length};
 ghost use Rattle.location.specs.Sets.{registers, limit};
 ghost use Rattle.rules.specs.Rules.Plain.{loadEffect, storeEffect};
 ghost use Rattle.rules.specs.Rules.Calls.{workingWords};
 ghost use Rattle.work.specs.Machines.{Fit, maxWindow};
-ghost use Rattle.stepping.specs.Steps.{Counted};
+ghost use Rattle.stepping.specs.Steps.{Counted, Live};
 ghost use Rattle.execution.specs.declared.Next.the-variants.{Go};
 ghost use Rattle.execution.specs.Starts.{beginning, whole};
 ghost use Rattle.execution.specs.Turns.{RollBackTried, CanStep, OpeningTried, EffectTried, GoTried, CarryingTried, Advancing, Opens, Advanced, Ready, Loaded, Turned, RanTo};
@@ -90,7 +90,7 @@ fn try_load(
     r: u8,
     a: Tagged,
 ) -> Turn
-    requires { ⌜ CanStep (now work) (now trace) c × (r < registers) × (registers + cells ≤ limit) ⌝ }
+    requires { ⌜ Live (now work) c × (c .observations + 1 < 2 ^ 64) × (c .control .place + 1 < 2 ^ 64) × (c .steps + 1 < 2 ^ 64) × (r < registers) × (registers + cells ≤ limit) ⌝ }
     ensures { λ x. ⌜ EffectTried (now (work .entry)) (now (work .exit)) (now (trace .entry)) (now (trace .exit)) cells i (λ code σ. loadEffect code σ (c .control .place) r a) c (x .next) (x .progress) ⌝ }
 {
     if stops::has_room(&trace[..], c, 1) {
@@ -116,7 +116,7 @@ fn try_store(
     r: u8,
     a: Tagged,
 ) -> Turn
-    requires { ⌜ CanStep (now work) (now trace) c × (r < registers) × (registers + cells ≤ limit) ⌝ }
+    requires { ⌜ Live (now work) c × (c .observations + 1 < 2 ^ 64) × (c .control .place + 1 < 2 ^ 64) × (c .steps + 1 < 2 ^ 64) × (r < registers) × (registers + cells ≤ limit) ⌝ }
     ensures { λ x. ⌜ EffectTried (now (work .entry)) (now (work .exit)) (now (trace .entry)) (now (trace .exit)) cells i (λ code σ. storeEffect code σ (c .control .place) r a) c (x .next) (x .progress) ⌝ }
 {
     if stops::has_room(&trace[..], c, 1) {
@@ -134,7 +134,7 @@ fn try_store(
 
 // A jump or a branch to a place, which rests on v, if its observation fits.
 fn try_go_to(trace: &mut [u64], c: Progress, i: Instruction, place: usize, v: Tagged) -> Turn
-    requires { ⌜ Counted c (now trace) ⌝ }
+    requires { ⌜ (c .observations + 1 < 2 ^ 64) × (c .steps + 1 < 2 ^ 64) ⌝ }
     ensures { λ x. ⌜ GoTried place (v .deps) i (now (trace .entry)) (now (trace .exit)) c (x .next) (x .progress) ⌝ }
 {
     if stops::has_room(&trace[..], c, 1) {
@@ -181,20 +181,14 @@ fn try_carry_out(
         Instruction::Assign(r, _) => stepped(stepping::assign(&mut work[..], c, i, r, a)),
         Instruction::Load(r, _) => try_load(&mut work[..], &mut trace[..], c, i, t.cells, r, a),
         Instruction::Store(r, _) => try_store(&mut work[..], &mut trace[..], c, i, t.cells, r, a),
-        Instruction::Jump(_) => try_go_to(
-            &mut trace[..],
-            c,
-            i,
-            effect::jump_to(a.value, t.count),
-            a,
-        ),
-        Instruction::BranchZero(_, l) => try_go_to(
-            &mut trace[..],
-            c,
-            i,
-            effect::branch_to(a, l, next),
-            a,
-        ),
+        Instruction::Jump(_) => {
+            let place = effect::jump_to(a.value, t.count);
+            try_go_to(&mut trace[..], c, i, place, a)
+        }
+        Instruction::BranchZero(_, l) => {
+            let place = effect::branch_to(a, l, next);
+            try_go_to(&mut trace[..], c, i, place, a)
+        }
         Instruction::AssignIf(r, _, e) => {
             let v = effect::chosen(p, &work[..], r, a, e);
             stepped(stepping::assign(&mut work[..], c, i, r, v))

@@ -1,16 +1,13 @@
 -- What the code's counts, stores and windows are in the rules.
 -- Assumes nothing.
 use mathlib.Core.Path.{_≡_, refl, sym, ap, _∙_}
-use mathlib.Core.List.{List, [], _∷_, append-nil}
-use mathlib.Core.Logic.{_≢_}
+use mathlib.Core.List.{List, [], _∷_}
 use Prim.Native.Nat.{ℕ, zero, suc, _+_, _*_, _<_}
 use native.Mathlib.Omega.{arith}
-use lib.ListN.{length}
 use lib.Seq.{sets}
 use Rattle.location.specs.declared.LocationSet.{LocationSet}
 use Rattle.location.specs.Sets.{union}
-use Rattle.rules.specs.Rules.Calls.{observationWords, traceWords}
-use Rattle.rules.specs.Rules.Instructions.{Observation, Instr, windowCosts}
+use Rattle.rules.specs.Rules.Instructions.{Instr, windowCosts}
 use Rattle.rules.specs.Rules.Plain.{State, Code}
 use Rattle.rules.specs.Rules.Mispredicting.{remaining, lower, newWindow}
 use Rattle.rules.specs.Rules.Runs.{gather}
@@ -61,6 +58,10 @@ unfolding lower newWindow
 window-lowered code i e g σ v k zero = refl
 window-lowered code i e g σ v k (suc d) = refl
 
+-- what is left is less, if there was any
+pub left-less : (code : Code) → code .costs ≡ windowCosts → (i : Instr) (v : ℕ) → 0 < v → remaining code i v < v
+left-less code costs i v h = omega (arith, remaining-less code (rw costs windowCosts-positive) i v (λ z. omega arith))
+
 pub leaves : (c : Control) (i : Instruction) (v : ℕ)
     → ((p : List ℕ) (code : Code) → code .costs ≡ windowCosts → v ≡ remaining code (meaning p i) (c .window)) → Leaves c i v
 leaves c i v exact = record { exact = exact; less = less }
@@ -68,5 +69,4 @@ leaves c i v exact = record { exact = exact; less = less }
     less : 0 < c .window → v < c .window
     less h =
         let any : Code = record { prog = []; cells = 0; window = 0; costs = windowCosts } in
-        let ne : c .window ≢ 0 = λ z. omega arith in
-        omega (arith, exact [] any refl, remaining-less any windowCosts-positive (meaning [] i) (c .window) ne)
+        omega (arith, exact [] any refl, left-less any refl (meaning [] i) (c .window) h)

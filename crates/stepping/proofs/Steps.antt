@@ -2,7 +2,6 @@
 -- Assumes nothing.
 use mathlib.Core.Path.{_≡_, refl, sym, ap, _∙_, subst}
 use mathlib.Core.List.{List, [], _∷_, _++_, append-nil}
-use mathlib.Core.Logic.{_≢_}
 use Prim.Native.Nat.{ℕ, suc, _+_, _*_, _<_, _≤_}
 use native.Mathlib.Numerals.{add-one}
 use native.Mathlib.Omega.{arith}
@@ -16,8 +15,7 @@ use Rattle.rules.specs.Rules.Calls.{observationWords, traceWords}
 use Rattle.rules.specs.Rules.Instructions.{Instr, beqz, Observation, pc, windowCosts}
 use Rattle.rules.specs.Rules.Plain.{State, at, put, Code, branchTo, silent, goEffect}
 use Rattle.rules.specs.Rules.Plain as plain
-use Rattle.rules.specs.Rules.Mispredicting.{Branch, Machine, Step, remaining, lower, newWindow, rolling, opening}
-use Rattle.rules.specs.Theorems.Undo.{remaining-less, windowCosts-positive}
+use Rattle.rules.specs.Rules.Mispredicting.{Branch, Machine, Step, remaining, lower, newWindow, rolling, opening, stepWith}
 use Rattle.rules.specs.Rules.Runs.{note}
 use Rattle.instruction.specs.declared.Instruction.{Instruction}
 use Rattle.instruction.specs.declared.Instruction.the-variants.{BranchZero}
@@ -27,13 +25,13 @@ use Rattle.work.specs.declared.machine.RolledBack.{RolledBack}
 use Rattle.work.specs.Layout.{labels}
 use Rattle.work.specs.Words.{taggedAt, entryAt, changeAt}
 use Rattle.work.specs.Machines.{stateIn, machineOf, Fit}
-use Rattle.work.specs.Moves.{lowerTo, windowOn, ordinaryNext, gone, openingNext, Moves, RollsBack}
+use Rattle.work.specs.Moves.{lowerTo, windowOn, ordinaryNext, gone, openingNext, Moves, MovesAt, RollsBack}
 use Rattle.work.proofs.States.{state-at}
 use Rattle.work.proofs.Moves.{go-law}
 use Rattle.stepping.specs.declared.Progress.{Progress}
 use Rattle.stepping.specs.Progress.{logOf, progressAfter}
-use Rattle.stepping.specs.Steps.{Made, Leaves, RolledBackTo, OpenedTo, stepWith, CarriedOut, Passed, MovesAt, Live}
-use Rattle.stepping.proofs.Laws.{gathered, top-lowered, window-lowered}
+use Rattle.stepping.specs.Steps.{Made, Leaves, RolledBackTo, OpenedTo, CarriedOut, StateKept, Live}
+use Rattle.stepping.proofs.Laws.{gathered, top-lowered, window-lowered, left-less}
 
 -- ---- any step
 module _ (w w′ t t′ : List ℕ) (c c′ : Progress) (n : ℕ) (s : Step) (control : Control)
@@ -178,9 +176,9 @@ module _ {w w′ t t′ : List ℕ} {c c′ : Progress} {i : Instruction} {v : �
 
 -- ---- rule 3 for an instruction that changes no location
 -- from what the callees give
-pub passed : {c c′ : Progress} {i : Instruction} {q k v : ℕ} {control : Control} {s s′ : LocationSet} → Leaves (c .control) i v
-    → control ≡ gone (c .control) q v → s′ ≡ s → c′ ≡ progressAfter c control k 0 s′ → Passed q k s i c c′
-passed {c} {c′} {i} {q} {k} left eg es ec = record {
+pub kept : {c c′ : Progress} {i : Instruction} {q k v : ℕ} {control : Control} {s s′ : LocationSet} → Leaves (c .control) i v
+    → control ≡ gone (c .control) q v → s′ ≡ s → c′ ≡ progressAfter c control k 0 s′ → StateKept q k s i c c′
+kept {c} {c′} {i} {q} {k} left eg es ec = record {
   exact = λ p code costs.
       let L = left .exact p code costs in
       ec ∙ (λ j. progressAfter c ((eg ∙ (λ u. gone (c .control) q (L u))) j) k 0 (es j));
@@ -188,28 +186,25 @@ passed {c} {c′} {i} {q} {k} left eg es ec = record {
 
 lower-window : {w : List ℕ} {c : Progress} (i : Instr) → Live w c → (code : Code) → code .costs ≡ windowCosts → 0 < c .control .depth
     → remaining code i (c .control .window) ≤ c .control .window
-lower-window {c = c} i live code costs d =
-    let h = live .window d in
-    let ne : c .control .window ≢ 0 = λ z. omega arith in
-    omega (arith, remaining-less code (rw costs windowCosts-positive) i (c .control .window) ne)
+lower-window {c = c} i live code costs d = omega (arith, left-less code costs i (c .control .window) (live .window d))
 
 module _ {w t : List ℕ} {c c′ : Progress} {i : Instruction} {cells : ℕ} (live : Live w c) (most : registers + cells ≤ limit) where
-  pub passed-silently : Passed (c .control .place + 1) 0 empty i c c′ → CarriedOut w w t t cells i (λ code σ. silent σ (c .control .place)) c c′
-  passed-silently h = record {
+  pub kept-silently : StateKept (c .control .place + 1) 0 empty i c c′ → CarriedOut w w t t cells i (λ code σ. silent σ (c .control .place)) c c′
+  kept-silently h = record {
     made = λ p code ec costs.
         let v = remaining code (meaning p i) (c .control .window) in
         let m = go-law w (c .control) (c .control .place + 1) v (live .fits) (lower-window (meaning p i) live code costs) in
         carried-silently i (m .machine (registers + cells) most) (m .fits) (m .frame) p code refl refl refl refl (h .exact p code costs);
   }
 
-  pub passed-shown : {t′ : List ℕ} (q : ℕ) (x : Tagged) → Passed q 1 (x .deps) i c c′ → t′ ≡ sets t (2 * c .observations) (2 ∷ q ∷ [])
+  pub kept-shown : {t′ : List ℕ} (q : ℕ) (x : Tagged) → StateKept q 1 (x .deps) i c c′ → t′ ≡ sets t (2 * c .observations) (traceWords (pc q ∷ []))
       → CarriedOut w w t t′ cells i (λ code σ. goEffect σ q x) c c′
-  passed-shown q x h et = record {
+  kept-shown q x h et = record {
     made = λ p code ec costs.
         let n = registers + cells in
         let v = remaining code (meaning p i) (c .control .window) in
         let m = go-law w (c .control) q v (live .fits) (lower-window (meaning p i) live code costs) in
-        carried-shown i (m .machine n most) (m .fits) (m .frame) p code refl (pc q) (stateIn w n) q refl refl refl et (h .exact p code costs);
+        carried i (m .machine n most) (m .fits) (m .frame) p code refl (goEffect (stateIn w n) q x) refl refl et (h .exact p code costs);
   }
 
 -- ---- a move at n locations, to the state τ, which is that of the move

@@ -7,10 +7,10 @@ use lib.ListN.{length, drop}
 use lib.Seq.{sets}
 use Rattle.location.specs.declared.LocationSet.{LocationSet}
 use Rattle.location.specs.Sets.{registers, limit}
-use Rattle.rules.specs.Rules.Instructions.{Observation, Instr, windowCosts}
+use Rattle.rules.specs.Rules.Instructions.{Observation, windowCosts}
 use Rattle.rules.specs.Rules.Plain.{State, Code}
 use Rattle.rules.specs.Rules.Plain as plain
-use Rattle.rules.specs.Rules.Mispredicting.{Branch, Machine, Step, remaining, lower, rolling, opening}
+use Rattle.rules.specs.Rules.Mispredicting.{Branch, Step, remaining, rolling, opening, stepWith}
 use Rattle.rules.specs.Rules.Runs.{note}
 use Rattle.rules.specs.Rules.Calls.{traceWords}
 use Rattle.work.specs.declared.machine.Control.{Control}
@@ -52,15 +52,6 @@ pub record OpenedTo (w w′ t t′ : List ℕ) (r l window : ℕ) (c c′ : Prog
   pub made : (n : ℕ) (code : Code) → registers ≤ n → n ≤ limit → code .window ≡ window → code .costs ≡ windowCosts
       → Made n (opening code (machineOf w (c .control) n) r l) w w′ t t′ c c′
 
--- rule 3 for an instruction with the effect x
-abbrev pub stepWith : Code → Machine → Instr → plain.Effect → Step
-stepWith code M i x = record {
-  next = record { state = x .state; place = x .place; branches = lower code i (M .branches); opened = M .opened };
-  obs = x .obs;
-  seen = x .seen;
-  back = 0;
-}
-
 -- Rule 3 for instruction i, with the effect that a rule gives in the state of so many cells.
 pub record CarriedOut (w w′ t t′ : List ℕ) (cells : ℕ) (i : Instruction) (rule : Code → State → plain.Effect) (c c′ : Progress) : Type 0 where
   pub made : (p : List ℕ) (code : Code) → code .cells ≡ cells → code .costs ≡ windowCosts
@@ -68,22 +59,16 @@ pub record CarriedOut (w w′ t t′ : List ℕ) (cells : ℕ) (i : Instruction)
       (stepWith code (machineOf w (c .control) (registers + cells)) (meaning p i) (rule code (stateIn w (registers + cells)))) w w′ t t′ c c′
 
 -- The progress after an instruction that changes no location and goes to a place, with so many observations, which rest on s.
-pub record Passed (place observations : ℕ) (s : LocationSet) (i : Instruction) (c c′ : Progress) : Type 0 where
+pub record StateKept (place observations : ℕ) (s : LocationSet) (i : Instruction) (c c′ : Progress) : Type 0 where
   pub exact : (p : List ℕ) (code : Code) → code .costs ≡ windowCosts
       → c′ ≡ progressAfter c (gone (c .control) place (remaining code (meaning p i) (c .control .window))) observations 0 s
-
--- The words of one machine with n locations become those of the next.
-pub record MovesAt (n : ℕ) (w w′ : List ℕ) (c c′ : Control) (next : Machine → Machine) : Type 0 where
-  pub machine : machineOf w′ c′ n ≡ next (machineOf w c n)
-  pub fits : Fit w′ c′
-  pub frame : drop labels w′ ≡ drop labels w
 
 -- The words fit, and an open branch has some window left.
 pub record Live (w : List ℕ) (c : Progress) : Type 0 where
   pub fits : Fit w (c .control)
   pub window : 0 < c .control .depth → 0 < c .control .window
 
--- What rules 2 and 3 ask in common: that, small counts, and room in the trace area for so many observations more.
+-- What an opening asks: that, small counts, and room in the trace area for so many observations more.
 pub record Steppable (w t : List ℕ) (observations : ℕ) (c : Progress) : Type 0 where
   pub live : Live w c
   pub counted : Counted c t

@@ -18,11 +18,13 @@ ghost use Prim.Native.Nat.{ℕ, _+_, _*_, _^_, _<_, _≤_};
 ghost use lib.ListN.{length};
 ghost use lib.Seq.{sets};
 ghost use Rattle.location.specs.Sets.{registers, limit, empty};
-ghost use Rattle.rules.specs.Rules.Plain.{Code, at, put, storedTo, silent, loadEffect, storeEffect};
+ghost use Rattle.rules.specs.Rules.Calls.{traceWords};
+ghost use Rattle.rules.specs.Rules.Instructions.{pc};
+ghost use Rattle.rules.specs.Rules.Plain.{Code, at, put, storedTo, silent, loadEffect, storeEffect, goEffect};
 ghost use Rattle.work.specs.Machines.{maxWindow, Fit};
-ghost use Rattle.work.specs.Moves.{ordinaryNext};
+ghost use Rattle.work.specs.Moves.{ordinaryNext, MovesAt};
 ghost use Rattle.stepping.specs.Progress.{gatherAt, progressAfter};
-ghost use Rattle.stepping.specs.Steps.{Counted, Live, Steppable, Leaves, MovesAt, RolledBackTo, OpenedTo, CarriedOut, Passed};
+ghost use Rattle.stepping.specs.Steps.{Counted, Live, Steppable, Leaves, RolledBackTo, OpenedTo, CarriedOut, StateKept};
 
 // Where a run stands: the machine's control, the counts, the full set and the plain set.
 pub struct Progress {
@@ -133,7 +135,8 @@ pub fn open_branch(
 // Rule 3 for an instruction that changes no location and shows nothing.
 pub fn skip(c: Progress, i: Instruction) -> Progress
     requires { ⌜ (c .control .place + 1 < 2 ^ 64) × (c .steps + 1 < 2 ^ 64) ⌝ }
-    ensures { λ x. ⌜ Passed (c .control .place + 1) 0 empty i c x ⌝ }
+    ensures exact { λ x. ⌜ StateKept (c .control .place + 1) 0 empty i c x ⌝ }
+    ensures carried { λ x. ⌜ ((w t : List ℕ) (cells : ℕ) → Live w c → registers + cells ≤ limit → CarriedOut w w t t cells i (λ code σ. silent σ (c .control .place)) c x) ⌝ }
 {
     let control = c.control;
     let remaining = remaining_window(control, i);
@@ -164,7 +167,7 @@ pub fn load(
     r: u8,
     a: Tagged,
 ) -> Progress
-    requires { ⌜ Steppable (now work) (now trace) 1 c × (c .control .place + 1 < 2 ^ 64) × (r < registers) × (registers + cells ≤ limit) ⌝ }
+    requires { ⌜ Live (now work) c × (2 * (c .observations + 1) ≤ length (now trace)) × (c .control .place + 1 < 2 ^ 64) × (c .steps + 1 < 2 ^ 64) × (r < registers) × (registers + cells ≤ limit) ⌝ }
     ensures { λ x. ⌜ CarriedOut (now (work .entry)) (now (work .exit)) (now (trace .entry)) (now (trace .exit)) cells i (λ code σ. loadEffect code σ (c .control .place) r a) c x ⌝ }
 {
     let control = c.control;
@@ -212,21 +215,22 @@ pub fn store(
     r: u8,
     a: Tagged,
 ) -> Progress
-    requires { ⌜ Steppable (now work) (now trace) 1 c × (c .control .place + 1 < 2 ^ 64) × (r < registers) × (registers + cells ≤ limit) ⌝ }
+    requires { ⌜ Live (now work) c × (2 * (c .observations + 1) ≤ length (now trace)) × (c .control .place + 1 < 2 ^ 64) × (c .steps + 1 < 2 ^ 64) × (r < registers) × (registers + cells ≤ limit) ⌝ }
     ensures { λ x. ⌜ CarriedOut (now (work .entry)) (now (work .exit)) (now (trace .entry)) (now (trace .exit)) cells i (λ code σ. storeEffect code σ (c .control .place) r a) c x ⌝ }
 {
     let control = c.control;
     let remaining = remaining_window(control, i);
     let next = store_word(&mut work[..], control, cells, r, a, remaining);
     observe(&mut trace[..], c.observations, STORE, a.value);
-    let seen = a.deps;
-    count_step(c, next, 1, 0, seen)
+    let address_set = a.deps;
+    count_step(c, next, 1, 0, address_set)
 }
 
 // Rule 3 for a jump or a branch to a place, which rests on v.
 pub fn go_to(trace: &mut [u64], c: Progress, i: Instruction, place: usize, v: Tagged) -> Progress
     requires { ⌜ (2 * (c .observations + 1) ≤ length (now trace)) × (c .steps + 1 < 2 ^ 64) ⌝ }
-    ensures { λ x. ⌜ Passed place 1 (v .deps) i c x × (now (trace .exit) ≡ sets (now (trace .entry)) (2 * c .observations) (2 ∷ place ∷ [])) ⌝ }
+    ensures exact { λ x. ⌜ StateKept place 1 (v .deps) i c x × (now (trace .exit) ≡ sets (now (trace .entry)) (2 * c .observations) (traceWords (pc place ∷ []))) ⌝ }
+    ensures carried { λ x. ⌜ ((w : List ℕ) (cells : ℕ) → Live w c → registers + cells ≤ limit → CarriedOut w w (now (trace .entry)) (now (trace .exit)) cells i (λ code σ. goEffect σ place v) c x) ⌝ }
 {
     let control = c.control;
     let remaining = remaining_window(control, i);

@@ -103,43 +103,43 @@ module _ (w : List ℕ) (n k d l u : ℕ) (x : Tagged) (room : workingWords ≤ 
 -- ---- an entry pushed as branch number d, with the log's length as its mark
 module _ (w : List ℕ) (n k d : ℕ) (b : BranchEntry) (hn : n ≤ limit) (room : workingWords ≤ length w) (apart : 6 * k + 4 * d ≤ firstBranch)
     (mark : b .mark ≡ k) (h : WindowBound (entryAt w) (b .outer) d k) where
-  abbrev w₃ : List ℕ
-  w₃ = entryStored w d b
+  abbrev w₂ : List ℕ
+  w₂ = entryStored w d b
 
   abbrev vs : List ℕ
   vs = b .id ∷ b .target ∷ b .outer ∷ b .mark ∷ []
 
-  new : entryAt w₃ d ≡ b
+  new : entryAt w₂ d ≡ b
   new = entry-stored w d b (omega arith)
 
-  old : (j : ℕ) → j < d → entryAt w j ≡ entryAt w₃ j
+  old : (j : ℕ) → j < d → entryAt w j ≡ entryAt w₂ j
   old j l = sym (entry-same j (same-after vs w (branchBase d) (branchBase j) 4 (omega arith)))
 
-  logs : (j : ℕ) → j < k → changeAt w j ≡ changeAt w₃ j
+  logs : (j : ℕ) → j < k → changeAt w j ≡ changeAt w₂ j
   logs j l = sym (change-same j (same-before vs w (branchBase d) (changeBase j) 6 (omega arith)))
 
-  pub pushed-state : stateIn w₃ n ≡ stateIn w n
+  pub pushed-state : stateIn w₂ n ≡ stateIn w n
   pushed-state = state-before vs w (branchBase d) 0 n (omega arith)
 
-  mark₃ : entryAt w₃ d .mark ≡ k
-  mark₃ = ap (λ (x : BranchEntry). x .mark) new ∙ mark
+  mark₂ : entryAt w₂ d .mark ≡ k
+  mark₂ = ap (λ (x : BranchEntry). x .mark) new ∙ mark
 
-  saved₃ : savedAt (changeAt w₃) (stateIn w₃ n) k (entryAt w₃ d .mark) ≡ stateIn w n
-  saved₃ =
+  saved₂ : savedAt (changeAt w₂) (stateIn w₂ n) k (entryAt w₂ d .mark) ≡ stateIn w n
+  saved₂ =
       let z : k - k ≡ 0 = omega arith in
-      ap (savedAt (changeAt w₃) (stateIn w₃ n) k) mark₃
-      ∙ ap (λ (x : ℕ). restore (lastChanges (changeAt w₃) k x) (stateIn w₃ n)) z
+      ap (savedAt (changeAt w₂) (stateIn w₂ n) k) mark₂
+      ∙ ap (λ (x : ℕ). restore (lastChanges (changeAt w₂) k x) (stateIn w₂ n)) z
       ∙ pushed-state
 
-  pub pushed-branches : (v : ℕ) → branchesOf (entryAt w₃) (changeAt w₃) (stateIn w₃ n) v k (suc d)
+  pub pushed-branches : (v : ℕ) → branchesOf (entryAt w₂) (changeAt w₂) (stateIn w₂ n) v k (suc d)
       ≡ record { id = b .id; saved = stateIn w n; target = b .target; window = v } ∷ branchesOf (entryAt w) (changeAt w) (stateIn w n) (b .outer) k d
   pushed-branches v =
-      let A = branches-agree (entryAt w) (entryAt w₃) (changeAt w) (changeAt w₃) (stateIn w n) (b .outer) k d old logs h in
-      let R = (λ t. branchesOf (entryAt w₃) (changeAt w₃) (saved₃ t) (new t .outer) (mark₃ t) d) ∙ sym A in
-      λ t. record { id = new t .id; saved = saved₃ t; target = new t .target; window = v } ∷ R t
+      let A = branches-agree (entryAt w) (entryAt w₂) (changeAt w) (changeAt w₂) (stateIn w n) (b .outer) k d old logs h in
+      let R = (λ t. branchesOf (entryAt w₂) (changeAt w₂) (saved₂ t) (new t .outer) (mark₂ t) d) ∙ sym A in
+      λ t. record { id = new t .id; saved = saved₂ t; target = new t .target; window = v } ∷ R t
 
-  pub pushed-bound : (v : ℕ) → k + d + v ≤ maxWindow → WindowBound (entryAt w₃) v (suc d) k
+  pub pushed-bound : (v : ℕ) → k + d + v ≤ maxWindow → WindowBound (entryAt w₂) v (suc d) k
   pushed-bound v l =
       let m : b .mark ≤ k = omega arith in
-      let H = subst (WindowBound (entryAt w₃) (b .outer) d) (sym mark) (bound-agree (entryAt w) (entryAt w₃) (b .outer) k d old h) in
-      subst (λ (x : BranchEntry). (x .mark ≤ k) × (k + d + v ≤ maxWindow) × WindowBound (entryAt w₃) (x .outer) d (x .mark)) (sym new) (m, l, H)
+      let H = subst (WindowBound (entryAt w₂) (b .outer) d) (sym mark) (bound-agree (entryAt w) (entryAt w₂) (b .outer) k d old h) in
+      subst (λ (x : BranchEntry). (x .mark ≤ k) × (k + d + v ≤ maxWindow) × WindowBound (entryAt w₂) (x .outer) d (x .mark)) (sym new) (m, l, H)

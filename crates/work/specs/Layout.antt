@@ -13,8 +13,9 @@ logBase = 1280
 abbrev pub changeBase : ℕ → ℕ
 changeBase k = logBase + 6 * k
 
--- and the open branches downwards, 4 words each: id, target, and of when it was opened the window left to the branch below and the
--- length of the log. The first one stands 1202 words past the log's first; no number brings one below that word.
+-- and the open branches downwards, 4 words each: id, target, what was left of the window of the branch below when it was opened (of
+-- the first it means nothing), and the length of the log then. The first one stands 1202 words past the log's first; no number brings
+-- one below that word.
 abbrev pub firstBranch : ℕ
 firstBranch = 1202
 

@@ -6,7 +6,7 @@ use location::Location;
 use location::LocationSet;
 use rules::Tagged;
 ghost use mathlib.Core.Path.{_≡_};
-ghost use Prim.Native.Nat.{_+_, _-_, _*_, _<_, _≤_};
+ghost use Prim.Native.Nat.{_+_, _-_, _*_, _≤_};
 ghost use mathlib.Core.List.{_∷_};
 ghost use lib.ListN.{length, replicate};
 ghost use lib.Seq.{sets};
@@ -29,8 +29,8 @@ pub const LABELS: usize = 2486;
 // How many words there are; those past the table of labels are free.
 pub const WORDS: usize = 4096;
 
-// What the words hold of an open branch: `outer` is what was left of the window of the branch below when it was opened, and `mark`
-// the length of the log then.
+// What the words hold of an open branch: `outer` is what was left of the window of the branch below when it was opened (of the first
+// branch it means nothing), and `mark` the length of the log then.
 pub struct BranchEntry {
     pub id: usize,
     pub target: usize,

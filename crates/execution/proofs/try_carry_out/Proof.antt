@@ -4,7 +4,6 @@ use native.Mathlib.Omega.{arith}
 use Rattle.rules.specs.Rules.Plain.{put, silent}
 use Rattle.effect.proofs.Laws.{sourced, second-sound}
 use Rattle.execution.proofs.Laws.{carried, room-for-none}
-use Rattle.stepping.proofs.Steps.{passed-silently}
 use Rattle.execution.proofs.Effects.{told-as, go-tried, skip-carried, barrier-carried, assign-carried, load-carried, store-carried, jump-carried, branch-carried, assign-if-carried}
 use borrow.Author.Needs.{needs}
 use Rattle.execution.proofs.try_carry_out.Statement.{statement}
@@ -46,13 +45,25 @@ enum-known-i-2 : tie.Need-enum-known-i-2
 enum-known-i-2 c = search needs
 
 try-load-requires : tie.Need-try-load-requires
-try-load-requires c κs = let x = rw (c .before .before .before .i2 .given .1) at (c .before .before .before .before .before .before .before .before .before .before .before .before .pre) in let l = x .limits .cells in (x .can, x .below, omega arith)
+try-load-requires c κs =
+    let x = rw (c .before .before .before .i2 .given .1) at (c .before .before .before .before .before .before .before .before .before .before .before .before .pre) in
+    let l = x .limits .cells in
+    let h = x .can .place in
+    let s = x .can .counted .steps in
+    let o = x .can .counted .room in
+    (x .can .live, omega (arith, c .before .before .before .before .before .before .before .before .before .before .before .before .good), omega arith, omega arith, x .below, omega arith)
 
 enum-known-i-3 : tie.Need-enum-known-i-3
 enum-known-i-3 c = search needs
 
 try-store-requires : tie.Need-try-store-requires
-try-store-requires c κs = let x = rw (c .before .before .before .i3 .given .1) at (c .before .before .before .before .before .before .before .before .before .before .before .before .pre) in let l = x .limits .cells in (x .can, x .below, omega arith)
+try-store-requires c κs =
+    let x = rw (c .before .before .before .i3 .given .1) at (c .before .before .before .before .before .before .before .before .before .before .before .before .pre) in
+    let l = x .limits .cells in
+    let h = x .can .place in
+    let s = x .can .counted .steps in
+    let o = x .can .counted .room in
+    (x .can .live, omega (arith, c .before .before .before .before .before .before .before .before .before .before .before .before .good), omega arith, omega arith, x .below, omega arith)
 
 enum-told-2 : tie.Need-enum-told-2
 enum-told-2 c = search needs
@@ -61,7 +72,11 @@ jump-to-requires : tie.Need-jump-to-requires
 jump-to-requires c κs = search needs
 
 try-go-to-requires : tie.Need-try-go-to-requires
-try-go-to-requires c κs = c .before .before .before .before .before .before .before .before .before .before .before .pre .can .counted
+try-go-to-requires c κs =
+    let q = c .before .before .before .before .before .before .before .before .before .before .before .pre .can in
+    let s = q .counted .steps in
+    let o = q .counted .room in
+    (omega (arith, c .before .before .before .before .before .before .before .before .before .before .before .good), omega arith)
 
 enum-known-i-4 : tie.Need-enum-known-i-4
 enum-known-i-4 c = search needs
@@ -70,7 +85,11 @@ branch-to-requires : tie.Need-branch-to-requires
 branch-to-requires c κs = search needs
 
 try-go-to-requires-2 : tie.Need-try-go-to-requires-2
-try-go-to-requires-2 c κs = c .before .before .before .before .before .before .before .before .before .before .before .before .pre .can .counted
+try-go-to-requires-2 c κs =
+    let q = c .before .before .before .before .before .before .before .before .before .before .before .before .pre .can in
+    let s = q .counted .steps in
+    let o = q .counted .room in
+    (omega (arith, c .before .before .before .before .before .before .before .before .before .before .before .before .good), omega arith)
 
 enum-known-i-5 : tie.Need-enum-known-i-5
 enum-known-i-5 c = search needs
@@ -108,7 +127,7 @@ returns c =
     let a = c .before .before .before .before .before .before .before .before .before .before .before .args in
     let q = c .before .before .before .before .before .before .before .before .before .before .before .pre in
     let l = q .limits .cells in
-    let m = passed-silently {cells = a .t .cells} (q .can .live) (omega arith) (c .before .skip .ensures) in
+    let m = c .before .skip .ensures .1 (a .work .now) (a .trace .now) (a .t .cells) (q .can .live) (omega arith) in
     let e = carried (a .work .now) (λ code σ. silent σ (a .c .control .place)) 0 (λ code. refl) (room-for-none (a .trace .now) (a .c) (q .can .counted)) refl m in
     told-as (c .stepped .ensures .0) (c .stepped .ensures .1) (skip-carried (c .before .before .enum-told .given .1) e)
 
@@ -152,11 +171,10 @@ same-length-8 c = search needs
 
 returns-5 : tie.Need-returns-5
 returns-5 c =
-    let a = c .before .before .before .before .before .before .before .before .before .before .before .before .before .before .args in
     let q = c .before .before .before .before .before .before .before .before .before .before .before .before .before .before .pre in
     let l = q .limits .cells in
-    jump-carried (c .before .before .before .before .before .enum-told2 .given .1) (rw (c .before .before .before .before .before .enum-told2 .given .1) at (c .before .before .before .before .before .before .before .before .before .source-value .ensures)) (c .before .before .before .jump-to .ensures)
-    (go-tried (c .before .before .try-go-to .result .next) (c .before .before .before .jump-to .result) (c .before .before .before .before .before .before .before .before .before .source-value .result) (q .can .live) (omega arith) (c .before .before .try-go-to .ensures))
+    jump-carried (c .before .before .before .before .before .enum-told2 .given .1) (rw (c .before .before .before .before .before .enum-told2 .given .1) at (c .before .before .before .before .before .before .before .before .before .source-value .ensures)) (c .before .before .before .before .jump-to .ensures)
+    (go-tried (c .before .before .try-go-to .result .next) (c .before .before .before .before .jump-to .result) (c .before .before .before .before .before .before .before .before .before .source-value .result) (q .can .live) (omega arith) (c .before .before .try-go-to .ensures))
 
 same-length-9 : tie.Need-same-length-9
 same-length-9 c = search needs
@@ -166,12 +184,11 @@ same-length-10 c = search needs
 
 returns-6 : tie.Need-returns-6
 returns-6 c =
-    let a = c .before .before .before .before .before .before .before .before .before .before .before .before .before .before .before .args in
     let q = c .before .before .before .before .before .before .before .before .before .before .before .before .before .before .before .pre in
     let l = q .limits .cells in
     let x = rw (c .before .before .before .before .before .before .i4 .given .1) at q in
-    branch-carried (c .before .before .before .before .before .before .i4 .given .1) (x .below) (rw (c .before .before .before .before .before .before .i4 .given .1) at (c .before .before .before .before .before .before .before .before .before .before .source-value .ensures)) (c .before .before .before .branch-to .ensures)
-    (go-tried (c .before .before .try-go-to2 .result .next) (c .before .before .before .branch-to .result) (c .before .before .before .before .before .before .before .before .before .before .source-value .result) (q .can .live) (omega arith) (c .before .before .try-go-to2 .ensures))
+    branch-carried (c .before .before .before .before .before .before .i4 .given .1) (x .below) (rw (c .before .before .before .before .before .before .i4 .given .1) at (c .before .before .before .before .before .before .before .before .before .before .source-value .ensures)) (c .before .before .before .before .branch-to .ensures)
+    (go-tried (c .before .before .try-go-to2 .result .next) (c .before .before .before .before .branch-to .result) (c .before .before .before .before .before .before .before .before .before .before .source-value .result) (q .can .live) (omega arith) (c .before .before .try-go-to2 .ensures))
 
 same-length-11 : tie.Need-same-length-11
 same-length-11 c = search needs
@@ -196,7 +213,7 @@ returns-8 c =
     let a = c .before .before .before .before .before .before .before .before .before .before .before .args in
     let q = c .before .before .before .before .before .before .before .before .before .before .before .pre in
     let l = q .limits .cells in
-    let m = passed-silently {cells = a .t .cells} (q .can .live) (omega arith) (c .before .skip2 .ensures) in
+    let m = c .before .skip2 .ensures .1 (a .work .now) (a .trace .now) (a .t .cells) (q .can .live) (omega arith) in
     let e = carried (a .work .now) (λ code σ. silent σ (a .c .control .place)) 0 (λ code. refl) (room-for-none (a .trace .now) (a .c) (q .can .counted)) refl m in
     told-as (c .stepped4 .ensures .0) (c .stepped4 .ensures .1) (barrier-carried (c .before .before .enum-told3 .given .1) e)
 

@@ -10,7 +10,7 @@ kind-requires : tie.Need-kind-requires
 kind-requires c κs = search needs
 
 returns : tie.Need-returns
-returns c = λ p code h. remaining-barrier code _ _ _ (c .before .kind .ensures .0 p) (c .if1 .taken)
+returns c = λ p code h. remaining-barrier code _ _ _ (c .before .kind .ensures p) (c .if1 .taken)
 
 cost-requires : tie.Need-cost-requires
 cost-requires c κs = search needs
@@ -20,11 +20,11 @@ sub-result c = search needs
 
 returns-2 : tie.Need-returns-2
 returns-2 c = λ p code h.
-    remaining-other code _ _ _ _ h (c .before .before .before .kind .ensures .0 p) (c .before .before .if1 .left) (c .before .cost .ensures p)
+    remaining-other code _ _ _ _ h (c .before .before .before .kind .ensures p) (c .before .before .if1 .left) (c .before .cost .ensures p)
 
 returns-3 : tie.Need-returns-3
 returns-3 c = λ p code h.
-    let r = remaining-other code _ _ _ _ h (c .before .before .before .kind .ensures .0 p) (c .before .before .if1 .left) (c .before .cost .ensures p) in
+    let r = remaining-other code _ _ _ _ h (c .before .before .before .kind .ensures p) (c .before .before .if1 .left) (c .before .cost .ensures p) in
     sym (sub-eq-zero-of-le (c .if2 .left)) ∙ r
 
 pub lowered-spec : {M : Type 1} → statement M

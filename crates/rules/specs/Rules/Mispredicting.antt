@@ -8,7 +8,7 @@ use lib.ListN.{getD}
 use Rattle.location.specs.declared.LocationSet.{LocationSet}
 use Rattle.location.specs.Sets.{registerLocation, empty}
 use Rattle.rules.specs.Rules.Instructions.{Instr, skip, assign, load, store, jmp, beqz, cassign, spbarr, kind, Observation, start, rollback, pc}
-use Rattle.rules.specs.Rules.Plain.{State, at, Code, endPlace, fetch, exec, branchTo}
+use Rattle.rules.specs.Rules.Plain.{State, at, Code, endPlace, fetch, Effect, exec, branchTo}
 
 -- "a stack of open branches, each with its id, saved registers and memory, true target and remaining window"
 pub record Branch : Type 0 where
@@ -44,16 +44,18 @@ unfoldable pub lower : Code → Instr → List Branch → List Branch
 lower code i [] = []
 lower code i (b ∷ bs) = lowered code i b ∷ bs
 
+-- rule 3 for an instruction with the effect x
+abbrev pub stepWith : Code → Machine → Instr → Effect → Step
+stepWith code M i x = record {
+  next = record { state = x .state; place = x .place; branches = lower code i (M .branches); opened = M .opened };
+  obs = x .obs;
+  seen = x .seen;
+  back = 0;
+}
+
 -- Rule 3: "Any other instruction: as in the plain run; the top's window is lowered". With nothing open it is the plain step.
 unfoldable pub ordinary : Code → Machine → Instr → Step
-ordinary code M i =
-    let x = exec code (M .state) (M .place) i in
-    record {
-      next = record { state = x .state; place = x .place; branches = lower code i (M .branches); opened = M .opened };
-      obs = x .obs;
-      seen = x .seen;
-      back = 0;
-    }
+ordinary code M i = stepWith code M i (exec code (M .state) (M .place) i)
 
 -- "With nothing open its window is w. Otherwise the old top's window v is lowered first and the new window is what remains."
 unfoldable pub newWindow : Code → List Branch → ℕ

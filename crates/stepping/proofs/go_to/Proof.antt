@@ -1,6 +1,7 @@
 -- `go_to` meets its contract. Assumes nothing.
 use mathlib.Core.Path.{refl}
-use Rattle.stepping.proofs.Steps.{passed}
+use Rattle.rules.specs.Rules.Calls.{traceWords}
+use Rattle.stepping.proofs.Steps.{kept, kept-shown}
 use borrow.Author.Needs.{needs}
 use Rattle.stepping.proofs.go_to.Statement.{statement}
 use Rattle.stepping.proofs.go_to.Tie as tie
@@ -21,7 +22,12 @@ same-length : tie.Need-same-length
 same-length c = search needs
 
 returns : tie.Need-returns
-returns c = (passed (c .before .before .before .before .before .before .before .remaining-window .ensures) (c .before .before .before .before .before .before .go .ensures) refl (c .count-step .ensures), c .before .before .before .before .observe .ensures)
+unfolding traceWords
+returns c =
+    let a = c .before .before .before .before .before .before .before .before .before .before .args in
+    let k = kept (c .before .before .before .before .before .before .before .remaining-window .ensures) (c .before .before .before .before .before .before .go .ensures) refl (c .count-step .ensures) in
+    let e = c .before .before .before .before .observe .ensures in
+    ((k, e), λ w cells live most. kept-shown live most (a .place) (a .v) k e)
 
 pub go-to-spec : {M : Type 1} → statement M
 go-to-spec =

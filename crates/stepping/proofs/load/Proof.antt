@@ -27,14 +27,14 @@ assign-requires : tie.Need-assign-requires
 assign-requires c κs =
     let p = c .before .before .before .before .before .before .before .before .before .pre in
     let r = c .before .before .register .ensures in
-    let h = p .2 in
-    (p .0 .live .fits, ((λ d. c .before .before .before .before .before .remaining-window .ensures .less (p .0 .live .window d)), omega arith))
+    let h = p .4 in
+    (p .0 .fits, ((λ d. c .before .before .before .before .before .remaining-window .ensures .less (p .0 .window d)), omega arith))
 
 observe-requires : tie.Need-observe-requires
 observe-requires c κs = search needs
 
 count-step-requires : tie.Need-count-step-requires
-count-step-requires c κs = let p = c .before .before .before .before .before .before .before .before .before .before .before .before .before .before .before .before .before .pre in omega (arith, p .0 .more, p .0 .counted .steps, c .before .before .before .before .before .before .before .before .before .before .before .before .before .before .before .before .before .good)
+count-step-requires c κs = let p = c .before .before .before .before .before .before .before .before .before .before .before .before .before .before .before .before .before .pre in omega (arith, p .1, p .3, c .before .before .before .before .before .before .before .before .before .before .before .before .before .before .before .before .before .good)
 
 same-length : tie.Need-same-length
 same-length c = search needs
@@ -48,7 +48,7 @@ returns c =
     let n = registers + a .cells in
     record {
       made = λ p code ec costs.
-          assigned-shown _ _ (c .before .before .before .before .before .before .before .before .before .before .before .before .before .before .remaining-window .ensures) (c .before .before .before .before .before .before .before .before .assign .ensures) n (c .before .before .before .before .before .before .before .before .before .before .before .before .before .before .before .before .before .before .pre .3) p code costs (loaded (a .a .value)) (a .r)
+          assigned-shown _ _ (c .before .before .before .before .before .before .before .before .before .before .before .before .before .before .remaining-window .ensures) (c .before .before .before .before .before .before .before .before .assign .ensures) n (c .before .before .before .before .before .before .before .before .before .before .before .before .before .before .before .before .before .before .pre .5) p code costs (loaded (a .a .value)) (a .r)
           (loadedFrom code (stateIn (a .work .now) n) (a .a)) (c .before .before .before .before .before .before .before .before .before .before .before .register .ensures) (c .before .before .before .before .before .before .before .before .before .before .before .before .loaded-from .ensures code ec) refl (c .before .before .before .before .observe .ensures)
           (c .count-step .ensures);
     }

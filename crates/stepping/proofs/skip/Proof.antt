@@ -1,5 +1,5 @@
 -- `skip` meets its contract. Assumes nothing.
-use Rattle.stepping.proofs.Steps.{passed}
+use Rattle.stepping.proofs.Steps.{kept, kept-silently}
 use borrow.Author.Needs.{needs}
 use Rattle.stepping.proofs.skip.Statement.{statement}
 use Rattle.stepping.proofs.skip.Tie as tie
@@ -20,7 +20,9 @@ count-step-requires : tie.Need-count-step-requires
 count-step-requires c κs = search needs
 
 returns : tie.Need-returns
-returns c = passed (c .before .before .before .before .remaining-window .ensures) (c .before .before .go .ensures) (c .before .empty .ensures) (c .count-step .ensures)
+returns c =
+    let k = kept (c .before .before .before .before .remaining-window .ensures) (c .before .before .go .ensures) (c .before .empty .ensures) (c .count-step .ensures) in
+    (k, λ w t cells live most. kept-silently live most k)
 
 pub skip-spec : {M : Type 1} → statement M
 skip-spec =

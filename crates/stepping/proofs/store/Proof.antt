@@ -18,13 +18,13 @@ remaining-window-requires c κs = search needs
 store-word-requires : tie.Need-store-word-requires
 store-word-requires c κs =
     let p = c .before .before .before .before .before .pre in
-    (p .0 .live .fits, (λ d. c .before .remaining-window .ensures .less (p .0 .live .window d)), p .1, p .2, p .3)
+    (p .0 .fits, (λ d. c .before .remaining-window .ensures .less (p .0 .window d)), p .2, p .4, p .5)
 
 observe-requires : tie.Need-observe-requires
 observe-requires c κs = search needs
 
 count-step-requires : tie.Need-count-step-requires
-count-step-requires c κs = let p = c .before .before .before .before .before .before .before .before .before .before .before .before .before .pre in omega (arith, p .0 .more, p .0 .counted .steps, c .before .before .before .before .before .before .before .before .before .before .before .before .before .good)
+count-step-requires c κs = let p = c .before .before .before .before .before .before .before .before .before .before .before .before .before .pre in omega (arith, p .1, p .3, c .before .before .before .before .before .before .before .before .before .before .before .before .before .good)
 
 same-length : tie.Need-same-length
 same-length c = search needs
