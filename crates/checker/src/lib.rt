@@ -22,6 +22,7 @@ use rules::RunAnswer;
 use rules::RunOutcome;
 use rules::Trailer;
 ghost use mathlib.Core.Path.{_≡_};
+ghost use Prim.Native.Nat.{_≤_};
 ghost use Rattle.rules.specs.Rules.Calls.{lent, runRefused, plainRefused, runCall, plainCall};
 ghost use Rattle.rules.specs.Rules.Pairs.{pairLent, pairCall};
 ghost use Rattle.rules.specs.Rules.Demands.{Exact, RunUnaltered, PlainUnaltered, Demand2, Demand3, PairExact, PairUnaltered, PairMeaning};
@@ -49,6 +50,7 @@ fn plain_refused(n: Refusal) -> PlainAnswer
 
 // What a run returns.
 fn report(public: LocationSet, r: Ran) -> RunAnswer
+    requires { ⌜ r .progress .control .depth ≤ r .progress .control .opened ⌝ }
     ensures { λ x. ⌜ x ≡ reportOf public (r .stop) (r .progress) ⌝ }
 {
     let counts = job_run::counts_of(r);

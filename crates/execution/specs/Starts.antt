@@ -30,7 +30,6 @@ beginning = record {
   control = record { place = 0; depth = 0; log = 0; opened = 0; window = 0 };
   observations = 0;
   steps = 0;
-  rollbacks = 0;
   full = empty;
   plain = empty;
 }
@@ -49,7 +48,7 @@ running-start p t mode w a l h =
       ready = record {
         loaded = l;
         fits = record { room = h; bound = refl };
-        counted = record { opened = omega arith; rollbacks = omega arith; steps = omega arith; room = omega arith };
+        counted = record { opened = omega arith; depth = omega arith; steps = omega arith; room = omega arith };
         budget = omega arith;
         closed = λ e. refl;
       };

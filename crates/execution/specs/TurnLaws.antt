@@ -34,7 +34,7 @@ use Rattle.work.specs.declared.BranchEntry.{BranchEntry}
 use Rattle.work.specs.declared.machine.Control.{Control}
 use Rattle.work.specs.Layout.{labels}
 use Rattle.work.specs.Words.{changeAt, entryAt}
-use Rattle.work.specs.Machines.{stateIn, branchesOf, machineOf}
+use Rattle.work.specs.Machines.{stateIn, branchesOf, branches-length, machineOf}
 use Rattle.work.specs.Moves.{expiredOn}
 use Rattle.stepping.specs.declared.Progress.{Progress}
 use Rattle.stepping.specs.Progress.{logOf}
@@ -55,10 +55,6 @@ code-end p t h = go (program (t .count) (t .count) 0 p 0) refl h
     go (refused r) e h = absurd (true≢false (sym h))
 
 -- ---- the open branches
-pub branches-length : (e : ℕ → BranchEntry) (g : ℕ → Change) (σ : State) (v k d : ℕ) → length (branchesOf e g σ v k d) ≡ d
-branches-length e g σ v k zero = refl
-branches-length e g σ v k (suc d) = ap suc (branches-length e g _ _ _ d)
-
 -- END with nothing open, and not so
 module _ (code : Code) (w : List ℕ) (c : Control) (n : ℕ) where
   over-on-branches : (e : ℕ → BranchEntry) (g : ℕ → Change) (σ : State) (v k d : ℕ) → d ≡ 0 → endPlace code ≤ c .place
@@ -340,7 +336,7 @@ module _ (p : List ℕ) (t : Trailer) (mode : Mode) (w₀ a₀ : List ℕ) (R : 
           fits = m .fits;
           counted = record {
             opened = let x = g .ready .counted .opened in let y = m .opened in let z = m .steps in omega arith;
-            rollbacks = let x = g .ready .counted .rollbacks in let y = m .rollbacks in let z = m .steps in omega arith;
+            depth = m .depth (g .ready .counted .depth);
             steps = let x = o .before in let y = g .ready .loaded .limits .budget in let z = m .steps in omega arith;
             room = let z = m .observations in omega arith;
           };
@@ -382,6 +378,7 @@ module _ (p : List ℕ) (t : Trailer) (mode : Mode) (w₀ a₀ : List ℕ) (R : 
         trace = rw same at (g .trace);
         state = ap (λ (r : Result). r .last) e;
         frame = g .frame;
+        depth = g .ready .counted .depth;
         room = same-size w (g .frame) (g .ready .fits .room);
       }
 

@@ -177,5 +177,6 @@ pub record RanTo (t : Trailer) (w₀ a₀ w area : List ℕ) (x : Stop) (c : Pro
   pub count : c .observations ≡ length (R .log .trace)
   pub trace : area ≡ written (traceWords (R .log .trace)) a₀
   pub state : machineOf w (c .control) (locations t) ≡ R .last
+  pub depth : c .control .depth ≤ c .control .opened
   pub frame : drop labels w ≡ drop labels w₀
   pub room : length w ≡ length w₀

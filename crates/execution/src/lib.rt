@@ -288,7 +288,6 @@ fn start() -> Progress
         },
         observations: 0,
         steps: 0,
-        rollbacks: 0,
         full: LocationSet::empty(),
         plain: LocationSet::empty(),
     }

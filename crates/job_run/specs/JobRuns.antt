@@ -19,6 +19,7 @@ use Rattle.work.specs.Layout.{labels}
 use Rattle.work.specs.Machines.{stateIn}
 use Rattle.work.proofs.Ranges.{drop-past}
 use Rattle.stepping.specs.declared.Progress.{Progress}
+use Rattle.stepping.specs.Progress.{rolledBack}
 use Rattle.transfer.specs.Loads.{StateLoaded, LabelsLoaded, state-loaded-after, labels-loaded-after, labels-loaded-state}
 use Rattle.execution.specs.declared.Mode.{Mode}
 use Rattle.execution.specs.declared.Mode.the-variants as modes
@@ -32,7 +33,7 @@ resultOf modes.Mispredicting job k = mispredictingRun job k
 
 -- what a run counts
 abbrev pub countsOf : Stop → Progress → Counts
-countsOf x c = record { stop = x; observations = c .observations; steps = c .steps; rollbacks = c .rollbacks }
+countsOf x c = record { stop = x; observations = c .observations; steps = c .steps; rollbacks = rolledBack (c .control) }
 
 -- The job was accepted, the bytes have a state of its size at the offset, and the working area is long enough.
 pub record Runnable (bs : List ℕ) (t : Trailer) (states : List ℕ) (at : ℕ) (w : List ℕ) : Type 0 where

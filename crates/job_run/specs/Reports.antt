@@ -13,6 +13,7 @@ use Rattle.rules.specs.Rules.JobFile.{locations}
 use Rattle.rules.specs.Rules.Calls.{lent, written, workingWords, areasAfter, counts}
 use Rattle.work.specs.Machines.{stateIn}
 use Rattle.stepping.specs.declared.Progress.{Progress}
+use Rattle.stepping.specs.Progress.{rolledBack}
 use Rattle.execution.specs.Turns.{RanTo}
 use Rattle.job_run.specs.JobRuns.{countsOf}
 
@@ -27,7 +28,7 @@ module _ {t : Trailer} {w₀ a₀ w a : List ℕ} {x : Stop} {c : Progress} {R :
   pub steps-same : c .steps ≡ R .log .steps
   steps-same = ap (λ (l : Log). l .steps) (r .log)
 
-  pub rollbacks-same : c .rollbacks ≡ R .log .rollbacks
+  pub rollbacks-same : rolledBack (c .control) ≡ R .log .rollbacks
   rollbacks-same = ap (λ (l : Log). l .rollbacks) (r .log)
 
   pub full-same : c .full ≡ R .log .full

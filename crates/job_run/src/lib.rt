@@ -5,6 +5,7 @@ use rules::Counts;
 use rules::Trailer;
 ghost use mathlib.Core.Path.{_≡_};
 ghost use mathlib.Core.Bool.{_&&_};
+ghost use Prim.Native.Nat.{_≤_};
 ghost use lib.Dec.{leb};
 ghost use lib.ListN.{length};
 ghost use Rattle.rules.specs.Rules.Calls.{workingWords, lent};
@@ -60,16 +61,18 @@ pub fn run_in_areas(
     r
 }
 
-// What a run counts.
+// What a run counts. Every branch that was opened is open or rolled back.
 pub fn counts_of(r: Ran) -> Counts
+    requires { ⌜ r .progress .control .depth ≤ r .progress .control .opened ⌝ }
     ensures { λ x. ⌜ x ≡ countsOf (r .stop) (r .progress) ⌝ }
 {
     let stop = r.stop;
     let c = r.progress;
+    let control = c.control;
     Counts {
         stop,
         observations: c.observations,
         steps: c.steps,
-        rollbacks: c.rollbacks,
+        rollbacks: control.opened - control.depth,
     }
 }

@@ -113,6 +113,12 @@ module _ {bs : List ℕ} {t : Trailer} {second a b w w₁ w₂ a′ b′ : List 
   pub second-fits : 2 * c′ .observations ≤ length b′
   second-fits = observed-fits (withState job vs) second-ran
 
+  pub first-depth : c .control .depth ≤ c .control .opened
+  first-depth = first-ran .depth
+
+  pub second-depth : c′ .control .depth ≤ c′ .control .opened
+  second-depth = second-ran .depth
+
   abbrev run₁ : Result
   run₁ = mispredictingRun job (room a)
 

@@ -16,12 +16,15 @@ use Rattle.job.specs.Answers.{Accepts}
 use Rattle.stepping.specs.declared.Progress.{Progress}
 use Rattle.job_run.specs.JobRuns.{countsOf}
 
--- The job was accepted, the second state has its size, and each trace area is as long as what was written there.
+-- The job was accepted, the second state has its size, each trace area is as long as what was written there, and no run has more
+-- branches open than it opened.
 pub record BothRan (bs : List ℕ) (t : Trailer) (second : List ℕ) (c c′ : Progress) (a b : List ℕ) : Type 0 where
   pub accepts : Accepts bs t
   pub sized : length second ≡ 8 * locations t
   pub first-fits : 2 * c .observations ≤ length a
   pub second-fits : 2 * c′ .observations ≤ length b
+  pub first-depth : c .control .depth ≤ c .control .opened
+  pub second-depth : c′ .control .depth ≤ c′ .control .opened
 
 -- the answer on two runs
 abbrev pub comparedOf : List ℕ → Trailer → List ℕ → Stop → Progress → Stop → Progress → List ℕ → List ℕ → PairAnswer

@@ -2,21 +2,23 @@
 -- Assumes nothing.
 use mathlib.Core.Path.{_≡_, refl, sym, ap, _∙_}
 use mathlib.Core.List.{List, [], _∷_}
-use Prim.Native.Nat.{ℕ, zero, suc, _+_, _*_, _<_}
+use Prim.Native.Nat.{ℕ, zero, suc, _+_, _-_, _*_, _<_, _≤_}
 use native.Mathlib.Omega.{arith}
+use lib.ListN.{length}
 use lib.Seq.{sets}
 use Rattle.location.specs.declared.LocationSet.{LocationSet}
 use Rattle.location.specs.Sets.{union}
 use Rattle.rules.specs.Rules.Instructions.{Instr, windowCosts}
 use Rattle.rules.specs.Rules.Plain.{State, Code}
-use Rattle.rules.specs.Rules.Mispredicting.{remaining, lower, newWindow}
+use Rattle.rules.specs.Rules.Mispredicting.{Branch, remaining, lower, newWindow}
 use Rattle.rules.specs.Rules.Runs.{gather}
 use Rattle.rules.specs.Theorems.Undo.{Change, remaining-less, windowCosts-positive}
 use Rattle.instruction.specs.declared.Instruction.{Instruction}
 use Rattle.instruction.specs.Meaning.{meaning}
 use Rattle.work.specs.declared.BranchEntry.{BranchEntry}
 use Rattle.work.specs.declared.machine.Control.{Control}
-use Rattle.work.specs.Machines.{branchesOf}
+use Rattle.work.specs.Words.{entryAt, changeAt}
+use Rattle.work.specs.Machines.{stateIn, branchesOf, branches-length, machineOf}
 use Rattle.work.specs.Moves.{lowerTo, windowOn}
 use Rattle.stepping.specs.Progress.{gatherAt}
 use Rattle.stepping.specs.Steps.{Leaves}
@@ -34,6 +36,21 @@ pub gathered : (e : ℕ → BranchEntry) (g : ℕ → Change) (σ : State) (v k 
 unfolding gather
 gathered e g σ v k zero plain s = refl
 gathered e g σ v k (suc d) plain s = refl
+
+-- ---- the rollbacks
+-- how many branches are open, in the machine
+pub depth-of : (w : List ℕ) (c : Control) (n : ℕ) → c .depth ≡ length (machineOf w c n .branches)
+depth-of w c n = sym (branches-length (entryAt w) (changeAt w) (stateIn w n) (c .window) (c .log) (c .depth))
+
+pub length-lower : (code : Code) (i : Instr) (bs : List Branch) → length (lower code i bs) ≡ length bs
+unfolding lower
+length-lower code i [] = refl
+length-lower code i (b ∷ bs) = refl
+
+-- of o branches opened and d open, after a step that makes b rollbacks
+pub counted-back : (o d o′ d′ b : ℕ) → o′ + d ≡ o + d′ + b → (0 < b → d ≤ o) → o′ - d′ ≡ o - d + b
+counted-back o d o′ d′ zero e h = omega arith
+counted-back o d o′ d′ (suc b) e h = let l = h (omega arith) in omega arith
 
 -- ---- the observations in the trace area
 -- two, one after the other

@@ -29,58 +29,63 @@ use Rattle.work.specs.Moves.{lowerTo, windowOn, ordinaryNext, gone, openingNext
 use Rattle.work.proofs.States.{state-at}
 use Rattle.work.proofs.Moves.{go-law}
 use Rattle.stepping.specs.declared.Progress.{Progress}
-use Rattle.stepping.specs.Progress.{logOf, progressAfter}
+use Rattle.stepping.specs.Progress.{logOf, rolledBack, progressAfter}
 use Rattle.stepping.specs.Steps.{Made, Leaves, RolledBackTo, OpenedTo, CarriedOut, StateKept, Live}
-use Rattle.stepping.proofs.Laws.{gathered, top-lowered, window-lowered, left-less}
+use Rattle.stepping.proofs.Laws.{gathered, counted-back, depth-of, length-lower, top-lowered, window-lowered, left-less}
 
 -- ---- any step
 module _ (w w′ t t′ : List ℕ) (c c′ : Progress) (n : ℕ) (s : Step) (control : Control)
-    (counted : c′ ≡ progressAfter c control (length (s .obs)) (s .back) (s .seen)) where
+    (counted : c′ ≡ progressAfter c control (length (s .obs)) (s .seen)) where
   -- the counts and sets are the rules' log after the step
-  noted : (os : List Observation) → logOf (os ++ s .obs) c′ ≡ note (machineOf w (c .control) n) s (logOf os c)
+  noted : rolledBack control ≡ rolledBack (c .control) + s .back → (os : List Observation) → logOf (os ++ s .obs) c′ ≡ note (machineOf w (c .control) n) s (logOf os c)
   unfolding note
-  noted os =
+  noted R os =
       let P = gathered (entryAt w) (changeAt w) (stateIn w n) (c .control .window) (c .control .log) (c .control .depth) (c .plain) (s .seen) in
       ap (logOf (os ++ s .obs)) counted
       ∙ (λ i. record {
         trace = os ++ s .obs;
         steps = add-one (c .steps) i;
-        rollbacks = c .rollbacks + s .back;
+        rollbacks = R i;
         full = union (c .full) (s .seen);
         plain = P i;
       })
 
   pub made-of : machineOf w′ control n ≡ s .next → Fit w′ control → drop labels w′ ≡ drop labels w
-      → t′ ≡ sets t (2 * c .observations) (traceWords (s .obs)) → s .next .opened ≤ c .control .opened + 1 → s .back ≤ 1
-      → Made n s w w′ t t′ c c′
-  made-of m f r e o b =
+      → t′ ≡ sets t (2 * c .observations) (traceWords (s .obs)) → s .next .opened ≤ c .control .opened + 1
+      → s .next .opened + c .control .depth ≡ c .control .opened + length (s .next .branches) + s .back
+      → (0 < s .back → c .control .depth ≤ c .control .opened) → Made n s w w′ t t′ c c′
+  made-of m f r e o b h =
       let C = ap (λ (x : Progress). x .control) counted in
-      let O = ap (λ (x : Progress). x .control .opened) counted ∙ ap (λ (M : Machine). M .opened) m in
-      let B = ap (λ (x : Progress). x .rollbacks) counted in
+      let O = ap (λ (M : Machine). M .opened) m in
+      let D = depth-of w′ control n ∙ ap (λ (M : Machine). length (M .branches)) m in
+      let O′ = ap (λ (x : Progress). x .control .opened) counted in
+      let D′ = ap (λ (x : Progress). x .control .depth) counted in
       record {
         machine = ap (λ (x : Control). machineOf w′ x n) C ∙ m;
         fits = subst (Fit w′) (sym C) f;
         frame = r;
         trace = e;
         observations = ap (λ (x : Progress). x .observations) counted;
-        log = noted;
+        log = noted (counted-back (c .control .opened) (c .control .depth) (control .opened) (control .depth) (s .back) (omega arith) h);
         opened = omega arith;
-        rollbacks = omega arith;
+        depth = λ l. omega arith;
         steps = ap (λ (x : Progress). x .steps) counted;
       }
 
 -- ---- rule 1
 pub rolled-back : {w w′ t t′ : List ℕ} {c c′ : Progress} {r : RolledBack} {seen : LocationSet} → RollsBack w w′ (c .control) r
-    → t′ ≡ sets t (2 * c .observations) (1 ∷ r .id ∷ 2 ∷ r .target ∷ []) → seen ≡ empty → c′ ≡ progressAfter c (r .control) 2 1 seen
-    → RolledBackTo w w′ t t′ c c′
+    → c .control .depth ≤ c .control .opened → t′ ≡ sets t (2 * c .observations) (1 ∷ r .id ∷ 2 ∷ r .target ∷ []) → seen ≡ empty
+    → c′ ≡ progressAfter c (r .control) 2 seen → RolledBackTo w w′ t t′ c c′
 unfolding rolling traceWords
-rolled-back {w} {w′} {t} {t′} {c} {c′} {r} {seen} m et es ec =
+rolled-back {w} {w′} {t} {t′} {c} {c′} {r} {seen} m h et es ec =
     record {
       made = λ n b bs hn e.
           let I = m .id n b bs e in
           let T = m .target n b bs e in
-          made-of w w′ t t′ c c′ n (rolling (machineOf w (c .control) n) b bs) (r .control) (ec ∙ ap (progressAfter c (r .control) 2 1) es)
-          (m .machine n b bs e) (m .fits) (m .frame) (et ∙ (λ i. sets t (2 * c .observations) (1 ∷ I i ∷ 2 ∷ T i ∷ []))) (omega arith) (omega arith);
+          let D = depth-of w (c .control) n ∙ ap length e in
+          made-of w w′ t t′ c c′ n (rolling (machineOf w (c .control) n) b bs) (r .control) (ec ∙ ap (progressAfter c (r .control) 2) es)
+          (m .machine n b bs e) (m .fits) (m .frame) (et ∙ (λ i. sets t (2 * c .observations) (1 ∷ I i ∷ 2 ∷ T i ∷ []))) (omega arith) (omega arith)
+          (λ z. h);
     }
 
 -- ---- what an instruction leaves of the top's window, in the machine
@@ -102,7 +107,7 @@ pub opened : {w w′ t t′ : List ℕ} {c c′ : Progress} {r window wrong targ
     → Moves w w′ (c .control) control (λ M. openingNext M wrong target window v) → x ≡ taggedAt w r
     → target ≡ branchTo x (l .0) (c .control .place + 1) → wrong ≡ branchTo x (c .control .place + 1) (l .0)
     → Leaves (c .control) (BranchZero r l) v
-    → t′ ≡ sets t (2 * c .observations) (0 ∷ c .control .opened ∷ 2 ∷ wrong ∷ []) → c′ ≡ progressAfter c control 2 0 (x .deps)
+    → t′ ≡ sets t (2 * c .observations) (0 ∷ c .control .opened ∷ 2 ∷ wrong ∷ []) → c′ ≡ progressAfter c control 2 (x .deps)
     → OpenedTo w w′ t t′ r (l .0) window c c′
 unfolding opening traceWords
 opened {w} {w′} {t} {t′} {c} {c′} {r} {window} {wrong} {target} {v} {l} {x} {control} hr m ex eg ew left et ec =
@@ -115,7 +120,7 @@ opened {w} {w′} {t} {t′} {c} {c′} {r} {window} {wrong} {target} {v} {l} {x
           let W = ew ∙ (λ i. branchTo (A i) (N i) (l .0)) in
           let B = branches-left w (c .control) n v (beqz r (l .0)) code (left .exact [] code hc) in
           let U = ap (λ (u : ℕ). windowOn (M .branches) u v) (sym hw) ∙ new-left w (c .control) n v (beqz r (l .0)) code (left .exact [] code hc) in
-          made-of w w′ t t′ c c′ n (opening code M r (l .0)) control (ec ∙ ap (λ (y : Tagged). progressAfter c control 2 0 (y .deps)) A)
+          made-of w w′ t t′ c c′ n (opening code M r (l .0)) control (ec ∙ ap (λ (y : Tagged). progressAfter c control 2 (y .deps)) A)
           (m .machine n hn
           ∙ (λ i. record {
             state = M .state;
@@ -123,7 +128,8 @@ opened {w} {w′} {t} {t′} {c} {c′} {r} {window} {wrong} {target} {v} {l} {x
             branches = record { id = M .opened; saved = M .state; target = G i; window = U i } ∷ B i;
             opened = suc (M .opened);
           }))
-          (m .fits) (m .frame) (et ∙ (λ i. sets t (2 * c .observations) (0 ∷ c .control .opened ∷ 2 ∷ W i ∷ []))) (omega arith) (omega arith);
+          (m .fits) (m .frame) (et ∙ (λ i. sets t (2 * c .observations) (0 ∷ c .control .opened ∷ 2 ∷ W i ∷ []))) (omega arith)
+          (let D = depth-of w (c .control) n in let L = length-lower code (beqz r (l .0)) (M .branches) in omega arith) (λ z. absurd (omega arith));
     }
 
 -- ---- rule 3: from the machine's move to state σ and place q, with v left of the top's window
@@ -132,23 +138,24 @@ module _ {n : ℕ} {w w′ t t′ : List ℕ} {c c′ : Progress} (i : Instructi
     (p : List ℕ) (code : Code) (left : v ≡ remaining code (meaning p i) (c .control .window)) where
   -- the effect x is that state, that place, and what was counted and written
   carried : (x : plain.Effect) → σ ≡ x .state → q ≡ x .place → t′ ≡ sets t (2 * c .observations) (traceWords (x .obs))
-      → c′ ≡ progressAfter c control (length (x .obs)) 0 (x .seen) → Made n (stepWith code (machineOf w (c .control) n) (meaning p i) x) w w′ t t′ c c′
+      → c′ ≡ progressAfter c control (length (x .obs)) (x .seen) → Made n (stepWith code (machineOf w (c .control) n) (meaning p i) x) w w′ t t′ c c′
   carried x es eq et ec =
       let M = machineOf w (c .control) n in
       let B = branches-left w (c .control) n v (meaning p i) code left in
       made-of w w′ t t′ c c′ n (stepWith code M (meaning p i) x) control ec
-      (m ∙ (λ j. record { state = es j; place = eq j; branches = B j; opened = M .opened })) fits frame et (omega arith) (omega arith)
+      (m ∙ (λ j. record { state = es j; place = eq j; branches = B j; opened = M .opened })) fits frame et (omega arith)
+      (let D = depth-of w (c .control) n in let L = length-lower code (meaning p i) (M .branches) in omega arith) (λ z. absurd (omega arith))
 
   -- nothing is shown
-  pub carried-silently : {s : LocationSet} → q ≡ c .control .place + 1 → t′ ≡ t → s ≡ empty → c′ ≡ progressAfter c control 0 0 s
+  pub carried-silently : {s : LocationSet} → q ≡ c .control .place + 1 → t′ ≡ t → s ≡ empty → c′ ≡ progressAfter c control 0 s
       → Made n (stepWith code (machineOf w (c .control) n) (meaning p i) (silent σ (c .control .place))) w w′ t t′ c c′
   unfolding traceWords
   carried-silently eq et es ec =
-      carried (silent σ (c .control .place)) refl (eq ∙ add-one (c .control .place)) et (ec ∙ ap (progressAfter c control 0 0) es)
+      carried (silent σ (c .control .place)) refl (eq ∙ add-one (c .control .place)) et (ec ∙ ap (progressAfter c control 0) es)
 
   -- one observation is shown, of the kind a with the value b
   pub carried-shown : {a b : ℕ} (o : Observation) {s : LocationSet} (τ : State) (r : ℕ) → σ ≡ τ → q ≡ r → a ∷ b ∷ [] ≡ observationWords o
-      → t′ ≡ sets t (2 * c .observations) (a ∷ b ∷ []) → c′ ≡ progressAfter c control 1 0 s
+      → t′ ≡ sets t (2 * c .observations) (a ∷ b ∷ []) → c′ ≡ progressAfter c control 1 s
       → Made n (stepWith code (machineOf w (c .control) n) (meaning p i) (record { state = τ; place = r; obs = o ∷ []; seen = s })) w w′ t t′ c c′
   unfolding traceWords
   carried-shown o {s} τ r es eq eo et ec =
@@ -159,7 +166,7 @@ module _ {n : ℕ} {w w′ t t′ : List ℕ} {c c′ : Progress} (i : Instructi
 module _ {w w′ t t′ : List ℕ} {c c′ : Progress} {i : Instruction} {v : ℕ} {control : Control} (l : ℕ) (x : Tagged) (leaves : Leaves (c .control) i v)
     (m : Moves w w′ (c .control) control (λ M. ordinaryNext M (put (M .state) l x) (c .control .place + 1) v)) (n : ℕ) (most : n ≤ limit)
     (p : List ℕ) (code : Code) (costs : code .costs ≡ windowCosts) where
-  pub assigned : (r : ℕ) {s : LocationSet} → l ≡ r → t′ ≡ t → s ≡ empty → c′ ≡ progressAfter c control 0 0 s
+  pub assigned : (r : ℕ) {s : LocationSet} → l ≡ r → t′ ≡ t → s ≡ empty → c′ ≡ progressAfter c control 0 s
       → Made n (stepWith code (machineOf w (c .control) n) (meaning p i) (silent (put (stateIn w n) r x) (c .control .place))) w w′ t t′ c c′
   assigned r el et es ec =
       let m′ = m .machine n most ∙ (λ j. ordinaryNext (machineOf w (c .control) n) (put (stateIn w n) (el j) x) (c .control .place + 1) v) in
@@ -167,7 +174,7 @@ module _ {w w′ t t′ : List ℕ} {c c′ : Progress} {i : Instruction} {v : �
 
   -- and shows an observation
   pub assigned-shown : {a b : ℕ} (o : Observation) {s : LocationSet} (r : ℕ) (y : Tagged) → l ≡ r → x ≡ y → a ∷ b ∷ [] ≡ observationWords o
-      → t′ ≡ sets t (2 * c .observations) (a ∷ b ∷ []) → c′ ≡ progressAfter c control 1 0 s
+      → t′ ≡ sets t (2 * c .observations) (a ∷ b ∷ []) → c′ ≡ progressAfter c control 1 s
       → Made n (stepWith code (machineOf w (c .control) n) (meaning p i)
       (record { state = put (stateIn w n) r y; place = suc (c .control .place); obs = o ∷ []; seen = s })) w w′ t t′ c c′
   assigned-shown o r y el ex eo et ec =
@@ -177,11 +184,11 @@ module _ {w w′ t t′ : List ℕ} {c c′ : Progress} {i : Instruction} {v : �
 -- ---- rule 3 for an instruction that changes no location
 -- from what the callees give
 pub kept : {c c′ : Progress} {i : Instruction} {q k v : ℕ} {control : Control} {s s′ : LocationSet} → Leaves (c .control) i v
-    → control ≡ gone (c .control) q v → s′ ≡ s → c′ ≡ progressAfter c control k 0 s′ → StateKept q k s i c c′
+    → control ≡ gone (c .control) q v → s′ ≡ s → c′ ≡ progressAfter c control k s′ → StateKept q k s i c c′
 kept {c} {c′} {i} {q} {k} left eg es ec = record {
   exact = λ p code costs.
       let L = left .exact p code costs in
-      ec ∙ (λ j. progressAfter c ((eg ∙ (λ u. gone (c .control) q (L u))) j) k 0 (es j));
+      ec ∙ (λ j. progressAfter c ((eg ∙ (λ u. gone (c .control) q (L u))) j) k (es j));
 }
 
 lower-window : {w : List ℕ} {c : Progress} (i : Instr) → Live w c → (code : Code) → code .costs ≡ windowCosts → 0 < c .control .depth

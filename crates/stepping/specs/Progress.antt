@@ -1,7 +1,7 @@
 -- What a run has come to: the code's progress, as the rules' log.
 -- Assumes nothing.
 use mathlib.Core.List.{List}
-use Prim.Native.Nat.{ℕ, zero, suc, _+_}
+use Prim.Native.Nat.{ℕ, zero, suc, _+_, _-_}
 use Rattle.location.specs.declared.LocationSet.{LocationSet}
 use Rattle.location.specs.Sets.{union}
 use Rattle.rules.specs.Rules.Instructions.{Observation}
@@ -9,22 +9,25 @@ use Rattle.rules.specs.Rules.Runs.{Log}
 use Rattle.work.specs.declared.machine.Control.{Control}
 use Rattle.stepping.specs.declared.Progress.{Progress}
 
+-- the branches that were rolled back: every other one that was opened is open
+abbrev pub rolledBack : Control → ℕ
+rolledBack k = k .opened - k .depth
+
 -- the rules' log, with the observations that stand in the trace area
 abbrev pub logOf : List Observation → Progress → Log
-logOf os c = record { trace = os; steps = c .steps; rollbacks = c .rollbacks; full = c .full; plain = c .plain }
+logOf os c = record { trace = os; steps = c .steps; rollbacks = rolledBack (c .control); full = c .full; plain = c .plain }
 
 -- the plain set, with so many branches open
 abbrev pub gatherAt : ℕ → LocationSet → LocationSet → LocationSet
 gatherAt zero plain s = union plain s
 gatherAt (suc d) plain s = plain
 
--- after a step that leads to a control, makes so many observations and rollbacks, and rests on a set
-abbrev pub progressAfter : Progress → Control → ℕ → ℕ → LocationSet → Progress
-progressAfter c control observations rollbacks seen = record {
+-- after a step that leads to a control, makes so many observations, and rests on a set
+abbrev pub progressAfter : Progress → Control → ℕ → LocationSet → Progress
+progressAfter c control observations seen = record {
   control = control;
   observations = c .observations + observations;
   steps = c .steps + 1;
-  rollbacks = c .rollbacks + rollbacks;
   full = union (c .full) seen;
   plain = gatherAt (c .control .depth) (c .plain) seen;
 }

@@ -22,11 +22,11 @@ use Rattle.instruction.specs.Meaning.{meaning}
 use Rattle.stepping.specs.declared.Progress.{Progress}
 use Rattle.stepping.specs.Progress.{logOf, progressAfter}
 
--- The counts stay far below 2 ^ 64: no more branches were opened, and no more rollbacks made, than steps; and the trace area has
--- the observations made.
+-- The counts stay far below 2 ^ 64: no more branches were opened than steps made. No more are open than were opened, and the trace
+-- area has the observations made.
 pub record Counted (c : Progress) (t : List ℕ) : Type 0 where
   pub opened : c .control .opened ≤ c .steps
-  pub rollbacks : c .rollbacks ≤ c .steps
+  pub depth : c .control .depth ≤ c .control .opened
   pub steps : c .steps ≤ 1000000
   pub room : 2 * c .observations ≤ length t
 
@@ -39,7 +39,7 @@ pub record Made (n : ℕ) (s : Step) (w w′ t t′ : List ℕ) (c c′ : Progre
   pub observations : c′ .observations ≡ c .observations + length (s .obs)
   pub log : (os : List Observation) → logOf (os ++ s .obs) c′ ≡ note (machineOf w (c .control) n) s (logOf os c)
   pub opened : c′ .control .opened ≤ c .control .opened + 1
-  pub rollbacks : c′ .rollbacks ≤ c .rollbacks + 1
+  pub depth : c .control .depth ≤ c .control .opened → c′ .control .depth ≤ c′ .control .opened
   pub steps : c′ .steps ≡ c .steps + 1
 
 -- rule 1 on the top branch
@@ -61,7 +61,7 @@ pub record CarriedOut (w w′ t t′ : List ℕ) (cells : ℕ) (i : Instruction)
 -- The progress after an instruction that changes no location and goes to a place, with so many observations, which rest on s.
 pub record StateKept (place observations : ℕ) (s : LocationSet) (i : Instruction) (c c′ : Progress) : Type 0 where
   pub exact : (p : List ℕ) (code : Code) → code .costs ≡ windowCosts
-      → c′ ≡ progressAfter c (gone (c .control) place (remaining code (meaning p i) (c .control .window))) observations 0 s
+      → c′ ≡ progressAfter c (gone (c .control) place (remaining code (meaning p i) (c .control .window))) observations s
 
 -- The words fit, and an open branch has some window left.
 pub record Live (w : List ℕ) (c : Progress) : Type 0 where

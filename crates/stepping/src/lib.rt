@@ -26,12 +26,12 @@ ghost use Rattle.work.specs.Moves.{ordinaryNext, MovesAt};
 ghost use Rattle.stepping.specs.Progress.{gatherAt, progressAfter};
 ghost use Rattle.stepping.specs.Steps.{Counted, Live, Steppable, Leaves, RolledBackTo, OpenedTo, CarriedOut, StateKept};
 
-// Where a run stands: the machine's control, the counts, the full set and the plain set.
+// Where a run stands: the machine's control, the counts, the full set and the plain set. Every branch that was opened is open or rolled
+// back, so that the rollbacks are not counted.
 pub struct Progress {
     pub control: Control,
     pub observations: usize,
     pub steps: usize,
-    pub rollbacks: usize,
     pub full: LocationSet,
     pub plain: LocationSet,
 }
@@ -65,16 +65,10 @@ fn gather_plain(depth: usize, plain: LocationSet, seen: LocationSet) -> Location
     plain
 }
 
-// One step is counted, with its observations and rollbacks; the set that it rests on is gathered.
-fn count_step(
-    c: Progress,
-    control: Control,
-    observations: usize,
-    rollbacks: usize,
-    seen: LocationSet,
-) -> Progress
-    requires { ⌜ (c .observations + observations < 2 ^ 64) × (c .steps + 1 < 2 ^ 64) × (c .rollbacks + rollbacks < 2 ^ 64) ⌝ }
-    ensures { λ r. ⌜ r ≡ progressAfter c control observations rollbacks seen ⌝ }
+// One step is counted, with its observations; the set that it rests on is gathered.
+fn count_step(c: Progress, control: Control, observations: usize, seen: LocationSet) -> Progress
+    requires { ⌜ (c .observations + observations < 2 ^ 64) × (c .steps + 1 < 2 ^ 64) ⌝ }
+    ensures { λ r. ⌜ r ≡ progressAfter c control observations seen ⌝ }
 {
     let before = c.control;
     let full = c.full;
@@ -83,7 +77,6 @@ fn count_step(
         control,
         observations: c.observations + observations,
         steps: c.steps + 1,
-        rollbacks: c.rollbacks + rollbacks,
         full: full.union(seen),
         plain: gather_plain(before.depth, plain, seen),
     }
@@ -98,7 +91,7 @@ pub fn roll_back(work: &mut [u64], trace: &mut [u64], c: Progress) -> Progress
     let r = work::machine::roll_back(&mut work[..], control);
     observe_branch(&mut trace[..], c.observations, ROLLBACK, r.id, r.target);
     let next = r.control;
-    count_step(c, next, 2, 1, LocationSet::empty())
+    count_step(c, next, 2, LocationSet::empty())
 }
 
 // What an instruction leaves of the top's window.
@@ -129,7 +122,7 @@ pub fn open_branch(
     let opened = work::machine::open_branch(&mut work[..], control, wrong, target, w, remaining);
     observe_branch(&mut trace[..], c.observations, START, control.opened, wrong);
     let seen = t.deps;
-    count_step(c, opened, 2, 0, seen)
+    count_step(c, opened, 2, seen)
 }
 
 // Rule 3 for an instruction that changes no location and shows nothing.
@@ -141,7 +134,7 @@ pub fn skip(c: Progress, i: Instruction) -> Progress
     let control = c.control;
     let remaining = remaining_window(control, i);
     let next = work::machine::go(control, control.place + 1, remaining);
-    count_step(c, next, 0, 0, LocationSet::empty())
+    count_step(c, next, 0, LocationSet::empty())
 }
 
 // Rule 3 for an instruction that gives register r the word v and shows nothing.
@@ -154,7 +147,7 @@ pub fn assign(work: &mut [u64], c: Progress, i: Instruction, r: u8, v: Tagged) -
     let l = Location::register(r);
     let place = control.place + 1;
     let next = work::machine::assign(&mut work[..], control, l, v, place, remaining);
-    count_step(c, next, 0, 0, LocationSet::empty())
+    count_step(c, next, 0, LocationSet::empty())
 }
 
 // Rule 3 for a load of register r from the address a.
@@ -178,7 +171,7 @@ pub fn load(
     let next = work::machine::assign(&mut work[..], control, to, v, place, remaining);
     observe(&mut trace[..], c.observations, LOAD, a.value);
     let seen = a.deps;
-    count_step(c, next, 1, 0, seen)
+    count_step(c, next, 1, seen)
 }
 
 // The move of a store of register r at the address a, with so much left of the top's window: the cell takes the register, if there is
@@ -223,7 +216,7 @@ pub fn store(
     let next = store_word(&mut work[..], control, cells, r, a, remaining);
     observe(&mut trace[..], c.observations, STORE, a.value);
     let address_set = a.deps;
-    count_step(c, next, 1, 0, address_set)
+    count_step(c, next, 1, address_set)
 }
 
 // Rule 3 for a jump or a branch to a place, which rests on v.
@@ -237,5 +230,5 @@ pub fn go_to(trace: &mut [u64], c: Progress, i: Instruction, place: usize, v: Ta
     let next = work::machine::go(control, place, remaining);
     observe(&mut trace[..], c.observations, PC, place as u64);
     let seen = v.deps;
-    count_step(c, next, 1, 0, seen)
+    count_step(c, next, 1, seen)
 }

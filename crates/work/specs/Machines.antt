@@ -1,7 +1,7 @@
 -- The rules' machine in the working words: a function of the words and of the control, so that whatever the words hold is some
 -- machine. What a branch saved is what undoing the changes since gives.
 -- Assumes nothing.
-use mathlib.Core.Path.{_≡_}
+use mathlib.Core.Path.{_≡_, refl, ap}
 use mathlib.Core.List.{List, [], _∷_}
 use Prim.Native.Nat.{ℕ, zero, suc, _+_, _-_, _≤_}
 use lib.ListN.{length}
@@ -38,6 +38,10 @@ branchesOf e g σ v k zero = []
 branchesOf e g σ v k (suc d) =
     record { id = e d .id; saved = savedAt g σ k (e d .mark); target = e d .target; window = v }
     ∷ branchesOf e g (savedAt g σ k (e d .mark)) (e d .outer) (e d .mark) d
+
+pub branches-length : (e : ℕ → BranchEntry) (g : ℕ → Change) (σ : State) (v k d : ℕ) → length (branchesOf e g σ v k d) ≡ d
+branches-length e g σ v k zero = refl
+branches-length e g σ v k (suc d) = ap suc (branches-length e g _ _ _ d)
 
 -- the machine with n locations
 abbrev pub machineOf : List ℕ → Control → ℕ → Machine

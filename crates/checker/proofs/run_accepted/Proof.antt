@@ -30,7 +30,7 @@ public-list-requires : tie.Need-public-list-requires
 public-list-requires c κs = let f = accepted-length (c .before .before .before .before .before .before .before .before .before .before .before .before .before .before .before .before .before .before .before .pre) in omega arith
 
 report-requires : tie.Need-report-requires
-report-requires c κs = search needs
+report-requires c κs = let k = c .before .before .before .before .before .before .before .before .before .before .before .before .before .before .before .before .before .before .before .before .pre in c .before .before .before .before .before .before .before .run-in-areas .ensures .ran (k .job) (k .parsed) .depth
 
 same-length : tie.Need-same-length
 same-length c = search needs

@@ -21,7 +21,6 @@ returns c =
       control = record { place = 0; depth = 0; log = 0; opened = 0; window = 0 };
       observations = 0;
       steps = 0;
-      rollbacks = 0;
       full = f;
       plain = g;
     })

@@ -1,7 +1,7 @@
 -- `pair::compare_runs` meets its contract: two runs one after the other over the same working words. Assumes nothing.
 use native.Mathlib.Omega.{arith}
 use Rattle.job_run.specs.Accepted.{accepted-list, accepted-length}
-use Rattle.pair.proofs.Laws.{first-fits, second-fits, exact-compared}
+use Rattle.pair.proofs.Laws.{first-fits, second-fits, first-depth, second-depth, exact-compared}
 use borrow.Author.Needs.{needs}
 use Rattle.pair.proofs.compare_runs.Statement.{statement}
 use Rattle.pair.proofs.compare_runs.Tie as tie
@@ -29,7 +29,14 @@ compared-requires c κs =
     let k = c .before .before .before .before .before .before .before .before .before .before .before .before .before .before .before .before .before .before .before .before .before .before .before .before .before .pre in
     let o = c .before .before .before .before .before .before .before .before .before .before .before .before .before .before .before .before .before .run-state .ensures in
     let o′ = c .before .before .before .before .before .before .before .before .before .before .run-state2 .ensures in
-    record { accepts = k .accepts; sized = k .sized; first-fits = first-fits k o o′; second-fits = second-fits k o o′ }
+    record {
+      accepts = k .accepts;
+      sized = k .sized;
+      first-fits = first-fits k o o′;
+      second-fits = second-fits k o o′;
+      first-depth = first-depth k o o′;
+      second-depth = second-depth k o o′;
+    }
 
 same-length : tie.Need-same-length
 same-length c = search needs

@@ -23,10 +23,10 @@ alike-bytes-requires c κs =
     (omega arith, omega arith)
 
 counts-of-requires : tie.Need-counts-of-requires
-counts-of-requires c κs = search needs
+counts-of-requires c κs = c .before .before .before .before .before .before .before .pre .first-depth
 
 counts-of-requires-2 : tie.Need-counts-of-requires-2
-counts-of-requires-2 c κs = search needs
+counts-of-requires-2 c κs = c .before .before .before .before .before .before .before .before .pre .second-depth
 
 mul-k : tie.Need-mul-k
 mul-k c = let e = ap (λ (n : Counts). n .observations) (c .before .before .counts-of .ensures) in let f = c .before .before .before .before .before .before .before .before .before .before .pre .first-fits in omega (arith, e, f, c .before .before .before .before .before .before .before .before .before .before .good)
