@@ -1,30 +1,29 @@
 -- Where each part of the state stands in the working words: the first word of each. src/lib.rt has the same numbers as constants.
 -- Assumes nothing.
-use Prim.Native.Nat.{ℕ, _+_, _-_, _*_}
+use Prim.Native.Nat.{ℕ, _+_, _*_}
 
 -- words 0 to 1279: 256 operands of 5 words, by location: the value, then the four words of its set
 abbrev pub operandBase : ℕ → ℕ
 operandBase l = 5 * l
 
--- words 1280 to 2485: the log of changes upwards, 6 words each: the location, then its operand of before
+-- words 1280 to 2485: the log of 201 changes of 6 words: the location, then its operand of before
 abbrev pub logBase : ℕ
 logBase = 1280
 
 abbrev pub changeBase : ℕ → ℕ
 changeBase k = logBase + 6 * k
 
--- and the open branches downwards, 4 words each: id, target, what was left of the window of the branch below when it was opened (of
--- the first it means nothing), and the length of the log then. The first one stands 1202 words past the log's first; no number brings
--- one below that word.
+-- words 2486 to 3289: 201 open branches of 4 words, the first one first: id, target, what was left of the window of the branch below
+-- when it was opened (of the first it means nothing), and the length of the log then
 abbrev pub firstBranch : ℕ
-firstBranch = 1202
+firstBranch = 2486
 
 abbrev pub branchBase : ℕ → ℕ
-branchBase k = logBase + (firstBranch - 4 * k)
+branchBase k = firstBranch + 4 * k
 
--- words 2486 to 2997: the byte offset of each label; words 2998 to 4095 are free
+-- words 3290 to 3801: the byte offset of each of 512 labels; words 3802 to 4095 are free
 abbrev pub labels : ℕ
-labels = 2486
+labels = 3290
 
 abbrev pub labelBase : ℕ → ℕ
 labelBase i = labels + i

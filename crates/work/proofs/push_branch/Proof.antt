@@ -10,9 +10,6 @@ use Rattle.work.proofs.push_branch.Tie as tie
 mul-at : tie.Need-mul-at
 mul-at c = search needs
 
-sub-at : tie.Need-sub-at
-sub-at c = search needs
-
 add-at : tie.Need-add-at
 add-at c = search needs
 
@@ -62,7 +59,6 @@ push-branch-spec =
     tie.close
     (tie.spec
     mul-at
-    sub-at
     add-at
     mul-work
     slice-write-work
