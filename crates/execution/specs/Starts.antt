@@ -27,7 +27,7 @@ use Rattle.execution.specs.Turns.{stepBy, codeOf, Loaded, Running}
 -- nothing is done yet
 unfoldable pub beginning : Progress
 beginning = record {
-  control = record { place = 0; depth = 0; log = 0; opened = 0; window = 0 };
+  control = record { place = 0; depth = 0; log = 0; opened = 0; window = 1 };
   observations = 0;
   steps = 0;
   full = empty;
@@ -47,7 +47,7 @@ running-start p t mode w a l h =
     record {
       ready = record {
         loaded = l;
-        fits = record { room = h; bound = refl };
+        fits = record { room = h; bound = (refl, omega arith) };
         counted = record { opened = omega arith; depth = omega arith; steps = omega arith; room = omega arith };
         budget = omega arith;
         closed = λ e. refl;

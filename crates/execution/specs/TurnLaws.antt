@@ -34,7 +34,7 @@ use Rattle.work.specs.declared.BranchEntry.{BranchEntry}
 use Rattle.work.specs.declared.machine.Control.{Control}
 use Rattle.work.specs.Layout.{labels}
 use Rattle.work.specs.Words.{changeAt, entryAt}
-use Rattle.work.specs.Machines.{stateIn, branchesOf, branches-length, machineOf}
+use Rattle.work.specs.Machines.{stateIn, branchesOf, branches-length, machineOf, WindowBound, Fit}
 use Rattle.work.specs.Moves.{expiredOn}
 use Rattle.stepping.specs.declared.Progress.{Progress}
 use Rattle.stepping.specs.Progress.{logOf}
@@ -121,6 +121,14 @@ not-expired end w c n h = go (c .depth) h
         → (0 < c .window) × (c .place < end)
     go zero h lt = absurd (omega arith)
     go (suc d) h lt = pick (c .window) (eqb (c .window) 0) (leb end (c .place)) refl refl h
+
+-- there is some window left, with a branch open and with none
+pub some-left : {w : List ℕ} (c : Control) → Fit w c → (0 < c .depth → 0 < c .window) → 0 < c .window
+some-left {w} c f = go (c .depth) (f .bound)
+  where
+    go : (d : ℕ) → WindowBound (entryAt w) (c .window) d (c .log) → (0 < d → 0 < c .window) → 0 < c .window
+    go zero b h = b .1
+    go (suc d) b h = h (omega arith)
 
 -- the test of END with nothing open
 pub closed-true : (d end p : ℕ) → closedAt d end p ≡ true → (d ≡ 0) × (end ≤ p)
@@ -240,7 +248,7 @@ module _ (p : List ℕ) (t : Trailer) (mode : Mode) (w area : List ℕ) (c : Pro
         rw f
         (rw (zero-add (c .control .place)) at (labelled (t .count) (t .count) 0 p 0 (r .loaded .accepted) (c .control .place) inside))
 
-    pub advancing : (0 < c .control .depth → 0 < c .control .window) → Advancing p t w area i c
+    pub advancing : 0 < c .control .window → Advancing p t w area i c
     advancing live = record {
       can = record {
         live = record { fits = r .fits; window = live };

@@ -274,7 +274,7 @@ fn take_turn(
     advance(p, t, mode, &mut work[..], &mut trace[..], c, i)
 }
 
-// Nothing is done yet.
+// Nothing is done yet. With nothing open the window is not 0.
 fn start() -> Progress
     ensures { λ r. ⌜ r ≡ beginning ⌝ }
 {
@@ -284,7 +284,7 @@ fn start() -> Progress
             depth: 0,
             log: 0,
             opened: 0,
-            window: 0,
+            window: 1,
         },
         observations: 0,
         steps: 0,

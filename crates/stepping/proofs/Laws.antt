@@ -1,6 +1,6 @@
 -- What the code's counts, stores and windows are in the rules.
 -- Assumes nothing.
-use mathlib.Core.Path.{_≡_, refl, sym, ap, _∙_}
+use mathlib.Core.Path.{_≡_, refl, sym, ap, _∙_, subst}
 use mathlib.Core.List.{List, [], _∷_}
 use Prim.Native.Nat.{ℕ, zero, suc, _+_, _-_, _*_, _<_, _≤_}
 use native.Mathlib.Omega.{arith}
@@ -17,11 +17,12 @@ use Rattle.instruction.specs.declared.Instruction.{Instruction}
 use Rattle.instruction.specs.Meaning.{meaning}
 use Rattle.work.specs.declared.BranchEntry.{BranchEntry}
 use Rattle.work.specs.declared.machine.Control.{Control}
-use Rattle.work.specs.Words.{entryAt, changeAt}
-use Rattle.work.specs.Machines.{stateIn, branchesOf, branches-length, machineOf}
+use Rattle.work.specs.Words.{entryAt, changeAt, windowAt}
+use Rattle.work.specs.Machines.{stateIn, branchesOf, branches-length, machineOf, Left}
 use Rattle.work.specs.Moves.{lowerTo, windowOn}
+use Rattle.work.proofs.Moves.{at-above}
 use Rattle.stepping.specs.Progress.{gatherAt}
-use Rattle.stepping.specs.Steps.{Leaves}
+use Rattle.stepping.specs.Steps.{leftBy, Leaves}
 
 -- ---- the plain set, by the number of open branches
 pub gathers-plain : (d : ℕ) (plain s : LocationSet) → d ≡ 0 → union plain s ≡ gatherAt d plain s
@@ -63,14 +64,14 @@ stored-twice t t₁ t₂ k a b x y e₁ e₂ =
 -- ---- the window
 -- what is left of the top's, where it was v
 pub top-lowered : (code : Code) (i : Instr) (e : ℕ → BranchEntry) (g : ℕ → Change) (σ : State) (v k d : ℕ)
-    → lowerTo (remaining code i v) (branchesOf e g σ v k d) ≡ lower code i (branchesOf e g σ v k d)
+    → lowerTo (windowAt d v (remaining code i v)) (branchesOf e g σ v k d) ≡ lower code i (branchesOf e g σ v k d)
 unfolding lower
 top-lowered code i e g σ v k zero = refl
 top-lowered code i e g σ v k (suc d) = refl
 
 -- a new branch's window
 pub window-lowered : (code : Code) (i : Instr) (e : ℕ → BranchEntry) (g : ℕ → Change) (σ : State) (v k d : ℕ)
-    → windowOn (branchesOf e g σ v k d) (code .window) (remaining code i v) ≡ newWindow code (lower code i (branchesOf e g σ v k d))
+    → windowOn (branchesOf e g σ v k d) (code .window) (windowAt d v (remaining code i v)) ≡ newWindow code (lower code i (branchesOf e g σ v k d))
 unfolding lower newWindow
 window-lowered code i e g σ v k zero = refl
 window-lowered code i e g σ v k (suc d) = refl
@@ -79,11 +80,32 @@ window-lowered code i e g σ v k (suc d) = refl
 pub left-less : (code : Code) → code .costs ≡ windowCosts → (i : Instr) (v : ℕ) → 0 < v → remaining code i v < v
 left-less code costs i v h = omega (arith, remaining-less code (rw costs windowCosts-positive) i v (λ z. omega arith))
 
+-- with d branches open
+at-less : (d u v : ℕ) → 0 < d → v < u → windowAt d u v < u
+at-less zero u v d h = absurd (omega arith)
+at-less (suc n) u v d h = h
+
+pub left-some : (code : Code) → code .costs ≡ windowCosts → (i : Instr) (c : Control) → 0 < c .window → Left c (leftBy code i c)
+left-some code costs i c h = record {
+  less = λ d. at-less (c .depth) (c .window) (remaining code i (c .window)) d (left-less code costs i (c .window) h);
+  some = λ z. subst (λ (d : ℕ). 0 < windowAt d (c .window) (remaining code i (c .window))) (sym z) h;
+}
+
+-- what the code finds, with nothing open and else
 pub leaves : (c : Control) (i : Instruction) (v : ℕ)
+    → ((p : List ℕ) (code : Code) → code .costs ≡ windowCosts → v ≡ leftBy code (meaning p i) c) → Leaves c i v
+leaves c i v exact = record {
+  exact = exact;
+  left = λ h.
+      let any : Code = record { prog = []; cells = 0; window = 0; costs = windowCosts } in
+      subst (Left c) (sym (exact [] any refl)) (left-some any refl (meaning [] i) c h);
+}
+
+pub closed-leaves : (c : Control) (i : Instruction) → c .depth ≡ 0 → Leaves c i (c .window)
+closed-leaves c i z =
+    leaves c i (c .window) (λ p code costs. ap (λ (d : ℕ). windowAt d (c .window) (remaining code (meaning p i) (c .window))) (sym z))
+
+pub open-leaves : (c : Control) (i : Instruction) (v : ℕ) → (c .depth ≡ 0 → ⊥)
     → ((p : List ℕ) (code : Code) → code .costs ≡ windowCosts → v ≡ remaining code (meaning p i) (c .window)) → Leaves c i v
-leaves c i v exact = record { exact = exact; less = less }
-  where
-    less : 0 < c .window → v < c .window
-    less h =
-        let any : Code = record { prog = []; cells = 0; window = 0; costs = windowCosts } in
-        omega (arith, exact [] any refl, left-less any refl (meaning [] i) (c .window) h)
+open-leaves c i v o e =
+    leaves c i v (λ p code costs. e p code costs ∙ at-above (c .depth) (c .window) (remaining code (meaning p i) (c .window)) o)

@@ -30,8 +30,8 @@ use Rattle.work.proofs.States.{state-at}
 use Rattle.work.proofs.Moves.{go-law}
 use Rattle.stepping.specs.declared.Progress.{Progress}
 use Rattle.stepping.specs.Progress.{logOf, rolledBack, progressAfter}
-use Rattle.stepping.specs.Steps.{Made, Leaves, RolledBackTo, OpenedTo, CarriedOut, StateKept, Live}
-use Rattle.stepping.proofs.Laws.{gathered, counted-back, depth-of, length-lower, top-lowered, window-lowered, left-less}
+use Rattle.stepping.specs.Steps.{Made, leftBy, Leaves, RolledBackTo, OpenedTo, CarriedOut, StateKept, Live}
+use Rattle.stepping.proofs.Laws.{gathered, counted-back, depth-of, length-lower, top-lowered, window-lowered, left-some}
 
 -- ---- any step
 module _ (w w′ t t′ : List ℕ) (c c′ : Progress) (n : ℕ) (s : Step) (control : Control)
@@ -89,7 +89,7 @@ rolled-back {w} {w′} {t} {t′} {c} {c′} {r} {seen} m h et es ec =
     }
 
 -- ---- what an instruction leaves of the top's window, in the machine
-module _ (w : List ℕ) (c : Control) (n v : ℕ) (i : Instr) (code : Code) (left : v ≡ remaining code i (c .window)) where
+module _ (w : List ℕ) (c : Control) (n v : ℕ) (i : Instr) (code : Code) (left : v ≡ leftBy code i c) where
   abbrev open-branches : List Branch
   open-branches = machineOf w c n .branches
 
@@ -135,7 +135,7 @@ opened {w} {w′} {t} {t′} {c} {c′} {r} {window} {wrong} {target} {v} {l} {x
 -- ---- rule 3: from the machine's move to state σ and place q, with v left of the top's window
 module _ {n : ℕ} {w w′ t t′ : List ℕ} {c c′ : Progress} (i : Instruction) {v q : ℕ} {control : Control} {σ : State}
     (m : machineOf w′ control n ≡ ordinaryNext (machineOf w (c .control) n) σ q v) (fits : Fit w′ control) (frame : drop labels w′ ≡ drop labels w)
-    (p : List ℕ) (code : Code) (left : v ≡ remaining code (meaning p i) (c .control .window)) where
+    (p : List ℕ) (code : Code) (left : v ≡ leftBy code (meaning p i) (c .control)) where
   -- the effect x is that state, that place, and what was counted and written
   carried : (x : plain.Effect) → σ ≡ x .state → q ≡ x .place → t′ ≡ sets t (2 * c .observations) (traceWords (x .obs))
       → c′ ≡ progressAfter c control (length (x .obs)) (x .seen) → Made n (stepWith code (machineOf w (c .control) n) (meaning p i) x) w w′ t t′ c c′
@@ -191,16 +191,12 @@ kept {c} {c′} {i} {q} {k} left eg es ec = record {
       ec ∙ (λ j. progressAfter c ((eg ∙ (λ u. gone (c .control) q (L u))) j) k (es j));
 }
 
-lower-window : {w : List ℕ} {c : Progress} (i : Instr) → Live w c → (code : Code) → code .costs ≡ windowCosts → 0 < c .control .depth
-    → remaining code i (c .control .window) ≤ c .control .window
-lower-window {c = c} i live code costs d = omega (arith, left-less code costs i (c .control .window) (live .window d))
-
 module _ {w t : List ℕ} {c c′ : Progress} {i : Instruction} {cells : ℕ} (live : Live w c) (most : registers + cells ≤ limit) where
   pub kept-silently : StateKept (c .control .place + 1) 0 empty i c c′ → CarriedOut w w t t cells i (λ code σ. silent σ (c .control .place)) c c′
   kept-silently h = record {
     made = λ p code ec costs.
-        let v = remaining code (meaning p i) (c .control .window) in
-        let m = go-law w (c .control) (c .control .place + 1) v (live .fits) (lower-window (meaning p i) live code costs) in
+        let v = leftBy code (meaning p i) (c .control) in
+        let m = go-law w (c .control) (c .control .place + 1) v (live .fits) (left-some code costs (meaning p i) (c .control) (live .window)) in
         carried-silently i (m .machine (registers + cells) most) (m .fits) (m .frame) p code refl refl refl refl (h .exact p code costs);
   }
 
@@ -209,8 +205,8 @@ module _ {w t : List ℕ} {c c′ : Progress} {i : Instruction} {cells : ℕ} (l
   kept-shown q x h et = record {
     made = λ p code ec costs.
         let n = registers + cells in
-        let v = remaining code (meaning p i) (c .control .window) in
-        let m = go-law w (c .control) q v (live .fits) (lower-window (meaning p i) live code costs) in
+        let v = leftBy code (meaning p i) (c .control) in
+        let m = go-law w (c .control) q v (live .fits) (left-some code costs (meaning p i) (c .control) (live .window)) in
         carried i (m .machine n most) (m .fits) (m .frame) p code refl (goEffect (stateIn w n) q x) refl refl et (h .exact p code costs);
   }
 

@@ -7,7 +7,7 @@ use lib.ListN.{length, drop}
 use lib.Seq.{sets}
 use Rattle.location.specs.declared.LocationSet.{LocationSet}
 use Rattle.location.specs.Sets.{registers, limit}
-use Rattle.rules.specs.Rules.Instructions.{Observation, windowCosts}
+use Rattle.rules.specs.Rules.Instructions.{Instr, Observation, windowCosts}
 use Rattle.rules.specs.Rules.Plain.{State, Code}
 use Rattle.rules.specs.Rules.Plain as plain
 use Rattle.rules.specs.Rules.Mispredicting.{Branch, Step, remaining, rolling, opening, stepWith}
@@ -15,7 +15,8 @@ use Rattle.rules.specs.Rules.Runs.{note}
 use Rattle.rules.specs.Rules.Calls.{traceWords}
 use Rattle.work.specs.declared.machine.Control.{Control}
 use Rattle.work.specs.Layout.{labels}
-use Rattle.work.specs.Machines.{stateIn, machineOf, Fit}
+use Rattle.work.specs.Words.{windowAt}
+use Rattle.work.specs.Machines.{stateIn, machineOf, Fit, Left}
 use Rattle.work.specs.Moves.{gone}
 use Rattle.instruction.specs.declared.Instruction.{Instruction}
 use Rattle.instruction.specs.Meaning.{meaning}
@@ -58,15 +59,19 @@ pub record CarriedOut (w w′ t t′ : List ℕ) (cells : ℕ) (i : Instruction)
       → Made (registers + cells)
       (stepWith code (machineOf w (c .control) (registers + cells)) (meaning p i) (rule code (stateIn w (registers + cells)))) w w′ t t′ c c′
 
+-- what an instruction leaves of the top's window; with nothing open the window is kept
+abbrev pub leftBy : Code → Instr → Control → ℕ
+leftBy code i c = windowAt (c .depth) (c .window) (remaining code i (c .window))
+
 -- The progress after an instruction that changes no location and goes to a place, with so many observations, which rest on s.
 pub record StateKept (place observations : ℕ) (s : LocationSet) (i : Instruction) (c c′ : Progress) : Type 0 where
   pub exact : (p : List ℕ) (code : Code) → code .costs ≡ windowCosts
-      → c′ ≡ progressAfter c (gone (c .control) place (remaining code (meaning p i) (c .control .window))) observations s
+      → c′ ≡ progressAfter c (gone (c .control) place (leftBy code (meaning p i) (c .control))) observations s
 
--- The words fit, and an open branch has some window left.
+-- The words fit, and there is some window left.
 pub record Live (w : List ℕ) (c : Progress) : Type 0 where
   pub fits : Fit w (c .control)
-  pub window : 0 < c .control .depth → 0 < c .control .window
+  pub window : 0 < c .control .window
 
 -- What an opening asks: that, small counts, and room in the trace area for so many observations more.
 pub record Steppable (w t : List ℕ) (observations : ℕ) (c : Progress) : Type 0 where
@@ -74,7 +79,7 @@ pub record Steppable (w t : List ℕ) (observations : ℕ) (c : Progress) : Type
   pub counted : Counted c t
   pub more : 2 * (c .observations + observations) ≤ length t
 
--- What instruction i leaves of the top's window: less than there was, if there was any.
+-- What instruction i leaves of the window: with a branch open less than there was, and with none not 0, if there was any.
 pub record Leaves (c : Control) (i : Instruction) (v : ℕ) : Type 0 where
-  pub exact : (p : List ℕ) (code : Code) → code .costs ≡ windowCosts → v ≡ remaining code (meaning p i) (c .window)
-  pub less : 0 < c .window → v < c .window
+  pub exact : (p : List ℕ) (code : Code) → code .costs ≡ windowCosts → v ≡ leftBy code (meaning p i) c
+  pub left : 0 < c .window → Left c v

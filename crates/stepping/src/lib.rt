@@ -21,7 +21,7 @@ ghost use Rattle.location.specs.Sets.{registers, limit, empty};
 ghost use Rattle.rules.specs.Rules.Calls.{traceWords};
 ghost use Rattle.rules.specs.Rules.Instructions.{pc};
 ghost use Rattle.rules.specs.Rules.Plain.{Code, at, put, storedTo, silent, loadEffect, storeEffect, goEffect};
-ghost use Rattle.work.specs.Machines.{maxWindow, Fit};
+ghost use Rattle.work.specs.Machines.{maxWindow, Fit, Left};
 ghost use Rattle.work.specs.Moves.{ordinaryNext, MovesAt};
 ghost use Rattle.stepping.specs.Progress.{gatherAt, progressAfter};
 ghost use Rattle.stepping.specs.Steps.{Counted, Live, Steppable, Leaves, RolledBackTo, OpenedTo, CarriedOut, StateKept};
@@ -94,10 +94,13 @@ pub fn roll_back(work: &mut [u64], trace: &mut [u64], c: Progress) -> Progress
     count_step(c, next, 2, LocationSet::empty())
 }
 
-// What an instruction leaves of the top's window.
+// What an instruction leaves of the top's window. With nothing open the window is kept, so that it is 0 for rule 1 alone.
 fn remaining_window(c: Control, i: Instruction) -> usize
     ensures { λ r. ⌜ Leaves c i r ⌝ }
 {
+    if c.depth == 0 {
+        return c.window;
+    }
     instruction::lowered(c.window as u64, i) as usize
 }
 
@@ -184,7 +187,7 @@ fn store_word(
     a: Tagged,
     remaining: usize,
 ) -> Control
-    requires { ⌜ Fit (now work) c × (0 < c .depth → remaining < c .window) × (c .place + 1 < 2 ^ 64) × (r < registers) × (registers + cells ≤ limit) ⌝ }
+    requires { ⌜ Fit (now work) c × Left c remaining × (c .place + 1 < 2 ^ 64) × (r < registers) × (registers + cells ≤ limit) ⌝ }
     ensures { λ x. ⌜ ((code : Code) → code .cells ≡ cells → MovesAt (registers + cells) (now (work .entry)) (now (work .exit)) c x (λ M. ordinaryNext M (storedTo code (M .state) a (at (M .state) r)) (c .place + 1) remaining)) ⌝ }
 {
     let place = c.place + 1;

@@ -45,9 +45,9 @@ pub top-left : (e : ℕ → BranchEntry) (g : ℕ → Change) (σ : State) (u v 
 top-left e g σ u v k zero = refl
 top-left e g σ u v k (suc d) = refl
 
-pub bound-left : (e : ℕ → BranchEntry) (u v d k : ℕ) → (0 < d → v ≤ u) → WindowBound e u d k → WindowBound e v d k
-bound-left e u v zero k l h = h
-bound-left e u v (suc d) k l h =
+pub bound-left : (e : ℕ → BranchEntry) (u v d k : ℕ) → (0 < d → v < u) → (d ≡ 0 → 0 < v) → WindowBound e u d k → WindowBound e v d k
+bound-left e u v zero k l s h = (h .0, s refl)
+bound-left e u v (suc d) k l s h =
     let a = h .1 in
     let b = l (omega arith) in
     (h .0, omega arith, h .2)

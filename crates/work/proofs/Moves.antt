@@ -17,8 +17,8 @@ use Rattle.work.specs.declared.BranchEntry.{BranchEntry}
 use Rattle.work.specs.declared.machine.Control.{Control}
 use Rattle.work.specs.declared.machine.RolledBack.{RolledBack}
 use Rattle.work.specs.Layout.{operandBase, changeBase, branchBase, labels, logBase}
-use Rattle.work.specs.Words.{taggedAt, stored, changeAt, changed, undone, entryAt, entryStored, windowAfter, taggedWords}
-use Rattle.work.specs.Machines.{stateIn, savedAt, branchesOf, machineOf, maxWindow, WindowBound, Fit}
+use Rattle.work.specs.Words.{taggedAt, stored, changeAt, changed, undone, entryAt, entryStored, windowAt, taggedWords}
+use Rattle.work.specs.Machines.{stateIn, savedAt, branchesOf, machineOf, maxWindow, WindowBound, Fit, Left}
 use Rattle.work.specs.Moves.{lowerTo, windowOn, ordinaryNext, gone, openingNext, Moves, RollsBack}
 use Rattle.work.proofs.Ranges.{drop-sets, drop-past, log-same, entries-same}
 use Rattle.work.proofs.States.{state-stored, drop-undone, length-undone, state-undone, changed-state}
@@ -26,7 +26,7 @@ use Rattle.work.proofs.Laws.{length-changed}
 use Rattle.work.proofs.Branches.{top-left, bound-left, changed-branches, changed-bound, pushed-state, pushed-branches, pushed-bound}
 
 together-bound : (e : ℕ → BranchEntry) (v d k : ℕ) → WindowBound e v d k → k + d ≤ maxWindow + 1
-together-bound e v zero k h = omega arith
+together-bound e v zero k h = let z = h .0 in omega arith
 together-bound e v (suc d) k h = let b = h .1 in omega arith
 
 -- how many changes and branches there are together
@@ -37,30 +37,30 @@ fit-bound {w} {c} f = together-bound (entryAt w) (c .window) (c .depth) (c .log)
 pub moved-to : {w u u′ : List ℕ} {c c′ : Control} {next : Machine → Machine} → u′ ≡ u → Moves w u c c′ next → Moves w u′ c c′ next
 moved-to {w} {u} {u′} {c} {c′} {next} e m = subst (λ (x : List ℕ). Moves w x c c′ next) (sym e) m
 
--- the window of a branch that is opened over d others, where d is not 0
-pub after-above : (d u v : ℕ) → (d ≡ 0 → ⊥) → v ≡ windowAfter d u v
-after-above zero u v h = absurd (h refl)
-after-above (suc d) u v h = refl
+-- with d branches open, where d is not 0
+pub at-above : (d u v : ℕ) → (d ≡ 0 → ⊥) → v ≡ windowAt d u v
+at-above zero u v h = absurd (h refl)
+at-above (suc d) u v h = refl
 
 -- ---- rule 3, with the state as it is
-pub go-law : (w : List ℕ) (c : Control) (p v : ℕ) → Fit w c → (0 < c .depth → v ≤ c .window)
+pub go-law : (w : List ℕ) (c : Control) (p v : ℕ) → Fit w c → Left c v
     → Moves w w c (gone c p v) (λ M. ordinaryNext M (M .state) p v)
 go-law w c p v f b =
     record {
       machine = λ n hn.
           let B = top-left (entryAt w) (changeAt w) (stateIn w n) (c .window) v (c .log) (c .depth) in
           λ t. record { state = stateIn w n; place = p; branches = B t; opened = c .opened };
-      fits = record { room = f .room; bound = bound-left (entryAt w) (c .window) v (c .depth) (c .log) b (f .bound) };
+      fits = record { room = f .room; bound = bound-left (entryAt w) (c .window) v (c .depth) (c .log) (b .less) (b .some) (f .bound) };
       frame = refl;
     }
 
 -- and to a control that is equal
-pub gone-to : (w : List ℕ) {c r : Control} {p v : ℕ} → r ≡ gone c p v → Fit w c → (0 < c .depth → v ≤ c .window)
+pub gone-to : (w : List ℕ) {c r : Control} {p v : ℕ} → r ≡ gone c p v → Fit w c → Left c v
     → Moves w w c r (λ M. ordinaryNext M (M .state) p v)
 gone-to w {c} {r} {p} {v} e f b = subst (λ (x : Control). Moves w w c x (λ M. ordinaryNext M (M .state) p v)) (sym e) (go-law w c p v f b)
 
 -- ---- rule 3, with location l given the word x
-module _ (w : List ℕ) (c : Control) (l p v : ℕ) (x : Tagged) (f : Fit w c) (hl : l < limit) (e : length (x .deps .words) ≡ 4) where
+module _ (w : List ℕ) (c : Control) (l p v : ℕ) (x : Tagged) (f : Fit w c) (b : Left c v) (hl : l < limit) (e : length (x .deps .words) ≡ 4) where
   abbrev k : ℕ
   k = c .log
 
@@ -83,17 +83,17 @@ module _ (w : List ℕ) (c : Control) (l p v : ℕ) (x : Tagged) (f : Fit w c) (
             let S = state-stored w n l x e (omega (arith, f .room)) in
             let B = subst (Lowered w₁ k n) (sym z) refl in
             λ t. record { state = S t; place = p; branches = B t; opened = c .opened };
-        fits = record { room = rw (length-sets w (operandBase l) xs) (f .room); bound = subst (λ (d : ℕ). WindowBound (entryAt w₁) v d k) (sym z) h };
+        fits = record { room = rw (length-sets w (operandBase l) xs) (f .room); bound = subst (λ (d : ℕ). WindowBound (entryAt w₁) v d k) (sym z) (h .0, b .some z) };
         frame = drop-sets xs w (operandBase l) labels (omega (arith, e));
       }
 
-  pub assign-open : (c .depth ≡ 0 → ⊥) → (0 < c .depth → v < c .window)
+  pub assign-open : (c .depth ≡ 0 → ⊥)
       → Moves w (changed w k l x) c (record { place = p; depth = c .depth; log = k + 1; opened = c .opened; window = v })
       (λ M. ordinaryNext M (put (M .state) l x) p v)
-  assign-open o b =
+  assign-open o =
       let d = c .depth - 1 in
       let s : c .depth ≡ suc d = omega (arith, pos-of-ne-zero o) in
-      let b₁ = b (pos-of-ne-zero o) in
+      let b₁ = b .less (pos-of-ne-zero o) in
       let w₁ = changed w k l x in
       let ls = l ∷ taggedWords (taggedAt w l) in
       let h : WindowBound (entryAt w) (c .window) (suc d) k = subst (λ (j : ℕ). WindowBound (entryAt w) (c .window) j k) s (f .bound) in
@@ -114,17 +114,17 @@ module _ (w : List ℕ) (c : Control) (l p v : ℕ) (x : Tagged) (f : Fit w c) (
       }
 
 -- ---- rule 2
-new-window : (e : ℕ → BranchEntry) (g : ℕ → Change) (σ : State) (x k d u v : ℕ) → windowAfter d u v ≡ windowOn (branchesOf e g σ x k d) u v
+new-window : (e : ℕ → BranchEntry) (g : ℕ → Change) (σ : State) (x k d u v : ℕ) → windowAt d u v ≡ windowOn (branchesOf e g σ x k d) u v
 new-window e g σ x k zero u v = refl
 new-window e g σ x k (suc d) u v = refl
 
-new-bound : (e : ℕ → BranchEntry) (x d k u v : ℕ) → WindowBound e x d k → (0 < d → v < x) → u ≤ maxWindow → k + d + windowAfter d u v ≤ maxWindow
-new-bound e x zero k u v h b a = omega arith
+new-bound : (e : ℕ → BranchEntry) (x d k u v : ℕ) → WindowBound e x d k → (0 < d → v < x) → u ≤ maxWindow → k + d + windowAt d u v ≤ maxWindow
+new-bound e x zero k u v h b a = let z = h .0 in omega arith
 new-bound e x (suc d) k u v h b a = let y = h .1 in let z = b (omega arith) in omega arith
 
-module _ (w : List ℕ) (c : Control) (p t u v : ℕ) (f : Fit w c) (b : 0 < c .depth → v < c .window) (a : u ≤ maxWindow) where
-  pub open-bound : c .log + c .depth + windowAfter (c .depth) u v ≤ maxWindow
-  open-bound = new-bound (entryAt w) (c .window) (c .depth) (c .log) u v (f .bound) b a
+module _ (w : List ℕ) (c : Control) (p t u v : ℕ) (f : Fit w c) (b : Left c v) (a : u ≤ maxWindow) where
+  pub open-bound : c .log + c .depth + windowAt (c .depth) u v ≤ maxWindow
+  open-bound = new-bound (entryAt w) (c .window) (c .depth) (c .log) u v (f .bound) (b .less) a
 
   abbrev new : BranchEntry
   new = record { id = c .opened; target = t; outer = v; mark = c .log }
@@ -135,14 +135,14 @@ module _ (w : List ℕ) (c : Control) (p t u v : ℕ) (f : Fit w c) (b : 0 < c .
   abbrev deeper : ℕ → Control
   deeper x = record { place = p; depth = c .depth + 1; log = c .log; opened = c .opened + 1; window = x }
 
-  opened : Moves w w₁ c (deeper (windowAfter (c .depth) u v)) (λ M. openingNext M p t u v)
+  opened : Moves w w₁ c (deeper (windowAt (c .depth) u v)) (λ M. openingNext M p t u v)
   opened =
       let d = c .depth in
       let k = c .log in
-      let x = windowAfter d u v in
+      let x = windowAt d u v in
       let ns = c .opened ∷ t ∷ v ∷ k ∷ [] in
       let r = f .room in
-      let h = bound-left (entryAt w) (c .window) v d k (λ l. let y = b l in omega arith) (f .bound) in
+      let h = bound-left (entryAt w) (c .window) v d k (b .less) (b .some) (f .bound) in
       let i : k + d ≤ maxWindow = omega (arith, open-bound) in
       let H = pushed-bound w 0 k d new (omega arith) r i refl h x open-bound in
       record {
@@ -161,7 +161,7 @@ module _ (w : List ℕ) (c : Control) (p t u v : ℕ) (f : Fit w c) (b : 0 < c .
         frame = drop-sets ns w (branchBase d) labels (omega arith);
       }
 
-  pub open-law : (x : ℕ) → x ≡ windowAfter (c .depth) u v → Moves w w₁ c (deeper x) (λ M. openingNext M p t u v)
+  pub open-law : (x : ℕ) → x ≡ windowAt (c .depth) u v → Moves w w₁ c (deeper x) (λ M. openingNext M p t u v)
   open-law x e = subst (λ (y : ℕ). Moves w w₁ c (deeper y) (λ M. openingNext M p t u v)) (sym e) opened
 
 -- ---- rule 1

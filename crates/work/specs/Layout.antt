@@ -14,7 +14,7 @@ abbrev pub changeBase : ℕ → ℕ
 changeBase k = logBase + 6 * k
 
 -- words 2486 to 3289: 201 open branches of 4 words, the first one first: id, target, what was left of the window of the branch below
--- when it was opened (of the first it means nothing), and the length of the log then
+-- when it was opened (of the first the window with nothing open, which is not 0), and the length of the log then
 abbrev pub firstBranch : ℕ
 firstBranch = 2486
 

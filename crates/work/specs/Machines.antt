@@ -3,7 +3,7 @@
 -- Assumes nothing.
 use mathlib.Core.Path.{_≡_, refl, ap}
 use mathlib.Core.List.{List, [], _∷_}
-use Prim.Native.Nat.{ℕ, zero, suc, _+_, _-_, _≤_}
+use Prim.Native.Nat.{ℕ, zero, suc, _+_, _-_, _<_, _≤_}
 use lib.ListN.{length}
 use Rattle.rules.specs.Rules.Calls.{workingWords}
 use Rattle.rules.specs.Rules.Plain.{State}
@@ -56,14 +56,19 @@ machineOf w c n = record {
 abbrev pub maxWindow : ℕ
 maxWindow = 200
 
--- Of d open branches, the last one with the window v, and a log of k changes: the marks rise with the branches, and with nothing
--- open the log is empty. A change or a branch costs the top at least 1 of its window, so that there are at most 200 changes and 201
+-- Of d open branches, the last one with the window v, and a log of k changes: the marks rise with the branches; with nothing open the
+-- log is empty and the window is not 0. A change or a branch costs the top at least 1 of its window, so that there are at most 200 changes and 201
 -- branches, and changes and branches are at most 201 together.
 abbrev pub WindowBound : (ℕ → BranchEntry) → ℕ → ℕ → ℕ → Type 0
-WindowBound e v zero k = k ≡ 0
+WindowBound e v zero k = (k ≡ 0) × (0 < v)
 WindowBound e v (suc d) k = (e d .mark ≤ k) × (k + d + v ≤ maxWindow) × WindowBound e (e d .outer) d (e d .mark)
 
 -- the working area is long enough, and neither the log nor the branches leave their words
 pub record Fit (w : List ℕ) (c : Control) : Type 0 where
   pub room : workingWords ≤ length w
   pub bound : WindowBound (entryAt w) (c .window) (c .depth) (c .log)
+
+-- v may be left of the window: less than there was with a branch open, and not 0 with none.
+pub record Left (c : Control) (v : ℕ) : Type 0 where
+  pub less : 0 < c .depth → v < c .window
+  pub some : c .depth ≡ 0 → 0 < v

@@ -56,7 +56,8 @@ entryAt w k = record {
 abbrev pub entryStored : List ℕ → ℕ → BranchEntry → List ℕ
 entryStored w k b = sets w (branchBase k) (b .id ∷ b .target ∷ b .outer ∷ b .mark ∷ [])
 
--- the window of a branch that is opened over d others: w over none, else what is left of the last one's
-abbrev pub windowAfter : ℕ → ℕ → ℕ → ℕ
-windowAfter zero w v = w
-windowAfter (suc d) w v = v
+-- with d branches open: w with none, else v. So the window of a new branch, where w is the job's, and what an instruction leaves,
+-- where w is what there was.
+abbrev pub windowAt : ℕ → ℕ → ℕ → ℕ
+windowAt zero w v = w
+windowAt (suc d) w v = v

@@ -30,7 +30,7 @@ pub const LABELS: usize = 3290;
 pub const WORDS: usize = 4096;
 
 // What the words hold of an open branch: `outer` is what was left of the window of the branch below when it was opened (of the first
-// branch it means nothing), and `mark` the length of the log then.
+// branch the window with nothing open), and `mark` the length of the log then.
 pub struct BranchEntry {
     pub id: usize,
     pub target: usize,

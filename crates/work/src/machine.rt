@@ -8,12 +8,12 @@ ghost use mathlib.Core.List.{List};
 ghost use Prim.Native.Nat.{ℕ, _+_, _^_, _<_, _≤_};
 ghost use Rattle.location.specs.Sets.{limit};
 ghost use Rattle.rules.specs.Rules.Plain.{put};
-ghost use Rattle.work.specs.Words.{windowAfter};
-ghost use Rattle.work.specs.Machines.{machineOf, maxWindow, Fit};
+ghost use Rattle.work.specs.Words.{windowAt};
+ghost use Rattle.work.specs.Machines.{machineOf, maxWindow, Fit, Left};
 ghost use Rattle.work.specs.Moves.{Moves, RollsBack, ordinaryNext, gone, openingNext, expiredOn};
 
 // The place, how many branches are open, how many changes are logged, how many branches were opened in all, and the window of the
-// top one, which means nothing with none open.
+// top one; with none open it is kept, and is not 0.
 pub struct Control {
     pub place: usize,
     pub depth: usize,
@@ -56,7 +56,7 @@ pub fn roll_back(work: &mut [u64], c: Control) -> RolledBack
 
 // The window of a branch that is opened over so many others.
 fn new_window(depth: usize, window: usize, remaining: usize) -> usize
-    ensures { λ r. ⌜ r ≡ windowAfter depth window remaining ⌝ }
+    ensures { λ r. ⌜ r ≡ windowAt depth window remaining ⌝ }
 {
     if depth == 0 {
         return window;
@@ -75,7 +75,7 @@ pub fn open_branch(
     remaining: usize,
 ) -> Control
     requires { ⌜ Fit (now work) c ⌝ }
-    requires { ⌜ (0 < c .depth → remaining < c .window) ⌝ }
+    requires { ⌜ Left c remaining ⌝ }
     requires { ⌜ window ≤ maxWindow ⌝ }
     requires { ⌜ c .opened + 1 < 2 ^ 64 ⌝ }
     ensures { λ r. ⌜ Moves (now (work .entry)) (now (work .exit)) c r (λ M. openingNext M wrong target window remaining) ⌝ }
@@ -109,7 +109,7 @@ pub fn assign(
     remaining: usize,
 ) -> Control
     requires { ⌜ Fit (now work) c ⌝ }
-    requires { ⌜ (0 < c .depth → remaining < c .window) ⌝ }
+    requires { ⌜ Left c remaining ⌝ }
     requires { ⌜ l .0 < limit ⌝ }
     ensures { λ r. ⌜ Moves (now (work .entry)) (now (work .exit)) c r (λ M. ordinaryNext M (put (M .state) (l .0) v) place remaining) ⌝ }
 {

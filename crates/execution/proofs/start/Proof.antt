@@ -18,7 +18,7 @@ unfolding beginning
 returns c =
     ap₂ {C = Progress}
     (λ (f g : LocationSet). record {
-      control = record { place = 0; depth = 0; log = 0; opened = 0; window = 0 };
+      control = record { place = 0; depth = 0; log = 0; opened = 0; window = 1 };
       observations = 0;
       steps = 0;
       full = f;

@@ -4,7 +4,7 @@ use Rattle.work.specs.Words.{entryAt, changeAt}
 use Rattle.work.specs.Machines.{stateIn}
 use Rattle.work.proofs.Rules.{expired-depth}
 use Rattle.rules.specs.Rules.JobFile.{locations}
-use Rattle.execution.specs.TurnLaws.{closed-true, closed-false, not-expired, halts-finished, halts-spent, turned-back, turned-on, fetchable, fetched-same, advancing}
+use Rattle.execution.specs.TurnLaws.{closed-true, closed-false, not-expired, some-left, halts-finished, halts-spent, turned-back, turned-on, fetchable, fetched-same, advancing}
 use Rattle.execution.proofs.Laws.{inside, unchanged}
 use borrow.Author.Needs.{needs}
 use Rattle.execution.proofs.take_turn.Statement.{statement}
@@ -68,7 +68,7 @@ advance-requires c κs =
     let e = sym (c .before .before .before .before .before .before .expired .ensures (a .work .now) n) ∙ c .before .before .before .before .before .if3 .left in
     let i = inside (a .t .count) (a .work .now) (a .c .control) n (sym (c .before .before .before .before .before .before .before .before .before .before .before .is-over .ensures) ∙ c .before .before .before .before .before .before .before .before .before .before .if1 .left) e in
     let f = rw (c .before .before .before .before .new .ensures) at (c .before .before .fetch .ensures) in
-    advancing (a .p .now) (a .t) (a .mode) (a .work .now) (a .trace .now) (a .c) (c .before .before .before .before .before .before .before .before .before .before .before .before .before .before .before .before .pre) i _ f (λ h. not-expired (a .t .count) (a .work .now) (a .c .control) n e h .0)
+    advancing (a .p .now) (a .t) (a .mode) (a .work .now) (a .trace .now) (a .c) (c .before .before .before .before .before .before .before .before .before .before .before .before .before .before .before .before .pre) i _ f (some-left (a .c .control) (c .before .before .before .before .before .before .before .before .before .before .before .before .before .before .before .before .pre .fits) (λ h. not-expired (a .t .count) (a .work .now) (a .c .control) n e h .0))
 
 same-length-3 : tie.Need-same-length-3
 same-length-3 c = search needs

@@ -35,7 +35,7 @@ remaining-window-requires c κs = search needs
 open-branch-requires : tie.Need-open-branch-requires
 open-branch-requires c κs =
     let p = c .before .before .before .before .before .before .before .before .before .before .before .before .before .pre in
-    (p .0 .live .fits, ((λ h. c .before .remaining-window .ensures .less (p .0 .live .window h)), (p .3, omega (arith, p .0 .counted .opened, p .0 .counted .steps))))
+    (p .0 .live .fits, (c .before .remaining-window .ensures .left (p .0 .live .window), (p .3, omega (arith, p .0 .counted .opened, p .0 .counted .steps))))
 
 observe-branch-requires : tie.Need-observe-branch-requires
 observe-branch-requires c κs = omega (arith, c .before .before .before .before .before .before .before .before .before .before .before .before .before .before .before .before .before .pre .0 .more)

@@ -18,7 +18,7 @@ remaining-window-requires c κs = search needs
 store-word-requires : tie.Need-store-word-requires
 store-word-requires c κs =
     let p = c .before .before .before .before .before .pre in
-    (p .0 .fits, (λ d. c .before .remaining-window .ensures .less (p .0 .window d)), p .2, p .4, p .5)
+    (p .0 .fits, c .before .remaining-window .ensures .left (p .0 .window), p .2, p .4, p .5)
 
 observe-requires : tie.Need-observe-requires
 observe-requires c κs = search needs

@@ -23,7 +23,7 @@ returns c = λ code ec.
     let p = c .before .before .before .before .pre in
     let w = a .work .now in
     let n = registers + a .cells in
-    let m = gone-to w (c .go .ensures) (p .0) (λ d. let l = p .1 d in omega arith) in
+    let m = gone-to w (c .go .ensures) (p .0) (p .1) in
     moves-at n (λ (σ : State). σ) (λ (σ : State). storedTo code σ (a .a) (at σ (a .r))) (p .4) m
     (store-outside w (a .cells) (a .a) code ec (at (stateIn w n) (a .r)) (c .before .if1 .taken))
 

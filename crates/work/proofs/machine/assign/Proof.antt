@@ -19,7 +19,7 @@ returns c =
     let p = c .before .before .before .before .before .before .pre in
     let h : length (a .v .deps .words) ≡ 4 = search needs in
     let z = c .before .before .before .before .if1 .taken in
-    moved-to (c .before .before .store .ensures) (assign-plain (a .work .now) (a .c) (a .l .0) (a .place) (a .remaining) (a .v) (p .0) (p .1 .1) h z)
+    moved-to (c .before .before .store .ensures) (assign-plain (a .work .now) (a .c) (a .l .0) (a .place) (a .remaining) (a .v) (p .0) (p .1 .0) (p .1 .1) h z)
 
 change-requires : tie.Need-change-requires
 change-requires c κs =
@@ -38,7 +38,7 @@ returns-2 c =
     let p = c .before .before .before .before .before .before .pre in
     let h : length (a .v .deps .words) ≡ 4 = search needs in
     let o = c .before .before .before .before .if1 .left in
-    moved-to (c .before .before .change .ensures) (assign-open (a .work .now) (a .c) (a .l .0) (a .place) (a .remaining) (a .v) (p .0) (p .1 .1) h o (p .1 .0))
+    moved-to (c .before .before .change .ensures) (assign-open (a .work .now) (a .c) (a .l .0) (a .place) (a .remaining) (a .v) (p .0) (p .1 .0) (p .1 .1) h o)
 
 pub assign-spec : {M : Type 1} → statement M
 assign-spec =
