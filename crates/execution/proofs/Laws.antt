@@ -6,7 +6,8 @@ use mathlib.Core.List.{List}
 use Prim.Native.Nat.{ℕ, zero, suc, _+_, _*_, _/_, _<_, _≤_}
 use native.Mathlib.Omega.{arith}
 use lib.ListN.{length}
-use borrow.Author.Tests.{leb-true, le-leb}
+use lib.Dec.{leb}
+use borrow.Author.Tests.{leb-true, le-leb, lt-leb}
 use Rattle.location.specs.Sets.{registers}
 use Rattle.rules.specs.declared.Stop.the-variants.{TraceFull}
 use Rattle.rules.specs.declared.Trailer.{Trailer}
@@ -28,7 +29,7 @@ use Rattle.execution.specs.declared.Next.{Next}
 use Rattle.execution.specs.declared.Next.the-variants as next
 use Rattle.execution.specs.TurnLaws.{closed-false, not-expired}
 use Rattle.stops.specs.Stops.{closedAt, roomFor}
-use Rattle.execution.specs.Turns.{Unchanged, RollBackTried, OpeningTried, EffectTried, CarryingTried, Opens, Advanced}
+use Rattle.execution.specs.Turns.{Unchanged, RollBackTried, OpeningTried, EffectTried, CarryingTried, Opens, Advanced, ruleBy, ruleAt}
 
 -- room for k observations, as a number of words
 pub room-words : (area : List ℕ) (c : Progress) (k : ℕ) {x : Bool} → x ≡ roomFor area c k → x ≡ true → 2 * (c .observations + k) ≤ length area
@@ -84,6 +85,17 @@ module _ {p : List ℕ} {t : Trailer} {mode : Mode} {w w′ area area′ : List 
   other-advanced e k = record { tried = λ code s. rw (e p code (machineOf w (c .control) (locations t))) (k .tried code s) }
 
 -- ---- the tests of a turn
+-- the rule that they name
+pub named : (t : Trailer) (c : Progress) (w : List ℕ) (n : ℕ) {x y z : Bool} → closedAt (c .control .depth) (t .count) (c .control .place) ≡ x
+    → leb (t .budget) (c .steps) ≡ y → expiredOn (t .count) (c .control .place) (machineOf w (c .control) n .branches) ≡ z
+    → ruleBy x y z ≡ ruleAt t c (machineOf w (c .control) n .branches)
+named t c w n a b e = sym (λ i. ruleBy (a i) (b i) (e i))
+
+-- a place of the program is not END
+pub closed-inside : (d last p : ℕ) → p < last → closedAt d last p ≡ false
+closed-inside zero last p h = lt-leb last p h
+closed-inside (suc d) last p h = refl
+
 -- a machine that is not at END with nothing open, and whose top has not expired, is at a place of the program
 pub inside : (last : ℕ) (w : List ℕ) (c : Control) (n : ℕ) → closedAt (c .depth) last (c .place) ≡ false
     → expiredOn last (c .place) (machineOf w c n .branches) ≡ false → c .place < last

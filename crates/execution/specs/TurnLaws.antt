@@ -1,6 +1,6 @@
 -- How the tests of a turn meet the rules' run, and how a run is put together from its turns.
 -- Assumes nothing.
-use mathlib.Core.Path.{_≡_, refl, sym, ap, ap₂, _∙_}
+use mathlib.Core.Path.{_≡_, refl, sym, ap, ap₂, _∙_, subst}
 use mathlib.Core.Bool.{Bool, true, false, _||_, true≢false}
 use mathlib.Core.List.{List, [], _∷_, _++_}
 use Prim.Native.Nat.{ℕ, zero, suc, _+_, _-_, _*_, _/_, _<_, _≤_}
@@ -40,10 +40,11 @@ use Rattle.stepping.specs.declared.Progress.{Progress}
 use Rattle.stepping.specs.Progress.{logOf}
 use Rattle.execution.specs.declared.Mode.{Mode}
 use Rattle.execution.specs.declared.Mode.the-variants as modes
+use Rattle.execution.specs.declared.Rule.the-variants as rule
 use Rattle.execution.specs.declared.Next.{Next}
 use Rattle.execution.specs.declared.Next.the-variants as next
 use Rattle.stops.specs.Stops.{closedAt, roomFor}
-use Rattle.execution.specs.Turns.{stepBy, codeOf, Loaded, Ready, Unchanged, Tried, RollBackTried, CodeOf, forwardBy, Advancing, Advanced, Halts, GoesOn, Turned, Running, RanTo}
+use Rattle.execution.specs.Turns.{stepBy, codeOf, Loaded, Ready, Unchanged, Tried, RollBackTried, CodeOf, forwardBy, Advancing, Advanced, ruleBy, ruleAt, Halts, GoesOn, Turned, Running, RanTo}
 
 -- ---- the program
 pub code-end : (p : List ℕ) (t : Trailer) → readable (program (t .count) (t .count) 0 p 0) ≡ true → endPlace (codeOf p t) ≡ t .count
@@ -122,13 +123,18 @@ not-expired end w c n h = go (c .depth) h
     go zero h lt = absurd (omega arith)
     go (suc d) h lt = pick (c .window) (eqb (c .window) 0) (leb end (c .place)) refl refl h
 
--- there is some window left, with a branch open and with none
-pub some-left : {w : List ℕ} (c : Control) → Fit w c → (0 < c .depth → 0 < c .window) → 0 < c .window
-some-left {w} c f = go (c .depth) (f .bound)
+-- with nothing open the window is not 0
+pub closed-window : {w : List ℕ} (c : Control) → Fit w c → c .depth ≡ 0 → 0 < c .window
+closed-window {w} c f z = subst (λ (d : ℕ). WindowBound (entryAt w) (c .window) d (c .log)) z (f .bound) .1
+
+-- where no branch has expired there is some window left
+pub window-left : (end : ℕ) (w : List ℕ) (c : Control) (n : ℕ) → Fit w c → expiredOn end (c .place) (machineOf w c n .branches) ≡ false
+    → 0 < c .window
+window-left end w c n f e = go (c .depth) refl
   where
-    go : (d : ℕ) → WindowBound (entryAt w) (c .window) d (c .log) → (0 < d → 0 < c .window) → 0 < c .window
-    go zero b h = b .1
-    go (suc d) b h = h (omega arith)
+    go : (d : ℕ) → c .depth ≡ d → 0 < c .window
+    go zero z = closed-window c f z
+    go (suc d) z = not-expired end w c n e (omega arith) .0
 
 -- the test of END with nothing open
 pub closed-true : (d end p : ℕ) → closedAt d end p ≡ true → (d ≡ 0) × (end ≤ p)
@@ -138,6 +144,41 @@ closed-true (suc d) end p e = absurd (true≢false (sym e))
 pub closed-false : (d end p : ℕ) → closedAt d end p ≡ false → d ≡ 0 → p < end
 closed-false zero end p e z = leb-false end p e
 closed-false (suc d) end p e z = absurd (omega arith)
+
+-- ---- what the tests of a turn have found
+module _ (t : Trailer) (c : Progress) (bs : List Branch) where
+  abbrev closed : Bool
+  closed = closedAt (c .control .depth) (t .count) (c .control .place)
+
+  abbrev spent : Bool
+  spent = leb (t .budget) (c .steps)
+
+  abbrev expired-top : Bool
+  expired-top = expiredOn (t .count) (c .control .place) bs
+
+  -- neither stop
+  pub record Stepping (x : Bool) : Type 0 where
+    pub on : closed ≡ false
+    pub left : c .steps < t .budget
+    pub top : expired-top ≡ x
+
+  pub back-found : ruleAt t c bs ≡ rule.RollBack → Stepping true
+  back-found = go closed spent expired-top refl refl refl
+    where
+      go : (x y z : Bool) → closed ≡ x → spent ≡ y → expired-top ≡ z → ruleBy x y z ≡ rule.RollBack → Stepping true
+      go true y z a b e h = absurd (let q : _≡_ {A = ℕ} 0 1 = cc in omega arith)
+      go false true z a b e h = absurd (let q : _≡_ {A = ℕ} 0 1 = cc in omega arith)
+      go false false true a b e h = record { on = a; left = leb-false (t .budget) (c .steps) b; top = e }
+      go false false false a b e h = absurd (let q : _≡_ {A = ℕ} 0 1 = cc in omega arith)
+
+  pub on-found : ruleAt t c bs ≡ rule.Advance → Stepping false
+  on-found = go closed spent expired-top refl refl refl
+    where
+      go : (x y z : Bool) → closed ≡ x → spent ≡ y → expired-top ≡ z → ruleBy x y z ≡ rule.Advance → Stepping false
+      go true y z a b e h = absurd (let q : _≡_ {A = ℕ} 0 1 = cc in omega arith)
+      go false true z a b e h = absurd (let q : _≡_ {A = ℕ} 0 1 = cc in omega arith)
+      go false false true a b e h = absurd (let q : _≡_ {A = ℕ} 0 1 = cc in omega arith)
+      go false false false a b e h = record { on = a; left = leb-false (t .budget) (c .steps) b; top = e }
 
 -- ---- a turn
 module _ (p : List ℕ) (t : Trailer) (mode : Mode) (w area : List ℕ) (c : Progress) (r : Ready p t mode w area c) where
@@ -161,6 +202,21 @@ module _ (p : List ℕ) (t : Trailer) (mode : Mode) (w area : List ℕ) (c : Pro
   halts-spent h b =
       let z : t .budget - c .steps ≡ 0 = omega arith in
       record { stops = λ os e. rw z (run-spent (stepBy mode code) code (length area / 2) machine (logOf os c) (still-on h)) }
+
+  pub halts-stopped : (bs : List Branch) (s : Stop) → ruleAt t c bs ≡ rule.Stopped s → Halts p t mode w area c s
+  halts-stopped bs s = go (closed t c bs) (spent t c bs) (expired-top t c bs) refl refl
+    where
+      go : (x y z : Bool) → closed t c bs ≡ x → spent t c bs ≡ y → ruleBy x y z ≡ rule.Stopped s → Halts p t mode w area c s
+      go true y z a b h =
+          let k = closed-true (c .control .depth) (t .count) (c .control .place) a in
+          let q : Finished ≡ s = cc in
+          subst (Halts p t mode w area c) q (halts-finished (k .0) (k .1))
+      go false true z a b h =
+          let q : Spent ≡ s = cc in
+          subst (Halts p t mode w area c) q
+          (halts-spent (closed-false (c .control .depth) (t .count) (c .control .place) a) (leb-true (t .budget) (c .steps) b))
+      go false false true a b h = absurd (let q : _≡_ {A = ℕ} 0 1 = cc in omega arith)
+      go false false false a b h = absurd (let q : _≡_ {A = ℕ} 0 1 = cc in omega arith)
 
   -- whether the step's observations fit, by the count of those that stand in the area
   fits-room : (os : List Observation) (s : Step) → length os ≡ c .observations → fits (length area / 2) s (logOf os c) ≡ roomFor area c (length (s .obs))

@@ -1,15 +1,16 @@
 -- What a turn and a run promise.
 -- Assumes nothing.
 use mathlib.Core.Path.{_≡_}
-use mathlib.Core.Bool.{true, false}
+use mathlib.Core.Bool.{Bool, true, false}
 use mathlib.Core.List.{List, [], _∷_}
 use Prim.Native.Nat.{ℕ, _+_, _-_, _*_, _/_, _<_, _≤_}
+use lib.Dec.{leb}
 use lib.ListN.{length, getD, drop}
 use lib.Seq.{sets}
 use Rattle.location.specs.declared.LocationSet.{LocationSet}
 use Rattle.location.specs.Sets.{limit, registers}
 use Rattle.rules.specs.declared.Stop.{Stop}
-use Rattle.rules.specs.declared.Stop.the-variants.{TraceFull}
+use Rattle.rules.specs.declared.Stop.the-variants.{Finished, Spent, TraceFull}
 use Rattle.rules.specs.declared.Trailer.{Trailer}
 use Rattle.rules.specs.Rules.Instructions.{Instr, Observation, pc, windowCosts}
 use Rattle.rules.specs.Rules.Plain.{State, Code, endPlace}
@@ -27,15 +28,18 @@ use Rattle.instruction.specs.declared.Instruction.the-variants.{BranchZero}
 use Rattle.instruction.specs.Meaning.{meaning}
 use Rattle.work.specs.Layout.{labels}
 use Rattle.work.specs.Machines.{stateIn, machineOf, Fit}
+use Rattle.work.specs.Moves.{expiredOn}
 use Rattle.effect.specs.Registers.{RegistersBelow}
 use Rattle.stepping.specs.declared.Progress.{Progress}
-use Rattle.stops.specs.Stops.{roomFor}
+use Rattle.stops.specs.Stops.{closedAt, roomFor}
 use Rattle.stepping.specs.Progress.{logOf}
 use Rattle.stepping.specs.Steps.{Counted, Made, Live, StateKept}
 use Rattle.execution.specs.declared.Mode.{Mode}
 use Rattle.execution.specs.declared.Mode.the-variants as modes
 use Rattle.execution.specs.declared.Opening.{Opening}
 use Rattle.execution.specs.declared.Opening.the-variants as openings
+use Rattle.execution.specs.declared.Rule.{Rule}
+use Rattle.execution.specs.declared.Rule.the-variants as rule
 use Rattle.execution.specs.declared.Next.{Next}
 use Rattle.execution.specs.declared.Next.the-variants as next
 
@@ -140,6 +144,19 @@ Opens mode i openings.Nothing = (p : List ℕ) (code : Code) (M : Machine) → f
 pub record Advanced (p : List ℕ) (t : Trailer) (mode : Mode) (w w′ area area′ : List ℕ) (i : Instruction) (c : Progress) (x : Next) (c′ : Progress) : Type 0 where
   pub tried : (code : Code) → CodeOf t code
       → Tried (locations t) (forwardBy mode code (machineOf w (c .control) (locations t)) (meaning p i)) w w′ area area′ c x c′
+
+-- What a turn does, by the rules' tests: whether the machine is at END with nothing open, else whether the budget is spent, else
+-- whether the top branch has expired.
+abbrev pub ruleBy : Bool → Bool → Bool → Rule
+ruleBy true spent expired = rule.Stopped Finished
+ruleBy false true expired = rule.Stopped Spent
+ruleBy false false true = rule.RollBack
+ruleBy false false false = rule.Advance
+
+-- the rule that is next, with these open branches
+abbrev pub ruleAt : Trailer → Progress → List Branch → Rule
+ruleAt t c bs =
+    ruleBy (closedAt (c .control .depth) (t .count) (c .control .place)) (leb (t .budget) (c .steps)) (expiredOn (t .count) (c .control .place) bs)
 
 -- The run stops here, as x.
 pub record Halts (p : List ℕ) (t : Trailer) (mode : Mode) (w area : List ℕ) (c : Progress) (x : Stop) : Type 0 where

@@ -8,16 +8,17 @@ use rules::Trailer;
 use stepping::Progress;
 use work::machine::Control;
 ghost use mathlib.Core.Path.{_≡_};
-ghost use Prim.Native.Nat.{_+_, _^_, _<_, _≤_};
+ghost use mathlib.Core.List.{List};
+ghost use Prim.Native.Nat.{ℕ, _+_, _^_, _<_, _≤_};
 ghost use lib.ListN.{length};
 ghost use Rattle.location.specs.Sets.{registers, limit};
 ghost use Rattle.rules.specs.Rules.Plain.{loadEffect, storeEffect};
 ghost use Rattle.rules.specs.Rules.Calls.{workingWords};
-ghost use Rattle.work.specs.Machines.{Fit, maxWindow};
+ghost use Rattle.work.specs.Machines.{machineOf, Fit, maxWindow};
 ghost use Rattle.stepping.specs.Steps.{Counted, Live};
 ghost use Rattle.execution.specs.declared.Next.the-variants.{Go};
 ghost use Rattle.execution.specs.Starts.{beginning, whole};
-ghost use Rattle.execution.specs.Turns.{RollBackTried, CanStep, OpeningTried, EffectTried, GoTried, CarryingTried, Advancing, Opens, Advanced, Ready, Loaded, Turned, RanTo};
+ghost use Rattle.execution.specs.Turns.{RollBackTried, CanStep, OpeningTried, EffectTried, GoTried, CarryingTried, Advancing, Opens, Advanced, Ready, Loaded, ruleAt, Turned, RanTo};
 
 // Which of the two runs.
 pub enum Mode {
@@ -241,6 +242,38 @@ fn advance(
     }
 }
 
+// What a turn does: it stops, rolls the top branch back, or carries the instruction out that is next.
+pub enum Rule {
+    Stopped(Stop),
+    RollBack,
+    Advance,
+}
+
+// What the next turn does. Finished comes before spent, but is looked for only with the budget made or at END; a window of 0 is
+// always rule 1's, as with nothing open it is not 0.
+fn rule_of(c: Progress, t: Trailer) -> Rule
+    requires { ⌜ (c .control .depth ≡ 0 → 0 < c .control .window) ⌝ }
+    ensures { λ r. ⌜ ((w : List ℕ) (n : ℕ) → r ≡ ruleAt t c (machineOf w (c .control) n .branches)) ⌝ }
+{
+    let control = c.control;
+    if t.budget <= c.steps {
+        if stops::is_over(control, t.count) {
+            return Rule::Stopped(Stop::Finished);
+        }
+        return Rule::Stopped(Stop::Spent);
+    }
+    if t.count <= control.place {
+        if control.depth == 0 {
+            return Rule::Stopped(Stop::Finished);
+        }
+        return Rule::RollBack;
+    }
+    if control.window == 0 {
+        return Rule::RollBack;
+    }
+    Rule::Advance
+}
+
 // One turn: the stops in their order, else the step.
 fn take_turn(
     p: &[u8],
@@ -253,25 +286,19 @@ fn take_turn(
     requires { ⌜ Ready (now p) t mode (now work) (now trace) c ⌝ }
     ensures { λ r. ⌜ Turned (now (p .entry)) t mode (now (work .entry)) (now (work .exit)) (now (trace .entry)) (now (trace .exit)) c (r .next) (r .progress) ⌝ }
 {
-    let control = c.control;
-    if stops::is_over(control, t.count) {
-        return Turn {
-            next: Next::Halt(Stop::Finished),
+    match rule_of(c, t) {
+        Rule::Stopped(stop) => Turn {
+            next: Next::Halt(stop),
             progress: c,
-        };
+        },
+        Rule::RollBack => try_roll_back(&mut work[..], &mut trace[..], c),
+        Rule::Advance => {
+            let control = c.control;
+            let label = Label::new(control.place);
+            let i = program::fetch(p, t.count, &work[..], work::LABELS, label);
+            advance(p, t, mode, &mut work[..], &mut trace[..], c, i)
+        }
     }
-    if t.budget <= c.steps {
-        return Turn {
-            next: Next::Halt(Stop::Spent),
-            progress: c,
-        };
-    }
-    if work::machine::expired(control, t.count) {
-        return try_roll_back(&mut work[..], &mut trace[..], c);
-    }
-    let label = Label::new(control.place);
-    let i = program::fetch(p, t.count, &work[..], work::LABELS, label);
-    advance(p, t, mode, &mut work[..], &mut trace[..], c, i)
 }
 
 // Nothing is done yet. With nothing open the window is not 0.

@@ -26,8 +26,8 @@ ghost use Rattle.work.specs.Moves.{ordinaryNext, MovesAt};
 ghost use Rattle.stepping.specs.Progress.{gatherAt, progressAfter};
 ghost use Rattle.stepping.specs.Steps.{Counted, Live, Steppable, Leaves, RolledBackTo, OpenedTo, CarriedOut, StateKept};
 
-// Where a run stands: the machine's control, the counts, the full set and the plain set. Every branch that was opened is open or rolled
-// back, so that the rollbacks are not counted.
+// Where a run stands: the machine's control, the counts, the full set and the plain set. The rollbacks are not counted: every branch
+// that was opened is open or rolled back.
 pub struct Progress {
     pub control: Control,
     pub observations: usize,

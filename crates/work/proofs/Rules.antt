@@ -1,10 +1,11 @@
 -- Rule 1, as the control has it.
 -- Assumes nothing.
-use mathlib.Core.Path.{_≡_, refl, sym, ap, ap₂}
-use mathlib.Core.Bool.{Bool, true, false, _||_, false≢true}
-use Prim.Native.Nat.{ℕ, zero, suc, _<_}
+use mathlib.Core.Path.{_≡_, refl, ap, ap₂, _∙_}
+use mathlib.Core.Bool.{Bool, true, false, _||_, or-true, false≢true}
+use Prim.Native.Nat.{ℕ, zero, suc, _<_, _≤_}
 use native.Mathlib.Omega.{arith}
 use lib.Dec.{eqb, leb}
+use borrow.Author.Tests.{le-leb, lt-leb, eq-eqb, ne-eqb}
 use Rattle.rules.specs.Rules.Plain.{State}
 use Rattle.rules.specs.Theorems.Undo.{Change}
 use Rattle.work.specs.declared.BranchEntry.{BranchEntry}
@@ -17,10 +18,15 @@ module _ (e : ℕ → BranchEntry) (g : ℕ → Change) (σ : State) (v k : ℕ)
   expired-depth zero n p h = absurd (false≢true h)
   expired-depth (suc d) n p h = omega arith
 
-  -- ---- its tests, as the code makes them
-  pub expired-plain : (d n p : ℕ) → d ≡ 0 → false ≡ expiredOn n p (branchesOf e g σ v k d)
-  expired-plain d n p z = ap (λ (j : ℕ). expiredOn n p (branchesOf e g σ v k j)) (sym z)
+  -- ---- its tests: END with a branch open, a window of 0, and neither
+  pub expired-end : (d n p : ℕ) → (d ≡ 0 → ⊥) → n ≤ p → expiredOn n p (branchesOf e g σ v k d) ≡ true
+  expired-end zero n p o h = absurd (o refl)
+  expired-end (suc d) n p o h = ap (λ (b : Bool). eqb v 0 || b) (le-leb n p h) ∙ or-true (eqb v 0)
 
-  pub expired-open : (d n p : ℕ) (a b : Bool) → (d ≡ 0 → ⊥) → eqb v 0 ≡ a → leb n p ≡ b → a || b ≡ expiredOn n p (branchesOf e g σ v k d)
-  expired-open zero n p a b h ea eb = absurd (h refl)
-  expired-open (suc d) n p a b h ea eb = sym (ap₂ _||_ ea eb)
+  pub expired-spent : (d n p : ℕ) → (d ≡ 0 → ⊥) → v ≡ 0 → expiredOn n p (branchesOf e g σ v k d) ≡ true
+  expired-spent zero n p o z = absurd (o refl)
+  expired-spent (suc d) n p o z = ap (λ (b : Bool). b || leb n p) (eq-eqb v 0 z)
+
+  pub expired-not : (d n p : ℕ) → (v ≡ 0 → ⊥) → p < n → expiredOn n p (branchesOf e g σ v k d) ≡ false
+  expired-not zero n p o h = refl
+  expired-not (suc d) n p o h = ap₂ _||_ (ne-eqb v 0 o) (lt-leb n p h)

@@ -56,9 +56,9 @@ machineOf w c n = record {
 abbrev pub maxWindow : ℕ
 maxWindow = 200
 
--- Of d open branches, the last one with the window v, and a log of k changes: the marks rise with the branches; with nothing open the
--- log is empty and the window is not 0. A change or a branch costs the top at least 1 of its window, so that there are at most 200 changes and 201
--- branches, and changes and branches are at most 201 together.
+-- Of d open branches, the last one with the window v, and a log of k changes: the marks rise with the branches; with nothing open
+-- the log is empty and the window is not 0. A change or a branch costs the top at least 1 of its window, so that there are at most
+-- 200 changes and 201 branches, and changes and branches are at most 201 together.
 abbrev pub WindowBound : (ℕ → BranchEntry) → ℕ → ℕ → ℕ → Type 0
 WindowBound e v zero k = (k ≡ 0) × (0 < v)
 WindowBound e v (suc d) k = (e d .mark ≤ k) × (k + d + v ≤ maxWindow) × WindowBound e (e d .outer) d (e d .mark)

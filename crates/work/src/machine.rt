@@ -4,13 +4,12 @@ use super::BranchEntry;
 use location::Location;
 use rules::Tagged;
 ghost use mathlib.Core.Path.{_≡_};
-ghost use mathlib.Core.List.{List};
-ghost use Prim.Native.Nat.{ℕ, _+_, _^_, _<_, _≤_};
+ghost use Prim.Native.Nat.{_+_, _^_, _<_, _≤_};
 ghost use Rattle.location.specs.Sets.{limit};
 ghost use Rattle.rules.specs.Rules.Plain.{put};
 ghost use Rattle.work.specs.Words.{windowAt};
-ghost use Rattle.work.specs.Machines.{machineOf, maxWindow, Fit, Left};
-ghost use Rattle.work.specs.Moves.{Moves, RollsBack, ordinaryNext, gone, openingNext, expiredOn};
+ghost use Rattle.work.specs.Machines.{maxWindow, Fit, Left};
+ghost use Rattle.work.specs.Moves.{Moves, RollsBack, ordinaryNext, gone, openingNext};
 
 // The place, how many branches are open, how many changes are logged, how many branches were opened in all, and the window of the
 // top one; with none open it is kept, and is not 0.
@@ -147,17 +146,4 @@ pub fn go(c: Control, place: usize, remaining: usize) -> Control
         opened: c.opened,
         window: remaining,
     }
-}
-
-// Whether rule 1 is next, in a program that ends at a place.
-pub fn expired(c: Control, end: usize) -> bool
-    ensures { λ r. ⌜ ((w : List ℕ) (n : ℕ) → r ≡ expiredOn end (c .place) (machineOf w c n .branches)) ⌝ }
-{
-    if c.depth == 0 {
-        return false;
-    }
-    if c.window == 0 {
-        return true;
-    }
-    end <= c.place
 }
