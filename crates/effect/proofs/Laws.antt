@@ -1,28 +1,29 @@
 -- How what the callees give makes up what the rules say of an instruction.
 -- Assumes nothing.
-use mathlib.Core.Path.{_≡_, sym, ap, _∙_}
+use mathlib.Core.Path.{_≡_, refl, sym, ap, _∙_}
 use mathlib.Core.Bool.{true}
-use mathlib.Core.List.{List}
+use mathlib.Core.List.{List, [], _∷_}
 use Prim.Native.Nat.{ℕ, _+_, _<_, _≤_}
 use native.Mathlib.Omega.{arith}
 use borrow.Author.Tests.{eq-eqb, ne-eqb, lt-ltb, le-ltb}
-use Rattle.location.specs.Sets.{registers}
-use Rattle.location.specs.SetLaws.{and-left, and-right}
+use Rattle.location.specs.Sets.{registers, empty}
+use Rattle.location.specs.SetLaws.{and-right}
 use Rattle.rules.specs.declared.Tagged.{Tagged}
-use Rattle.rules.specs.Rules.Expressions.{sound, tagged, eval}
-use Rattle.rules.specs.Rules.JobFile.{postfix}
+use Rattle.rules.specs.Rules.Operators.{Op2}
+use Rattle.rules.specs.Rules.Expressions.{reg, const, op2, Expr, sound, tagged, result2, pushed, evalOn, top, eval}
+use Rattle.rules.specs.Rules.Instructions.{Instr}
+use Rattle.rules.specs.Rules.JobFile.{tokens, expr, postfix}
 use Rattle.rules.specs.Rules.Plain.{State, put, Code, joined, loadedFrom, storedTo, chosen, at}
 use Rattle.token.specs.declared.Expression.{Expression}
-use Rattle.token.specs.Meaning.{tokensOf}
+use Rattle.token.specs.Meaning.{valueOr, tokensOf}
+use Rattle.entry.specs.Entries.{firstTokens, countAt, General}
 use Rattle.instruction.specs.declared.Instruction.{Instruction}
-use Rattle.instruction.specs.declared.Instruction.the-variants.{Skip, Assign, Load, Store, Jump, BranchZero, AssignIf, Barrier}
+use Rattle.instruction.specs.declared.Instruction.the-variants.{AssignIf}
 use Rattle.instruction.specs.Meaning.{meaning}
 use Rattle.work.specs.Words.{taggedAt}
 use Rattle.work.specs.Machines.{stateIn}
 use Rattle.work.proofs.States.{state-at}
-use Rattle.effect.specs.Registers.{RegistersBelow}
 use Rattle.effect.specs.States.{state-value}
-use Rattle.effect.specs.Sources.{sourceOf, Sourced}
 
 -- the state in the words, with so many cells
 abbrev stateOf : List ℕ → ℕ → State
@@ -79,13 +80,34 @@ pub second-sound : (p : List ℕ) {i : Instruction} {r : ℕ} {c e : Expression}
     → sound (tokensOf p e) ≡ true
 second-sound p {c = c} {e = e} ei h = and-right (sound (tokensOf p c)) (sound (tokensOf p e)) (rw ei at h)
 
--- what an instruction reads first can be read
-pub sourced : (p : List ℕ) (i : Instruction) → postfix (meaning p i) ≡ true → RegistersBelow registers (meaning p i) → Sourced p (sourceOf i)
-sourced p Skip h b = tt
-sourced p (Assign r e) h b = h
-sourced p (Load r e) h b = h
-sourced p (Store r e) h b = h
-sourced p (Jump e) h b = h
-sourced p (BranchZero r l) h b = b
-sourced p (AssignIf r c e) h b = and-left (sound (tokensOf p c)) (sound (tokensOf p e)) h
-sourced p Barrier h b = tt
+-- ---- the values of short expressions, of the registers' words f
+pub value-nothing : (f : ℕ → Tagged) {ts : Expr} {v : Tagged} → ts ≡ [] → v ≡ tagged 0 empty → v ≡ eval f ts
+unfolding eval evalOn top
+value-nothing f et ev = rw et ev
+
+pub register-value : (f : ℕ → Tagged) (r : ℕ) → eval f (reg r ∷ []) ≡ f r
+unfolding eval evalOn top pushed
+register-value f r = refl
+
+pub value-register : (f : ℕ → Tagged) {r l : ℕ} {ts : Expr} {v : Tagged} → ts ≡ reg r ∷ [] → l ≡ r → v ≡ f l → v ≡ eval f ts
+value-register f {r} et el ev = ev ∙ ap f el ∙ sym (register-value f r) ∙ ap (eval f) (sym et)
+
+pub value-constant : (f : ℕ → Tagged) {c : ℕ} {ts : Expr} {v : Tagged} → ts ≡ const c ∷ [] → v ≡ tagged c empty → v ≡ eval f ts
+unfolding eval evalOn top pushed
+value-constant f et ev = rw et ev
+
+pub value-with-constant : (f : ℕ → Tagged) {r c : ℕ} {o : Op2} {ts : Expr} {v : Tagged} → ts ≡ reg r ∷ const c ∷ op2 o ∷ []
+    → v ≡ result2 o (f r) (tagged c empty) → v ≡ eval f ts
+unfolding eval evalOn top pushed
+value-with-constant f et ev = rw et ev
+
+pub value-with-register : (f : ℕ → Tagged) {r q : ℕ} {o : Op2} {ts : Expr} {v : Tagged} → ts ≡ reg r ∷ reg q ∷ op2 o ∷ []
+    → v ≡ result2 o (f r) (f q) → v ≡ eval f ts
+unfolding eval evalOn top pushed
+value-with-register f et ev = rw et ev
+
+-- ---- the expression e that was read at the token count of an instruction x
+pub general-tokens : (p : List ℕ) (at : ℕ) {q : ℕ} (x : Instr) (e : Expression) → tokens (e .count) p (e .at) ≡ expr p q → q ≡ countAt p at → General p at x
+    → tokensOf p e ≡ firstTokens x
+unfolding tokensOf
+general-tokens p at x e r eq g = ap (valueOr []) r ∙ ap (λ (k : ℕ). valueOr [] (expr p k)) eq ∙ sym (g .0)

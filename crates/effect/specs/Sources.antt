@@ -3,33 +3,24 @@
 use mathlib.Core.Path.{_≡_}
 use mathlib.Core.Bool.{true}
 use mathlib.Core.List.{List}
-use Prim.Native.Nat.{ℕ, _<_}
-use Rattle.location.specs.Sets.{registers, empty}
+use Prim.Native.Nat.{ℕ}
 use Rattle.rules.specs.declared.Tagged.{Tagged}
-use Rattle.rules.specs.Rules.Expressions.{sound, tagged, eval}
-use Rattle.token.specs.Meaning.{tokensOf}
-use Rattle.instruction.specs.declared.Instruction.{Instruction}
-use Rattle.instruction.specs.declared.Instruction.the-variants as instruction
-use Rattle.effect.specs.declared.Source.{Source}
-use Rattle.effect.specs.declared.Source.the-variants as source
+use Rattle.rules.specs.Rules.Expressions.{eval}
+use Rattle.rules.specs.Rules.Instructions.{Instr, skip}
+use Rattle.rules.specs.Rules.JobFile.{instr, postfix}
+use Rattle.token.specs.Meaning.{valueOr}
+use Rattle.entry.specs.declared.Entry.{Entry}
+use Rattle.entry.specs.Entries.{firstTokens, Shaped}
 
-abbrev pub sourceOf : Instruction → Source
-sourceOf instruction.Skip = source.Nothing
-sourceOf (instruction.Assign r e) = source.Tokens e
-sourceOf (instruction.Load r e) = source.Tokens e
-sourceOf (instruction.Store r e) = source.Tokens e
-sourceOf (instruction.Jump e) = source.Tokens e
-sourceOf (instruction.BranchZero r l) = source.Register r
-sourceOf (instruction.AssignIf r c e) = source.Tokens c
-sourceOf instruction.Barrier = source.Nothing
+-- the instruction at an offset
+abbrev pub instructionAt : List ℕ → ℕ → Instr
+instructionAt p at = valueOr skip (instr p at)
 
--- an expression keeps the postfix rule, and a register is the machine's
-abbrev pub Sourced : List ℕ → Source → Type 0
-Sourced p (source.Tokens e) = sound (tokensOf p e) ≡ true
-Sourced p (source.Register r) = r < registers
-Sourced p source.Nothing = Unit
+-- the value of what it reads first
+abbrev pub firstValue : List ℕ → ℕ → (ℕ → Tagged) → Tagged
+firstValue p at f = eval f (firstTokens (instructionAt p at))
 
-abbrev pub sourceIn : List ℕ → (ℕ → Tagged) → Source → Tagged
-sourceIn p f (source.Tokens e) = eval f (tokensOf p e)
-sourceIn p f (source.Register r) = f r
-sourceIn p f source.Nothing = tagged 0 empty
+-- The instruction of an entry keeps the postfix rule, and the entry's shape holds for it.
+pub record Sourced (p : List ℕ) (e : Entry) : Type 0 where
+  pub sound : postfix (instructionAt p (e .at)) ≡ true
+  pub shaped : Shaped p e (instructionAt p (e .at))

@@ -1,6 +1,6 @@
 // What one instruction computes from the working words, and writes nowhere: what it reads first, what a load gives, what a
 // conditional assignment assigns and where a jump goes. The crate `stepping` carries the instruction out.
-use instruction::Instruction;
+use entry::Entry;
 use location::Address;
 use location::Label;
 use location::Location;
@@ -10,15 +10,17 @@ use token::Expression;
 ghost use mathlib.Core.Path.{_≡_};
 ghost use mathlib.Core.Bool.{true};
 ghost use Prim.Native.Nat.{_+_, _<_, _≤_, min};
-ghost use lib.ListN.{length};
-ghost use Rattle.location.specs.Sets.{registers};
-ghost use Rattle.rules.specs.Rules.Expressions.{sound, eval};
+ghost use lib.ListN.{length, getD};
+ghost use Rattle.location.specs.Sets.{registers, empty};
+ghost use Rattle.rules.specs.Rules.Expressions.{sound, tagged, result2, eval};
+ghost use Rattle.rules.specs.Rules.JobFile.{little, postfix};
 ghost use Rattle.rules.specs.Rules.Plain.{Code, joined, loadedFrom, chosen, branchTo};
 ghost use Rattle.token.specs.Meaning.{tokensOf};
 ghost use Rattle.work.specs.Layout.{operandBase};
 ghost use Rattle.work.specs.Words.{taggedAt};
 ghost use Rattle.work.specs.Machines.{stateIn};
-ghost use Rattle.effect.specs.Sources.{sourceOf, Sourced, sourceIn};
+ghost use Rattle.entry.specs.Entries.{operatorBy, General};
+ghost use Rattle.effect.specs.Sources.{instructionAt, firstValue, Sourced};
 
 // A word whose set takes over another.
 pub fn joined(t: Tagged, s: LocationSet) -> Tagged
@@ -45,8 +47,8 @@ pub fn loaded_from(work: &[u64], cells: usize, a: Tagged) -> Tagged
     Tagged { value: 0, deps }
 }
 
-// What register r holds after a conditional assignment on c: the expression is evaluated only where it is assigned. It is so by
-// `evaluate`, so that `value_of` has one caller and can be made part of a step; the slices are taken anew, as in `value_of`.
+// What register r holds after a conditional assignment on c: the expression is evaluated only where it is assigned. The slices are
+// taken anew, as in `general_value`.
 pub fn chosen(p: &[u8], work: &[u64], r: u8, c: Tagged, e: Expression) -> Tagged
     requires { ⌜ sound (tokensOf (now p) e) ≡ true ⌝ }
     requires { ⌜ operandBase registers ≤ length (now work) ⌝ }
@@ -79,40 +81,66 @@ pub fn branch_to(t: Tagged, label: Label, next: usize) -> usize
     next
 }
 
-// What an instruction reads first: an expression, or a register by its number.
-pub enum Source {
-    Tokens(Expression),
-    Register(u8),
-    Nothing,
+// The value of any expression that an instruction reads first. The slices are taken anew, so that a step with a short one does not set
+// them up.
+fn general_value(p: &[u8], work: &[u64], at: usize) -> Tagged
+    requires { ⌜ (postfix (instructionAt (now p) at) ≡ true) × General (now p) at (instructionAt (now p) at) × (operandBase registers ≤ length (now work)) ⌝ }
+    ensures { λ r. ⌜ r ≡ firstValue (now (p .entry)) at (taggedAt (now (work .entry))) ⌝ }
+{
+    let e = token::expression_at(p, entry::count_at(p, at));
+    expression::evaluate(&p[..], &work[..], e)
 }
 
-fn source_of(i: Instruction) -> Source
-    ensures { λ r. ⌜ r ≡ sourceOf i ⌝ }
+// The constant in the eight bytes at an offset.
+fn constant_at(p: &[u8], at: usize) -> Tagged
+    requires { ⌜ at + 8 ≤ length (now p) ⌝ }
+    ensures { λ r. ⌜ r ≡ tagged (little (now (p .entry)) at 8) empty ⌝ }
 {
-    match i {
-        Instruction::Skip => Source::Nothing,
-        Instruction::Assign(_, e) => Source::Tokens(e),
-        Instruction::Load(_, e) => Source::Tokens(e),
-        Instruction::Store(_, e) => Source::Tokens(e),
-        Instruction::Jump(e) => Source::Tokens(e),
-        Instruction::BranchZero(r, _) => Source::Register(r),
-        Instruction::AssignIf(_, c, _) => Source::Tokens(c),
-        Instruction::Barrier => Source::Nothing,
+    Tagged {
+        value: token::number(p, at, 8),
+        deps: LocationSet::empty(),
     }
 }
 
-// The value of what an instruction reads first; 0 where it reads nothing. It is evaluated in one place, so that the value need not go
-// through memory.
-pub fn source_value(p: &[u8], work: &[u64], i: Instruction) -> Tagged
-    requires { ⌜ Sourced (now p) (sourceOf i) × (operandBase registers ≤ length (now work)) ⌝ }
-    ensures { λ r. ⌜ r ≡ sourceIn (now (p .entry)) (taggedAt (now (work .entry))) (sourceOf i) ⌝ }
+// A register and a constant, of an instruction at an offset whose shape says so.
+fn with_constant(p: &[u8], work: &[u64], at: usize, first: u8) -> Tagged
+    requires { ⌜ (at + 14 ≤ length (now p)) × (19 ≤ getD (now p) (at + 13) 0) × (first < registers) × (operandBase registers ≤ length (now work)) ⌝ }
+    ensures { λ r. ⌜ r ≡ result2 (operatorBy (getD (now (p .entry)) (at + 13) 0)) (taggedAt (now (work .entry)) first) (tagged (little (now (p .entry)) (at + 5) 8) empty) ⌝ }
 {
-    match source_of(i) {
-        Source::Tokens(e) => expression::value_of(p, work, e),
-        Source::Register(r) => work::load(work, Location::register(r)),
-        Source::Nothing => Tagged {
+    let x = work::load(work, Location::register(first));
+    let y = constant_at(p, at + 5);
+    expression::combine(p[at + 13] - 19, x, y)
+}
+
+// Two registers, of an instruction at an offset whose shape says so.
+fn with_register(p: &[u8], work: &[u64], at: usize, first: u8) -> Tagged
+    requires { ⌜ (at + 6 ≤ length (now p)) × (19 ≤ getD (now p) (at + 5) 0) × (first < registers) × (getD (now p) (at + 4) 0 < registers) × (operandBase registers ≤ length (now work)) ⌝ }
+    ensures { λ r. ⌜ r ≡ result2 (operatorBy (getD (now (p .entry)) (at + 5) 0)) (taggedAt (now (work .entry)) first) (taggedAt (now (work .entry)) (getD (now (p .entry)) (at + 4) 0)) ⌝ }
+{
+    let x = work::load(work, Location::register(first));
+    let y = work::load(work, Location::register(p[at + 4]));
+    expression::combine(p[at + 5] - 19, x, y)
+}
+
+// The value of what the instruction of an entry reads first; 0 where it reads nothing. The arms are the shapes of `Entry`.
+pub fn source_value(p: &[u8], work: &[u64], e: Entry) -> Tagged
+    requires { ⌜ Sourced (now p) e × (operandBase registers ≤ length (now work)) ⌝ }
+    ensures { λ r. ⌜ r ≡ firstValue (now (p .entry)) (e .at) (taggedAt (now (work .entry))) ⌝ }
+{
+    let at = e.at;
+    let first = e.first;
+    let shape = e.shape;
+    match shape {
+        0 => Tagged {
             value: 0,
             deps: LocationSet::empty(),
         },
+        1 => work::load(work, Location::register(first)),
+        2 => constant_at(p, at + 4),
+        3 => with_constant(p, work, at, first),
+        4 => with_register(p, work, at, first),
+        5 => constant_at(p, at + 3),
+        6 => work::load(work, Location::register(first)),
+        _ => general_value(p, work, at),
     }
 }

@@ -26,12 +26,12 @@ use Rattle.stepping.specs.Steps.{Live}
 use Rattle.stepping.proofs.Steps.{kept-shown}
 use Rattle.execution.specs.declared.Next.{Next}
 use Rattle.execution.specs.declared.Next.the-variants as next
-use Rattle.execution.specs.Turns.{Tried, EffectTried, GoTried, CarryingTried}
+use Rattle.execution.specs.Turns.{Tried, EffectTried, GoTried, InstructionTried}
 
 module _ {p : List ℕ} {t : Trailer} {w w′ area area′ : List ℕ} {i : Instruction} {c : Progress} {x : Next} {c′ : Progress} where
   -- the same, of an answer that is equal
-  pub told-as : {y : Next} {c″ : Progress} → y ≡ x → c″ ≡ c′ → CarryingTried p t w w′ area area′ i c x c′ → CarryingTried p t w w′ area area′ i c y c″
-  told-as ey ec k = subst₂ (λ (n : Next) (d : Progress). CarryingTried p t w w′ area area′ i c n d) (sym ey) (sym ec) k
+  pub told-as : {y : Next} {c″ : Progress} → y ≡ x → c″ ≡ c′ → InstructionTried p t w w′ area area′ i c x c′ → InstructionTried p t w w′ area area′ i c y c″
+  told-as ey ec k = subst₂ (λ (n : Next) (d : Progress). InstructionTried p t w w′ area area′ i c n d) (sym ey) (sym ec) k
 
 -- a jump or a branch that was tried
 pub go-tried : {w area area′ : List ℕ} {i : Instruction} {c c′ : Progress} {cells : ℕ} (x : Next) (q : ℕ) (v : Tagged) → Live w c
@@ -44,7 +44,7 @@ module _ {p : List ℕ} {t : Trailer} {w w′ area area′ : List ℕ} {c : Prog
   -- an instruction whose effect is that of a rule
   carrying : (i : Instruction) (rule : Code → State → plain.Effect) → EffectTried w w′ area area′ (t .cells) i rule c x c′
       → ((code : Code) → endPlace code ≡ t .count → rule code (stateIn w (registers + t .cells)) ≡ exec code (stateIn w (registers + t .cells)) (c .control .place) (meaning p i))
-      → CarryingTried p t w w′ area area′ i c x c′
+      → InstructionTried p t w w′ area area′ i c x c′
   unfolding ordinary
   carrying i rule e h = record {
     tried = λ code s.
@@ -53,18 +53,18 @@ module _ {p : List ℕ} {t : Trailer} {w w′ area area′ : List ℕ} {c : Prog
   }
 
   pub skip-carried : {i : Instruction} → i ≡ Skip → EffectTried w w′ area area′ (t .cells) i (λ code σ. silent σ (c .control .place)) c x c′
-      → CarryingTried p t w w′ area area′ i c x c′
+      → InstructionTried p t w w′ area area′ i c x c′
   unfolding exec
   skip-carried ei e = rw ei (carrying Skip (λ code σ. silent σ (c .control .place)) (rw ei at e) (λ code el. refl))
 
   pub barrier-carried : {i : Instruction} → i ≡ Barrier → EffectTried w w′ area area′ (t .cells) i (λ code σ. silent σ (c .control .place)) c x c′
-      → CarryingTried p t w w′ area area′ i c x c′
+      → InstructionTried p t w w′ area area′ i c x c′
   unfolding exec
   barrier-carried ei e = rw ei (carrying Barrier (λ code σ. silent σ (c .control .place)) (rw ei at e) (λ code el. refl))
 
   pub assign-carried : {i : Instruction} {r : ℕ} {e : Expression} {v : Tagged} → i ≡ Assign r e → v ≡ eval (taggedAt w) (tokensOf p e)
       → EffectTried w w′ area area′ (t .cells) (Assign r e) (λ code σ. silent (put σ r v) (c .control .place)) c x c′
-      → CarryingTried p t w w′ area area′ i c x c′
+      → InstructionTried p t w w′ area area′ i c x c′
   unfolding exec
   assign-carried {r = r} {e = e} {v = v} ei ev d =
       let f = value-in p w (t .cells) e ev in
@@ -72,7 +72,7 @@ module _ {p : List ℕ} {t : Trailer} {w w′ area area′ : List ℕ} {c : Prog
 
   pub load-carried : {i : Instruction} {r : ℕ} {e : Expression} {a : Tagged} → i ≡ Load r e → a ≡ eval (taggedAt w) (tokensOf p e)
       → EffectTried w w′ area area′ (t .cells) (Load r e) (λ code σ. loadEffect code σ (c .control .place) r a) c x c′
-      → CarryingTried p t w w′ area area′ i c x c′
+      → InstructionTried p t w w′ area area′ i c x c′
   unfolding exec
   load-carried {r = r} {e = e} {a = a} ei ea d =
       let f = value-in p w (t .cells) e ea in
@@ -80,7 +80,7 @@ module _ {p : List ℕ} {t : Trailer} {w w′ area area′ : List ℕ} {c : Prog
 
   pub store-carried : {i : Instruction} {r : ℕ} {e : Expression} {a : Tagged} → i ≡ Store r e → a ≡ eval (taggedAt w) (tokensOf p e)
       → EffectTried w w′ area area′ (t .cells) (Store r e) (λ code σ. storeEffect code σ (c .control .place) r a) c x c′
-      → CarryingTried p t w w′ area area′ i c x c′
+      → InstructionTried p t w w′ area area′ i c x c′
   unfolding exec
   store-carried {r = r} {e = e} {a = a} ei ea d =
       let f = value-in p w (t .cells) e ea in
@@ -88,7 +88,7 @@ module _ {p : List ℕ} {t : Trailer} {w w′ area area′ : List ℕ} {c : Prog
 
   pub jump-carried : {i : Instruction} {e : Expression} {v : Tagged} {to : ℕ} → i ≡ Jump e → v ≡ eval (taggedAt w) (tokensOf p e)
       → to ≡ min (v .value) (t .count) → EffectTried w w′ area area′ (t .cells) i (λ code σ. goEffect σ to v) c x c′
-      → CarryingTried p t w w′ area area′ i c x c′
+      → InstructionTried p t w w′ area area′ i c x c′
   unfolding exec
   jump-carried {e = e} {v = v} {to = to} ei ev eq d =
       let f = value-in p w (t .cells) e ev in
@@ -98,7 +98,7 @@ module _ {p : List ℕ} {t : Trailer} {w w′ area area′ : List ℕ} {c : Prog
 
   pub branch-carried : {i : Instruction} {r : ℕ} {l : Label} {v : Tagged} {to : ℕ} → i ≡ BranchZero r l → r < registers → v ≡ taggedAt w r
       → to ≡ branchTo v (l .0) (c .control .place + 1) → EffectTried w w′ area area′ (t .cells) (BranchZero r l) (λ code σ. goEffect σ to v) c x c′
-      → CarryingTried p t w w′ area area′ i c x c′
+      → InstructionTried p t w w′ area area′ i c x c′
   unfolding exec
   branch-carried {r = r} {l = l} {v = v} {to = to} ei h ev eq d =
       let f = register-at w (t .cells) h refl ev in
@@ -109,7 +109,7 @@ module _ {p : List ℕ} {t : Trailer} {w w′ area area′ : List ℕ} {c : Prog
   pub assign-if-carried : {i : Instruction} {r : ℕ} {b e : Expression} {v y : Tagged} → i ≡ AssignIf r b e → r < registers
       → v ≡ eval (taggedAt w) (tokensOf p b) → y ≡ chosen v (eval (taggedAt w) (tokensOf p e)) (taggedAt w r)
       → EffectTried w w′ area area′ (t .cells) (AssignIf r b e) (λ code σ. silent (put σ r y) (c .control .place)) c x c′
-      → CarryingTried p t w w′ area area′ i c x c′
+      → InstructionTried p t w w′ area area′ i c x c′
   unfolding exec
   assign-if-carried {r = r} {b = b} {e = e} {v = v} {y = y} ei h ev ey d =
       let fc = value-in p w (t .cells) b ev in

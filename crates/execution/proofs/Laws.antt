@@ -1,6 +1,6 @@
 -- A rule that was tried: from the test of the trace area's room and from what the rule's function promises.
 -- Assumes nothing.
-use mathlib.Core.Path.{_≡_, refl, sym, ap, _∙_}
+use mathlib.Core.Path.{_≡_, refl, sym, ap, _∙_, subst}
 use mathlib.Core.Bool.{Bool, true, false}
 use mathlib.Core.List.{List}
 use Prim.Native.Nat.{ℕ, zero, suc, _+_, _*_, _/_, _<_, _≤_}
@@ -11,25 +11,29 @@ use borrow.Author.Tests.{leb-true, le-leb, lt-leb}
 use Rattle.location.specs.Sets.{registers}
 use Rattle.rules.specs.declared.Stop.the-variants.{TraceFull}
 use Rattle.rules.specs.declared.Trailer.{Trailer}
+use Rattle.rules.specs.Rules.Instructions.{Instr, skip, assign, load, store, jmp, beqz, cassign, spbarr}
 use Rattle.rules.specs.Rules.Plain as plain
 use Rattle.rules.specs.Rules.Plain.{State, Code}
 use Rattle.location.specs.declared.Label.{Label}
-use Rattle.rules.specs.Rules.Mispredicting.{rolling, opening, forward}
+use Rattle.rules.specs.Rules.Mispredicting.{rolling, opening, ordinary, forward}
 use Rattle.rules.specs.Rules.JobFile.{locations}
 use Rattle.rules.specs.Theorems.JobLaws.{Limits}
 use Rattle.instruction.specs.declared.Instruction.{Instruction}
+use Rattle.instruction.specs.Meaning.{meaning}
+use Rattle.entry.specs.Entries.{NoBranch}
 use Rattle.work.specs.declared.machine.Control.{Control}
 use Rattle.work.specs.Machines.{stateIn, machineOf}
 use Rattle.work.specs.Moves.{expiredOn}
 use Rattle.stepping.specs.declared.Progress.{Progress}
 use Rattle.stepping.specs.Steps.{Counted, RolledBackTo, OpenedTo, CarriedOut}
 use Rattle.execution.specs.declared.Mode.{Mode}
+use Rattle.execution.specs.declared.Mode.the-variants as modes
 use Rattle.execution.specs.declared.Opening.the-variants as openings
 use Rattle.execution.specs.declared.Next.{Next}
 use Rattle.execution.specs.declared.Next.the-variants as next
 use Rattle.execution.specs.TurnLaws.{closed-false, not-expired}
 use Rattle.stops.specs.Stops.{closedAt, roomFor}
-use Rattle.execution.specs.Turns.{Unchanged, RollBackTried, OpeningTried, EffectTried, CarryingTried, Opens, Advanced, ruleBy, ruleAt}
+use Rattle.execution.specs.Turns.{Unchanged, Tried, RollBackTried, OpeningTried, EffectTried, InstructionTried, CarryingTried, Opens, Advanced, ruleBy, ruleAt}
 
 -- room for k observations, as a number of words
 pub room-words : (area : List ℕ) (c : Progress) (k : ℕ) {x : Bool} → x ≡ roomFor area c k → x ≡ true → 2 * (c .observations + k) ≤ length area
@@ -71,18 +75,38 @@ module _ {cells : ℕ} {i : Instruction} (w : List ℕ) {area : List ℕ} {c : P
 pub room-for-none : (area : List ℕ) (c : Progress) → Counted c area → true ≡ roomFor area c 0
 room-for-none area c h = let r = h .room in sym (le-leb (c .observations + 0) (length area / 2) (omega arith))
 
+-- ---- the code's instruction i is the rules' instruction y
+pub carried-same : {p : List ℕ} {t : Trailer} {w w′ area area′ : List ℕ} (i : Instruction) {y : Instr} {c : Progress} {x : Next} {c′ : Progress}
+    → meaning p i ≡ y → InstructionTried p t w w′ area area′ i c x c′ → CarryingTried t w w′ area area′ y c x c′
+carried-same {t = t} {w} {w′} {area} {area′} i {y} {c} {x} {c′} e k = record {
+  tried = λ code s. subst (λ (z : Instr). Tried (locations t) (ordinary code (machineOf w (c .control) (locations t)) z) w w′ area area′ c x c′) e (k .tried code s);
+}
+
 -- ---- an instruction in each of the two runs
-module _ {p : List ℕ} {t : Trailer} {mode : Mode} {w w′ area area′ : List ℕ} {i : Instruction} {c : Progress} {x : Next} {c′ : Progress} where
+-- one that is no branch is rule 3's
+pub never-opens : (mode : Mode) (i : Instr) → NoBranch i → Opens mode i openings.Nothing
+unfolding forward
+never-opens modes.Plain i n = λ code M. refl
+never-opens modes.Mispredicting skip n = λ code M. refl
+never-opens modes.Mispredicting (assign r e) n = λ code M. refl
+never-opens modes.Mispredicting (load r e) n = λ code M. refl
+never-opens modes.Mispredicting (store r e) n = λ code M. refl
+never-opens modes.Mispredicting (jmp e) n = λ code M. refl
+never-opens modes.Mispredicting (beqz r l) n = absurd (n r l refl)
+never-opens modes.Mispredicting (cassign r b e) n = λ code M. refl
+never-opens modes.Mispredicting spbarr n = λ code M. refl
+
+module _ {t : Trailer} {mode : Mode} {w w′ area area′ : List ℕ} {i : Instr} {c : Progress} {x : Next} {c′ : Progress} where
   pub branch-advanced : {r : ℕ} {l : Label} → Opens mode i (openings.Branch r l) → Limits t
-      → OpeningTried w w′ area area′ r (l .0) (t .window) c x c′ → Advanced p t mode w w′ area area′ i c x c′
+      → OpeningTried w w′ area area′ r (l .0) (t .window) c x c′ → Advanced t mode w w′ area area′ i c x c′
   unfolding forward
   branch-advanced e limits o = record {
     tried = λ code s.
         rw (e .0, e .1) (o .tried (locations t) code (omega arith) (let h = limits .cells in omega arith) (s .window) (s .costs));
   }
 
-  pub other-advanced : Opens mode i openings.Nothing → CarryingTried p t w w′ area area′ i c x c′ → Advanced p t mode w w′ area area′ i c x c′
-  other-advanced e k = record { tried = λ code s. rw (e p code (machineOf w (c .control) (locations t))) (k .tried code s) }
+  pub other-advanced : Opens mode i openings.Nothing → CarryingTried t w w′ area area′ i c x c′ → Advanced t mode w w′ area area′ i c x c′
+  other-advanced e k = record { tried = λ code s. rw (e code (machineOf w (c .control) (locations t))) (k .tried code s) }
 
 -- ---- the tests of a turn
 -- the rule that they name

@@ -26,10 +26,11 @@ use Rattle.rules.specs.Theorems.JobLaws.{Limits, length-program}
 use Rattle.rules.specs.Theorems.CallLaws.{length-traceWords}
 use Rattle.rules.specs.Theorems.Undo.{Change}
 use Rattle.token.specs.Meaning.{valueOr}
-use Rattle.instruction.specs.declared.Instruction.{Instruction}
-use Rattle.instruction.specs.Meaning.{meaning}
-use Rattle.program.specs.Offsets.{readable, offsetsFrom, Stands, Fetchable, labelled}
+use Rattle.entry.specs.declared.Entry.{Entry}
+use Rattle.entry.specs.Entries.{entryIn, Entered}
+use Rattle.program.specs.Offsets.{readable, offsetsFrom, Stands, Fetchable, labelled, fetched}
 use Rattle.effect.specs.Registers.{instr-below}
+use Rattle.effect.specs.Sources.{instructionAt}
 use Rattle.work.specs.declared.BranchEntry.{BranchEntry}
 use Rattle.work.specs.declared.machine.Control.{Control}
 use Rattle.work.specs.Layout.{labels}
@@ -270,16 +271,15 @@ forward-step modes.Plain code M i f e = ap (ordinary code M) f
 forward-step modes.Mispredicting code M i f e = ap (forward code M) f ∙ sym (step-forward code M e)
 
 -- a turn that tried the instruction at the place, where no branch has expired
-pub turned-on : (p : List ℕ) (t : Trailer) (mode : Mode) (w w′ area area′ : List ℕ) (i : Instruction) (c : Progress) (x : Next) (c′ : Progress)
+pub turned-on : (p : List ℕ) (t : Trailer) (mode : Mode) (w w′ area area′ : List ℕ) (i : Instr) (c : Progress) (x : Next) (c′ : Progress)
     → Ready p t mode w area c → (c .control .depth ≡ 0 → c .control .place < t .count) → c .steps < t .budget
     → expiredOn (t .count) (c .control .place) (machineOf w (c .control) (locations t) .branches) ≡ false
-    → meaning p i ≡ fetch (codeOf p t) (c .control .place)
-    → Advanced p t mode w w′ area area′ i c x c′ → Turned p t mode w w′ area area′ c x c′
+    → i ≡ fetch (codeOf p t) (c .control .place) → Advanced t mode w w′ area area′ i c x c′ → Turned p t mode w w′ area area′ c x c′
 turned-on p t mode w w′ area area′ i c x c′ r h b e f k =
     let code = codeOf p t in
     let M = machineOf w (c .control) (locations t) in
-    turned p t mode w area c r h b w′ area′ (forwardBy mode code M (meaning p i)) x c′
-    (forward-step mode code M (meaning p i) f (rw (code-end p t (r .loaded .accepted)) e))
+    turned p t mode w area c r h b w′ area′ (forwardBy mode code M i) x c′
+    (forward-step mode code M i f (rw (code-end p t (r .loaded .accepted)) e))
     (k .tried code (code-of p t (r .loaded .accepted)))
 
 -- ---- the instruction at a place
@@ -289,32 +289,40 @@ module _ (p : List ℕ) (t : Trailer) (mode : Mode) (w area : List ℕ) (c : Pro
   fetchable = record {
     inside = inside;
     room = let h = r .fits .room in let k = r .loaded .limits .count-most in omega arith;
-    entry = r .loaded .table (c .control .place) inside;
+    word = r .loaded .table (c .control .place) inside;
     accepted = r .loaded .accepted;
+    size = r .loaded .size;
   }
 
-  module _ (i : Instruction)
-      (f : meaning p i ≡ getD (valueOr [] (program (t .count) (t .count) 0 p 0)) (c .control .place) skip) where
-    pub fetched-same : meaning p i ≡ fetch (codeOf p t) (c .control .place)
+  -- the instruction with the label of the place
+  abbrev x : Instr
+  x = getD (valueOr [] (program (t .count) (t .count) 0 p 0)) (c .control .place) skip
+
+  stands : Stands (t .count) (c .control .place) p (getD (offsetsFrom (t .count) p 0) (c .control .place) 0) x
+  stands = rw (zero-add (c .control .place)) at (labelled (t .count) (t .count) 0 p 0 (r .loaded .accepted) (c .control .place) inside)
+
+  module _ (e : Entry) (f : e ≡ entryIn (getD w (labels + c .control .place) 0)) where
+    entered : Entered p e x
+    entered = rw f (fetched fetchable)
+
+    pub fetched-same : instructionAt p (e .at) ≡ fetch (codeOf p t) (c .control .place)
     unfolding fetch codeOf
-    fetched-same = f
+    fetched-same = entered .same
 
-    stands : Stands (t .count) (c .control .place) p (getD (offsetsFrom (t .count) p 0) (c .control .place) 0) (meaning p i)
-    stands =
-        rw f
-        (rw (zero-add (c .control .place)) at (labelled (t .count) (t .count) 0 p 0 (r .loaded .accepted) (c .control .place) inside))
-
-    pub advancing : 0 < c .control .window → Advancing p t w area i c
-    advancing live = record {
-      can = record {
-        live = record { fits = r .fits; window = live };
-        counted = r .counted;
-        place = let k = r .loaded .limits .count-most in omega arith;
-      };
-      limits = r .loaded .limits;
-      sound = stands .sound;
-      below = instr-below p _ (meaning p i) _ (stands .read);
-    }
+    pub advancing : 0 < c .control .window → Advancing p t w area e c
+    advancing live =
+        let s = entered .same in
+        record {
+          can = record {
+            live = record { fits = r .fits; window = live };
+            counted = r .counted;
+            place = let k = r .loaded .limits .count-most in omega arith;
+          };
+          limits = r .loaded .limits;
+          read = entered .read;
+          below = rw s (instr-below p _ x _ (stands .read));
+          sourced = record { sound = rw s (stands .sound); shaped = rw s (entered .shaped) };
+        }
 
 -- ---- the trace area
 -- more words after those written
@@ -363,6 +371,7 @@ module _ (p : List ℕ) (t : Trailer) (mode : Mode) (w₀ a₀ : List ℕ) (R : 
   table-stays {w} {w′} f l = record {
     limits = l .limits;
     accepted = l .accepted;
+    size = l .size;
     table = λ i h. sym (getD-drop labels w′ i 0) ∙ ap (λ (x : List ℕ). getD x i 0) f ∙ getD-drop labels w i 0 ∙ l .table i h;
   }
 

@@ -12,24 +12,29 @@ use Rattle.location.specs.Sets.{limit, registers}
 use Rattle.rules.specs.declared.Stop.{Stop}
 use Rattle.rules.specs.declared.Stop.the-variants.{Finished, Spent, TraceFull}
 use Rattle.rules.specs.declared.Trailer.{Trailer}
-use Rattle.rules.specs.Rules.Instructions.{Instr, Observation, pc, windowCosts}
+use Rattle.rules.specs.declared.Tagged.{Tagged}
+use Rattle.rules.specs.Rules.Expressions.{eval}
+use Rattle.rules.specs.Rules.Instructions.{Instr, beqz, Observation, pc, windowCosts}
 use Rattle.rules.specs.Rules.Plain.{State, Code, endPlace}
 use Rattle.rules.specs.Rules.Plain as plain
 use Rattle.rules.specs.Rules.Mispredicting.{Branch, Machine, Step, rolling, opening, stepWith, ordinary, forward, step, plainStep}
 use Rattle.rules.specs.Rules.Loop.{ended}
 use Rattle.rules.specs.Rules.Runs.{Result, over, run}
-use Rattle.rules.specs.Rules.JobFile.{postfix, program, locations}
+use Rattle.rules.specs.Rules.JobFile.{instr, postfix, program, locations}
 use Rattle.rules.specs.Rules.Calls.{written, traceWords}
 use Rattle.rules.specs.Theorems.JobLaws.{Limits}
 use Rattle.token.specs.Meaning.{valueOr}
-use Rattle.program.specs.Offsets.{readable, offsetsFrom}
+use Rattle.entry.specs.declared.Entry.{Entry}
+use Rattle.entry.specs.Entries.{firstTokens, offsets}
+use Rattle.program.specs.Offsets.{readable, wordsFrom}
 use Rattle.instruction.specs.declared.Instruction.{Instruction}
-use Rattle.instruction.specs.declared.Instruction.the-variants.{BranchZero}
 use Rattle.instruction.specs.Meaning.{meaning}
 use Rattle.work.specs.Layout.{labels}
+use Rattle.work.specs.Words.{taggedAt}
 use Rattle.work.specs.Machines.{stateIn, machineOf, Fit}
 use Rattle.work.specs.Moves.{expiredOn}
 use Rattle.effect.specs.Registers.{RegistersBelow}
+use Rattle.effect.specs.Sources.{instructionAt, Sourced}
 use Rattle.stepping.specs.declared.Progress.{Progress}
 use Rattle.stops.specs.Stops.{closedAt, roomFor}
 use Rattle.stepping.specs.Progress.{logOf}
@@ -57,11 +62,12 @@ codeOf p t = record {
   costs = windowCosts;
 }
 
--- The program was accepted, and the working words hold the byte offset of each of its labels.
+-- The program was accepted, its offsets fit into a label's word, and the working words hold the word of each of its labels.
 pub record Loaded (p : List ℕ) (t : Trailer) (w : List ℕ) : Type 0 where
   pub limits : Limits t
   pub accepted : readable (program (t .count) (t .count) 0 p 0) ≡ true
-  pub table : (i : ℕ) → i < t .count → getD w (labels + i) 0 ≡ getD (offsetsFrom (t .count) p 0) i 0
+  pub size : length p ≤ offsets
+  pub table : (i : ℕ) → i < t .count → getD w (labels + i) 0 ≡ getD (wordsFrom (t .count) p 0) i 0
 
 -- A run can go on from here.
 pub record Ready (p : List ℕ) (t : Trailer) (mode : Mode) (w area : List ℕ) (c : Progress) : Type 0 where
@@ -119,17 +125,31 @@ GoTried place s i area area′ c next.Go c′ =
     (roomFor area c 1 ≡ true) × StateKept place 1 s i c c′ × (area′ ≡ sets area (2 * c .observations) (traceWords (pc place ∷ [])))
 GoTried place s i area area′ c (next.Halt x) c′ = (roomFor area c 1 ≡ false) × (x ≡ TraceFull) × (area′ ≡ area) × (c′ ≡ c)
 
--- rule 3 for the instruction i, with the rules' own effect
-pub record CarryingTried (p : List ℕ) (t : Trailer) (w w′ area area′ : List ℕ) (i : Instruction) (c : Progress) (x : Next) (c′ : Progress) : Type 0 where
+-- rule 3 for the code's instruction i, with the rules' own effect
+pub record InstructionTried (p : List ℕ) (t : Trailer) (w w′ area area′ : List ℕ) (i : Instruction) (c : Progress) (x : Next) (c′ : Progress) : Type 0 where
   pub tried : (code : Code) → CodeOf t code
       → Tried (locations t) (ordinary code (machineOf w (c .control) (locations t)) (meaning p i)) w w′ area area′ c x c′
 
--- What an instruction that is next asks: rules 2 and 3 can be tried, and its expressions and registers are those of a job.
-pub record Advancing (p : List ℕ) (t : Trailer) (w area : List ℕ) (i : Instruction) (c : Progress) : Type 0 where
+-- and for the rules' instruction i
+pub record CarryingTried (t : Trailer) (w w′ area area′ : List ℕ) (i : Instr) (c : Progress) (x : Next) (c′ : Progress) : Type 0 where
+  pub tried : (code : Code) → CodeOf t code
+      → Tried (locations t) (ordinary code (machineOf w (c .control) (locations t)) i) w w′ area area′ c x c′
+
+-- What an instruction asks whose first value is a: rule 3 can be tried, and its expressions and registers are those of a job.
+pub record Executing (p : List ℕ) (t : Trailer) (w area : List ℕ) (i : Instruction) (a : Tagged) (c : Progress) : Type 0 where
   pub can : CanStep w area c
   pub limits : Limits t
   pub sound : postfix (meaning p i) ≡ true
   pub below : RegistersBelow registers (meaning p i)
+  pub value : a ≡ eval (taggedAt w) (firstTokens (meaning p i))
+
+-- What the entry of the next instruction asks: rules 2 and 3 can be tried, and the entry and its instruction are those of a job.
+pub record Advancing (p : List ℕ) (t : Trailer) (w area : List ℕ) (e : Entry) (c : Progress) : Type 0 where
+  pub can : CanStep w area c
+  pub limits : Limits t
+  pub read : readable (instr p (e .at)) ≡ true
+  pub below : RegistersBelow registers (instructionAt p (e .at))
+  pub sourced : Sourced p e
 
 -- an instruction in each of the two runs: rule 2 is for the mispredicting one
 abbrev pub forwardBy : Mode → Code → Machine → Instr → Step
@@ -137,13 +157,13 @@ forwardBy modes.Plain code M x = ordinary code M x
 forwardBy modes.Mispredicting code M x = forward code M x
 
 -- What an instruction opens: a branch is rule 2's, in the mispredicting run, and nothing leaves it to rule 3.
-abbrev pub Opens : Mode → Instruction → Opening → Type 0
-Opens mode i (openings.Branch r l) = (mode ≡ modes.Mispredicting) × (i ≡ BranchZero r l)
-Opens mode i openings.Nothing = (p : List ℕ) (code : Code) (M : Machine) → forwardBy mode code M (meaning p i) ≡ ordinary code M (meaning p i)
+abbrev pub Opens : Mode → Instr → Opening → Type 0
+Opens mode i (openings.Branch r l) = (mode ≡ modes.Mispredicting) × (i ≡ beqz r (l .0))
+Opens mode i openings.Nothing = (code : Code) (M : Machine) → forwardBy mode code M i ≡ ordinary code M i
 
-pub record Advanced (p : List ℕ) (t : Trailer) (mode : Mode) (w w′ area area′ : List ℕ) (i : Instruction) (c : Progress) (x : Next) (c′ : Progress) : Type 0 where
+pub record Advanced (t : Trailer) (mode : Mode) (w w′ area area′ : List ℕ) (i : Instr) (c : Progress) (x : Next) (c′ : Progress) : Type 0 where
   pub tried : (code : Code) → CodeOf t code
-      → Tried (locations t) (forwardBy mode code (machineOf w (c .control) (locations t)) (meaning p i)) w w′ area area′ c x c′
+      → Tried (locations t) (forwardBy mode code (machineOf w (c .control) (locations t)) i) w w′ area area′ c x c′
 
 -- What a turn does, by the rules' tests: whether the machine is at END with nothing open, else whether the budget is spent, else
 -- whether the top branch has expired.

@@ -1,4 +1,5 @@
 // The plain run and the mispredicting run over the lent areas: one turn after another, until a stop.
+use entry::Entry;
 use instruction::Instruction;
 use location::Label;
 use location::LocationSet;
@@ -14,11 +15,13 @@ ghost use lib.ListN.{length};
 ghost use Rattle.location.specs.Sets.{registers, limit};
 ghost use Rattle.rules.specs.Rules.Plain.{loadEffect, storeEffect};
 ghost use Rattle.rules.specs.Rules.Calls.{workingWords};
+ghost use Rattle.entry.specs.Entries.{Shaped};
+ghost use Rattle.effect.specs.Sources.{instructionAt};
 ghost use Rattle.work.specs.Machines.{machineOf, Fit, maxWindow};
 ghost use Rattle.stepping.specs.Steps.{Counted, Live};
 ghost use Rattle.execution.specs.declared.Next.the-variants.{Go};
 ghost use Rattle.execution.specs.Starts.{beginning, whole};
-ghost use Rattle.execution.specs.Turns.{RollBackTried, CanStep, OpeningTried, EffectTried, GoTried, CarryingTried, Advancing, Opens, Advanced, Ready, Loaded, ruleAt, Turned, RanTo};
+ghost use Rattle.execution.specs.Turns.{RollBackTried, CanStep, OpeningTried, EffectTried, GoTried, InstructionTried, CarryingTried, Executing, Advancing, Opens, Advanced, Ready, Loaded, ruleAt, Turned, RanTo};
 
 // Which of the two runs.
 pub enum Mode {
@@ -161,20 +164,20 @@ fn stepped(progress: Progress) -> Turn
     }
 }
 
-// Rule 3, if its observation fits. What the instruction reads first is evaluated here; each kind then goes its own way to the end of
-// the step, so that nothing is decided twice.
-fn try_carry_out(
+// Rule 3 for the instruction i, if its observation fits; `a` is the value of what it reads first. Each kind goes its own way to the end
+// of the step, so that nothing is decided twice.
+fn try_instruction(
     p: &[u8],
     t: Trailer,
     work: &mut [u64],
     trace: &mut [u64],
     c: Progress,
     i: Instruction,
+    a: Tagged,
 ) -> Turn
-    requires { ⌜ Advancing (now p) t (now work) (now trace) i c ⌝ }
-    ensures { λ r. ⌜ CarryingTried (now (p .entry)) t (now (work .entry)) (now (work .exit)) (now (trace .entry)) (now (trace .exit)) i c (r .next) (r .progress) ⌝ }
+    requires { ⌜ Executing (now p) t (now work) (now trace) i a c ⌝ }
+    ensures { λ r. ⌜ InstructionTried (now (p .entry)) t (now (work .entry)) (now (work .exit)) (now (trace .entry)) (now (trace .exit)) i c (r .next) (r .progress) ⌝ }
 {
-    let a = effect::source_value(p, &work[..], i);
     let control = c.control;
     let next = control.place + 1;
     match i {
@@ -198,28 +201,44 @@ fn try_carry_out(
     }
 }
 
+// Rule 3 for the instruction of an entry, if its observation fits. What it reads first is evaluated before its kind is looked at, so that
+// one place evaluates for all kinds.
+fn try_carry_out(
+    p: &[u8],
+    t: Trailer,
+    work: &mut [u64],
+    trace: &mut [u64],
+    c: Progress,
+    e: Entry,
+) -> Turn
+    requires { ⌜ Advancing (now p) t (now work) (now trace) e c ⌝ }
+    ensures { λ r. ⌜ CarryingTried t (now (work .entry)) (now (work .exit)) (now (trace .entry)) (now (trace .exit)) (instructionAt (now (p .entry)) (e .at)) c (r .next) (r .progress) ⌝ }
+{
+    let a = effect::source_value(p, &work[..], e);
+    let i = instruction::instruction_at(p, e.at);
+    try_instruction(p, t, &mut work[..], &mut trace[..], c, i, a)
+}
+
 // The branch that rule 2 opens, or nothing: the instruction is rule 3's.
 pub enum Opening {
     Branch(u8, Label),
     Nothing,
 }
 
-// What an instruction opens in one of the two runs.
-fn opening_of(mode: Mode, i: Instruction) -> Opening
-    ensures { λ x. ⌜ Opens mode i x ⌝ }
+// What the instruction of an entry opens in one of the two runs: a branch, in the mispredicting one.
+fn opening_of(p: &[u8], mode: Mode, e: Entry) -> Opening
+    requires { ⌜ Shaped (now p) e (instructionAt (now p) (e .at)) ⌝ }
+    ensures { λ x. ⌜ Opens mode (instructionAt (now (p .entry)) (e .at)) x ⌝ }
 {
+    if e.shape != entry::BRANCH {
+        return Opening::Nothing;
+    }
     match mode {
         Mode::Plain => Opening::Nothing,
-        Mode::Mispredicting => match i {
-            Instruction::Skip => Opening::Nothing,
-            Instruction::Assign(_, _) => Opening::Nothing,
-            Instruction::Load(_, _) => Opening::Nothing,
-            Instruction::Store(_, _) => Opening::Nothing,
-            Instruction::Jump(_) => Opening::Nothing,
-            Instruction::BranchZero(r, l) => Opening::Branch(r, l),
-            Instruction::AssignIf(_, _, _) => Opening::Nothing,
-            Instruction::Barrier => Opening::Nothing,
-        },
+        Mode::Mispredicting => {
+            let l = Label::new(token::number(p, e.at + 2, 2) as usize);
+            Opening::Branch(e.first, l)
+        }
     }
 }
 
@@ -231,14 +250,14 @@ fn advance(
     work: &mut [u64],
     trace: &mut [u64],
     c: Progress,
-    i: Instruction,
+    e: Entry,
 ) -> Turn
-    requires { ⌜ Advancing (now p) t (now work) (now trace) i c ⌝ }
-    ensures { λ r. ⌜ Advanced (now (p .entry)) t mode (now (work .entry)) (now (work .exit)) (now (trace .entry)) (now (trace .exit)) i c (r .next) (r .progress) ⌝ }
+    requires { ⌜ Advancing (now p) t (now work) (now trace) e c ⌝ }
+    ensures { λ r. ⌜ Advanced t mode (now (work .entry)) (now (work .exit)) (now (trace .entry)) (now (trace .exit)) (instructionAt (now (p .entry)) (e .at)) c (r .next) (r .progress) ⌝ }
 {
-    match opening_of(mode, i) {
+    match opening_of(p, mode, e) {
         Opening::Branch(r, l) => try_open(&mut work[..], &mut trace[..], c, r, l, t.window),
-        Opening::Nothing => try_carry_out(p, t, &mut work[..], &mut trace[..], c, i),
+        Opening::Nothing => try_carry_out(p, t, &mut work[..], &mut trace[..], c, e),
     }
 }
 
@@ -249,7 +268,7 @@ pub enum Rule {
     Advance,
 }
 
-// What the next turn does. Finished comes before spent, but is looked for only with the budget made or at END; a window of 0 is
+// What the next turn does. Finished comes before spent, but is looked for only with the budget spent or at END; a window of 0 is
 // always rule 1's, as with nothing open it is not 0.
 fn rule_of(c: Progress, t: Trailer) -> Rule
     requires { ⌜ (c .control .depth ≡ 0 → 0 < c .control .window) ⌝ }
@@ -295,8 +314,8 @@ fn take_turn(
         Rule::Advance => {
             let control = c.control;
             let label = Label::new(control.place);
-            let i = program::fetch(p, t.count, &work[..], work::LABELS, label);
-            advance(p, t, mode, &mut work[..], &mut trace[..], c, i)
+            let e = program::fetch(&work[..], work::LABELS, label);
+            advance(p, t, mode, &mut work[..], &mut trace[..], c, e)
         }
     }
 }

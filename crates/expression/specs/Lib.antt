@@ -1,3 +1,2 @@
 pub mod Registers
 pub mod Results
-pub mod Shapes

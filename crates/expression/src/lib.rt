@@ -10,14 +10,13 @@ ghost use Prim.Native.Nat.{_≤_};
 ghost use lib.ListN.{length, getD};
 ghost use Rattle.location.specs.Sets.{registers};
 ghost use Rattle.rules.specs.Rules.Operators.{neg, apply1, add, apply2};
-ghost use Rattle.rules.specs.Rules.Expressions.{sound, eval};
-ghost use Rattle.rules.specs.Rules.JobFile.{unary, binary, token};
-ghost use Rattle.token.specs.Meaning.{tokenMeaning, readable, tokensOf};
+ghost use Rattle.rules.specs.Rules.Expressions.{sound, result2, eval};
+ghost use Rattle.rules.specs.Rules.JobFile.{unary, binary};
+ghost use Rattle.token.specs.Meaning.{tokenMeaning, tokensOf};
 ghost use Rattle.work.specs.Layout.{operandBase};
 ghost use Rattle.work.specs.Words.{taggedAt};
 ghost use Rattle.expression.specs.Registers.{TokenBelow};
 ghost use Rattle.expression.specs.Results.{value, gathered};
-ghost use Rattle.expression.specs.Shapes.{operandToken, operandIn, OperandAt, TwoAt, Shaped};
 
 // The most values that an expression holds, and one more, so that the second operand can always be read.
 const SLOTS: usize = 9;
@@ -113,106 +112,14 @@ pub fn evaluate(p: &[u8], work: &[u64], e: Expression) -> Tagged
     }
 }
 
-// An operand that is a token: a register, or a constant.
-pub enum Operand {
-    Register(u8),
-    Constant(u64),
-}
-
-// An operand with the offset after it; or some other token.
-pub enum OperandRead {
-    Found(Operand, usize),
-    Other,
-}
-
-fn read_operand(p: &[u8], at: usize) -> OperandRead
-    requires { ⌜ readable (token (now p) at) ≡ true ⌝ }
-    ensures { λ r. ⌜ OperandAt (now (p .entry)) at r ⌝ }
+// Two operands under an operator, by its place in the rules' table.
+pub fn combine(i: u8, x: Tagged, y: Tagged) -> Tagged
+    ensures { λ r. ⌜ r ≡ result2 (getD binary i add) x y ⌝ }
 {
-    let read = token::token_at(p, at);
-    let t = read.token;
-    match t {
-        Token::Register(r) => OperandRead::Found(Operand::Register(r), read.next),
-        Token::Constant(c) => OperandRead::Found(Operand::Constant(c), read.next),
-        Token::Unary(_) => OperandRead::Other,
-        Token::Binary(_) => OperandRead::Other,
-    }
-}
-
-// The expressions that need no stack: one operand, or two and their operator. `Long` is any other.
-pub enum Shape {
-    One(Operand),
-    Two(Operand, Operand, u8),
-    Long,
-}
-
-// Two operands, and the token after them.
-fn shape_of_two(p: &[u8], at: usize, a: Operand, b: Operand) -> Shape
-    requires { ⌜ readable (token (now p) at) ≡ true ⌝ }
-    ensures { λ r. ⌜ TwoAt (now (p .entry)) at a b r ⌝ }
-{
-    let read = token::token_at(p, at);
-    let t = read.token;
-    match t {
-        Token::Register(_) => Shape::Long,
-        Token::Constant(_) => Shape::Long,
-        Token::Unary(_) => Shape::Long,
-        Token::Binary(i) => Shape::Two(a, b, i),
-    }
-}
-
-fn shape_of(p: &[u8], e: Expression) -> Shape
-    requires { ⌜ sound (tokensOf (now p) e) ≡ true ⌝ }
-    ensures { λ r. ⌜ Shaped (now (p .entry)) e r ⌝ }
-{
-    match read_operand(p, e.at) {
-        OperandRead::Found(a, second) => {
-            if e.count == 1 {
-                return Shape::One(a);
-            }
-            if e.count != 3 {
-                return Shape::Long;
-            }
-            match read_operand(p, second) {
-                OperandRead::Found(b, third) => shape_of_two(p, third, a, b),
-                OperandRead::Other => Shape::Long,
-            }
-        }
-        OperandRead::Other => Shape::Long,
-    }
-}
-
-fn operand_value(work: &[u64], o: Operand) -> Tagged
-    requires { ⌜ TokenBelow registers (operandToken o) × (operandBase registers ≤ length (now work)) ⌝ }
-    ensures { λ r. ⌜ r ≡ operandIn (taggedAt (now (work .entry))) o ⌝ }
-{
-    match o {
-        Operand::Register(r) => work::load(work, Location::register(r)),
-        Operand::Constant(c) => Tagged {
-            value: c,
-            deps: LocationSet::empty(),
-        },
-    }
-}
-
-// The value of an expression that keeps the postfix rule: one operand, or two and their operator, need no stack. The slices are
-// taken anew for a longer one, so that a step with a short one does not set them up.
-pub fn value_of(p: &[u8], work: &[u64], e: Expression) -> Tagged
-    requires { ⌜ (sound (tokensOf (now p) e) ≡ true) × (operandBase registers ≤ length (now work)) ⌝ }
-    ensures { λ r. ⌜ r ≡ eval (taggedAt (now (work .entry))) (tokensOf (now (p .entry)) e) ⌝ }
-{
-    match shape_of(p, e) {
-        Shape::One(a) => operand_value(work, a),
-        Shape::Two(a, b, i) => {
-            let x = operand_value(work, a);
-            let y = operand_value(work, b);
-            let left = x.deps;
-            let right = y.deps;
-            Tagged {
-                value: operate_two(i, x.value, y.value),
-                deps: left.union(right),
-            }
-        }
-        Shape::Long => evaluate(&p[..], &work[..], e),
+    let left = x.deps;
+    let right = y.deps;
+    Tagged {
+        value: operate_two(i, x.value, y.value),
+        deps: left.union(right),
     }
 }

@@ -7,7 +7,7 @@ use Prim.Native.Nat.{ℕ, zero, suc, zero-le, _+_, _-_, _≤_, _<_}
 use native.Mathlib.Omega.{arith}
 use lib.Dec.{eqb, ltb}
 use lib.ListN.{length, getD, List·getD-eq-default}
-use borrow.Author.Tests.{ne-eqb}
+use borrow.Author.Tests.{ltb-true, ne-eqb}
 use Rattle.location.specs.Sets.{registers}
 use Rattle.rules.specs.declared.Refusal.the-variants as refusals
 use Rattle.rules.specs.Rules.Expressions.{Expr, sound}
@@ -52,16 +52,18 @@ instr-skip p at l b c d e f g h = go (getD p at 0) refl
     go (suc k) z = rw (instr-unknown p at l (beyond (getD p at 0) (λ w. omega arith) b c d e f g h))
 
 register-read : {A : Type 0} (p : List ℕ) (at : ℕ) (f : ℕ → ℕ → Read A) → readable (andThen (register p at) f) ≡ true
-    → (at < length p) × (andThen (register p at) f ≡ f (getD p at 0) (at + 1))
+    → (at < length p) × (andThen (register p at) f ≡ f (getD p at 0) (at + 1)) × (getD p at 0 < registers)
 unfolding register readable
 register-read p at f h =
     let l = byte-read p at (first-read 0 (byte p at) _ (first-read 0 (register p at) f h .0) .0) in
-    (l, rw (byte-got p at l) (go (ltb (getD p at 0) registers) (rw (byte-got p at l) at h)))
+    let k = go (ltb (getD p at 0) registers) refl (rw (byte-got p at l) at h) in
+    (l, rw (byte-got p at l) (k .0), k .1)
   where
-    go : (b : Bool) → readable (andThen (cond b (got (getD p at 0) (at + 1)) (refused refusals.Encoding)) f) ≡ true
-        → andThen (cond b (got (getD p at 0) (at + 1)) (refused refusals.Encoding)) f ≡ f (getD p at 0) (at + 1)
-    go true h = refl
-    go false h = absurd (let z : _≡_ {A = ℕ} 0 1 = cc in omega arith)
+    go : (b : Bool) → ltb (getD p at 0) registers ≡ b
+        → readable (andThen (cond b (got (getD p at 0) (at + 1)) (refused refusals.Encoding)) f) ≡ true
+        → (andThen (cond b (got (getD p at 0) (at + 1)) (refused refusals.Encoding)) f ≡ f (getD p at 0) (at + 1)) × (getD p at 0 < registers)
+    go true e h = (refl, ltb-true (getD p at 0) registers e)
+    go false e h = absurd (let z : _≡_ {A = ℕ} 0 1 = cc in omega arith)
 
 pub record WithParts (f : ℕ → Expr → Instr) (p : List ℕ) (at : ℕ) : Type 0 where
   pub room : at < length p
@@ -82,6 +84,7 @@ jump-parts p at h = let e = first-read [] (expr p at) _ h in (e .0, rw (e .1))
 
 pub record BranchParts (p : List ℕ) (at : ℕ) : Type 0 where
   pub room : at + 1 + 2 ≤ length p
+  pub below : getD p at 0 < registers
   pub value : valueOr skip (branch p at) ≡ beqz (getD p at 0) (little p (at + 1) 2)
 
 pub branch-parts : (p : List ℕ) (at : ℕ) → readable (branch p at) ≡ true → BranchParts p at
@@ -89,7 +92,7 @@ unfolding branch
 branch-parts p at h =
     let r = register-read p at _ h in
     let w = word-read 2 p (at + 1) (first-read 0 (wordOf 2 p (at + 1)) _ (rw (r .1) at h) .0) in
-    record { room = w .0; value = rw (r .1, w .1) }
+    record { room = w .0; below = r .2; value = rw (r .1, w .1) }
 
 pub record ConditionalParts (p : List ℕ) (at : ℕ) : Type 0 where
   pub room : at < length p

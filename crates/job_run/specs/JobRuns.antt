@@ -1,16 +1,20 @@
 -- One of the two runs of an accepted job: with a state that stands somewhere in some bytes, and with its own in lent areas.
 -- Assumes nothing.
 use mathlib.Core.Path.{_≡_, _∙_}
+use mathlib.Core.Bool.{true}
 use mathlib.Core.List.{List}
 use Prim.Native.Nat.{ℕ, _+_, _*_, _≤_}
 use native.Mathlib.Omega.{arith}
-use lib.ListN.{length, take, drop}
+use lib.Dec.{leb}
+use lib.ListN.{length, take, drop, length-take}
+use borrow.Author.Tests.{leb-true}
+use Rattle.location.specs.SetLaws.{and-right}
 use Rattle.rules.specs.declared.Stop.{Stop}
 use Rattle.rules.specs.declared.Trailer.{Trailer}
 use Rattle.rules.specs.declared.Counts.{Counts}
 use Rattle.rules.specs.Rules.Plain.{ownFrom}
 use Rattle.rules.specs.Rules.Runs.{Job, Result, mispredictingRun, plainRun}
-use Rattle.rules.specs.Rules.JobFile.{accepted, parse, trailer, locations, wordsAt}
+use Rattle.rules.specs.Rules.JobFile.{accepted, parse, trailer, sized, locations, wordsAt}
 use Rattle.rules.specs.Rules.Calls.{Areas, workingWords, room, areasAfter}
 use Rattle.rules.specs.Rules.Pairs.{withState}
 use Rattle.rules.specs.Theorems.JobLaws.{passed, Passed, limits-hold}
@@ -64,6 +68,13 @@ pub record RunIn (bs : List ℕ) (t : Trailer) (mode : Mode) (before after : Are
   pub areas : (job : Job) → parse bs ≡ accepted job → after ≡ areasAfter (resultOf mode job (room (before .trace))) before
 
 -- ---- laws
+sized-most : (bs : List ℕ) → sized (length bs) ≡ true → length bs ≤ 16384
+unfolding sized
+sized-most bs h = leb-true (length bs) 16384 (and-right (leb 16 (length bs)) (leb (length bs) 16384) h)
+
+length-take-most : (n : ℕ) (bs : List ℕ) → length (take n bs) ≤ length bs
+length-take-most n bs = let e = length-take n bs in omega arith
+
 -- what is loaded
 pub job-loaded : {bs p : List ℕ} {t : Trailer} {w w′ : List ℕ} → Accepts bs t → p ≡ take (t .state) bs → LabelsLoaded p (t .count) w w′
     → Loaded p t w′
@@ -72,6 +83,7 @@ job-loaded {bs} {p} {t} {w} {w′} a e l =
     record {
       limits = rw (a .trailer) (limits-hold (trailer bs) (q .limits));
       accepted = rw e (rw (a .trailer) (program-accepted q));
+      size = rw e (let h = sized-most bs (q .sized) in let k = length-take-most (t .state) bs in omega arith);
       table = l .entry;
     }
 

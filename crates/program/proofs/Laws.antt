@@ -1,18 +1,14 @@
--- How the loop over instructions and the instruction at a label meet the rules.
+-- How the loop over instructions meets the rules.
 -- Assumes nothing.
-use mathlib.Core.Path.{_≡_, refl, ap, _∙_}
-use mathlib.Core.Bool.{true}
-use mathlib.Core.List.{List, [], _∷_}
+use mathlib.Core.Path.{_≡_, refl, ap}
+use mathlib.Core.List.{List, _∷_}
 use Prim.Native.Nat.{ℕ, suc, _+_}
 use native.Mathlib.Omega.{arith}
-use lib.ListN.{getD}
 use Rattle.rules.specs.declared.Refusal.{Refusal}
-use Rattle.rules.specs.Rules.Instructions.{Instr, skip}
-use Rattle.rules.specs.Rules.JobFile.{Read, got, refused, andThen, instr, instruction, program}
-use Rattle.token.specs.Meaning.{valueOr}
+use Rattle.rules.specs.Rules.Instructions.{Instr}
+use Rattle.rules.specs.Rules.JobFile.{Read, got, refused, andThen, instruction, program}
 use Rattle.program.specs.declared.Checked.the-variants as check
 use Rattle.program.specs.Checks.{checkedOf}
-use Rattle.program.specs.Offsets.{readable, offsetsFrom, Stands, Fetchable, labelled}
 
 -- ---- the program: one instruction more, or a refusal
 first : (R : Read (List Instr)) (x : Instr) → checkedOf (andThen R (λ xs q. got (x ∷ xs) q)) ≡ checkedOf R
@@ -38,18 +34,3 @@ pub program-refused : (n k i : ℕ) (p : List ℕ) (at : ℕ) (r : Refusal) → 
     → checkedOf (program n (suc k) i p at) ≡ check.Refused r
 unfolding program
 program-refused n k i p at r e = halted (instruction n i p at) (program n k (i + 1) p) r e
-
--- ---- fetching: the instruction at the label's entry can be read, and is the program's with that label
-module _ (p : List ℕ) (n : ℕ) (table : List ℕ) (base label i : ℕ) (asked : Fetchable p n table base label) (same : i ≡ label) where
-  entry-same : getD table (base + i) 0 ≡ getD (offsetsFrom n p 0) label 0
-  entry-same = ap (λ (j : ℕ). getD table (base + j) 0) same ∙ asked .entry
-
-  stands : Stands n (0 + label) p (getD (offsetsFrom n p 0) label 0) (getD (valueOr [] (program n n 0 p 0)) label skip)
-  stands = labelled n n 0 p 0 (asked .accepted) label (asked .inside)
-
-  pub entry-readable : readable (instr p (getD table (base + i) 0)) ≡ true
-  unfolding readable
-  entry-readable = rw (entry-same, stands .read)
-
-  pub entry-instruction : valueOr skip (instr p (getD table (base + i) 0)) ≡ getD (valueOr [] (program n n 0 p 0)) label skip
-  entry-instruction = rw (entry-same, stands .read)

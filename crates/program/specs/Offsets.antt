@@ -1,4 +1,4 @@
--- The byte offset of each label of a program, and the instruction that stands there in a program that was accepted.
+-- The byte offset and the word of each label of a program, and the instruction that stands there in a program that was accepted.
 -- Assumes nothing.
 use mathlib.Core.Path.{_≡_, refl, sym, ap, ap₂, _∙_}
 use mathlib.Core.Bool.{Bool, true, false, cond}
@@ -12,6 +12,9 @@ use Rattle.rules.specs.declared.Refusal.the-variants as refusals
 use Rattle.rules.specs.Rules.Instructions.{Instr, skip}
 use Rattle.rules.specs.Rules.JobFile.{Read, got, refused, andThen, instr, postfix, branchLabelHolds, instruction, program}
 use Rattle.token.specs.Meaning.{valueOr}
+use Rattle.instruction.proofs.Laws.{instr-read}
+use Rattle.entry.specs.Entries.{offsets, wordAt, entryIn, Entered}
+use Rattle.entry.specs.Reading.{word-entered}
 unfoldable pub use Rattle.token.specs.Meaning.{readable, nextOffset}
 
 -- ---- offsets
@@ -20,38 +23,51 @@ unfoldable pub offsetsFrom : ℕ → List ℕ → ℕ → List ℕ
 offsetsFrom zero p at = []
 offsetsFrom (suc k) p at = at ∷ offsetsFrom k p (nextOffset (instr p at))
 
+-- their words
+unfoldable pub wordsFrom : ℕ → List ℕ → ℕ → List ℕ
+wordsFrom zero p at = []
+wordsFrom (suc k) p at = wordAt p at ∷ wordsFrom k p (nextOffset (instr p at))
+
 -- The instruction with label i of n is x and stands at an offset: it can be read there, and passed the tests of 5 and 6.
 pub record Stands (n i : ℕ) (p : List ℕ) (at : ℕ) (x : Instr) : Type 0 where
   pub read : instr p at ≡ got x (nextOffset (instr p at))
   pub sound : postfix x ≡ true
   pub label : branchLabelHolds n i x ≡ true
 
--- What `fetch` asks: the label is one of the program's, its entry of the table holds its offset, and the program was accepted.
+-- The label is one of an accepted program's, whose offsets fit into a word, and the table has its word.
 pub record Fetchable (p : List ℕ) (n : ℕ) (table : List ℕ) (base label : ℕ) : Type 0 where
   pub inside : label < n
   pub room : base + label < length table
-  pub entry : getD table (base + label) 0 ≡ getD (offsetsFrom n p 0) label 0
+  pub word : getD table (base + label) 0 ≡ getD (wordsFrom n p 0) label 0
   pub accepted : readable (program n n 0 p 0) ≡ true
+  pub size : length p ≤ offsets
 
--- ---- the table of offsets
-pub length-offsetsFrom : (k : ℕ) (p : List ℕ) (at : ℕ) → length (offsetsFrom k p at) ≡ k
-unfolding offsetsFrom
-length-offsetsFrom zero p at = refl
-length-offsetsFrom (suc k) p at = ap suc (length-offsetsFrom k p (nextOffset (instr p at)))
+-- ---- the table of words
+pub length-words : (k : ℕ) (p : List ℕ) (at : ℕ) → length (wordsFrom k p at) ≡ k
+unfolding wordsFrom
+length-words zero p at = refl
+length-words (suc k) p at = ap suc (length-words k p (nextOffset (instr p at)))
 
--- an entry of a table that the offsets of n instructions are written to, from a base on
-pub entry-offset : (n : ℕ) (p table : List ℕ) (base i : ℕ) → base + n ≤ length table → i < n
-    → getD (sets table base (offsetsFrom n p 0)) (base + i) 0 ≡ getD (offsetsFrom n p 0) i 0
-entry-offset n p table base i h g =
-    let vs = offsetsFrom n p 0 in
+-- an entry of a table that the words of n instructions are written to, from a base on
+pub entry-word : (n : ℕ) (p table : List ℕ) (base i : ℕ) → base + n ≤ length table → i < n
+    → getD (sets table base (wordsFrom n p 0)) (base + i) 0 ≡ getD (wordsFrom n p 0) i 0
+entry-word n p table base i h g =
+    let vs = wordsFrom n p 0 in
     let front = take base table in
-    let lv : length vs ≡ n = length-offsetsFrom n p 0 in
+    let lv : length vs ≡ n = length-words n p 0 in
     let lf : length front ≡ base = length-take-le base table (omega arith) in
     let la : length (front ++ vs) ≡ base + n = length-append front vs ∙ ap₂ (λ (a b : ℕ). a + b) lf lv in
     ap (λ (ws : List ℕ). getD ws (base + i) 0) (sets-eq vs table base (omega arith))
     ∙ List·getD-append (front ++ vs) (drop (base + length vs) table) 0 (base + i) (omega arith)
     ∙ ap (λ (j : ℕ). getD (front ++ vs) (j + i) 0) (sym lf)
     ∙ getD-append-add front vs i 0
+
+-- a word is that of the instruction at the label's offset
+word-at-offset : (k : ℕ) (p : List ℕ) (at l : ℕ) → l < k → getD (wordsFrom k p at) l 0 ≡ wordAt p (getD (offsetsFrom k p at) l 0)
+unfolding offsetsFrom wordsFrom
+word-at-offset zero p at l h = absurd (omega arith)
+word-at-offset (suc k) p at zero h = refl
+word-at-offset (suc k) p at (suc l) h = word-at-offset k p (nextOffset (instr p at)) l (omega arith)
 
 -- ---- laws of what was read
 pub got-not-refused : {A P : Type 0} {a : A} {q : ℕ} {r : Refusal} → refused r ≡ got a q → P
@@ -128,3 +144,16 @@ labelled n k i p at h l g = go (program n k i p at) refl h
         → Stands n (i + l) p (getD (offsetsFrom k p at) l 0) (getD (valueOr [] R) l skip)
     go (got xs q) e h = program-got n k i p at xs q e l g
     go (refused r) e h = absurd (unread r h)
+
+-- ---- fetching: the entry of a label is that of the program's instruction with that label
+pub fetched : {p : List ℕ} {n : ℕ} {table : List ℕ} {base label : ℕ} → Fetchable p n table base label
+    → Entered p (entryIn (getD table (base + label) 0)) (getD (valueOr [] (program n n 0 p 0)) label skip)
+unfolding readable
+fetched {p} {n} {table} {base} {label} f =
+    let at = getD (offsetsFrom n p 0) label 0 in
+    let s = labelled n n 0 p 0 (f .accepted) label (f .inside) in
+    let r : readable (instr p at) ≡ true = rw (s .read) in
+    let l = instr-read p at r in
+    let k = f .size in
+    let v : valueOr skip (instr p at) ≡ getD (valueOr [] (program n n 0 p 0)) label skip = rw (s .read) in
+    rw (f .word, word-at-offset n p 0 label (f .inside), ← v) (word-entered p at (omega arith) r)

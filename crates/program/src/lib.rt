@@ -1,19 +1,19 @@
-// A program: its tests (refusals 4 to 7), the byte offset of each label, and the instruction with a label.
+// A program: its tests (refusals 4 to 7), the table of its labels, and the entry of a label.
+use entry::Entry;
 use instruction::Instruction;
 use instruction::InstructionRead;
 use location::Label;
 use rules::Refusal;
 ghost use mathlib.Core.Path.{_≡_};
-ghost use mathlib.Core.List.{List, []};
+ghost use mathlib.Core.List.{List};
 ghost use Prim.Native.Nat.{ℕ, _+_, _<_, _≤_};
 ghost use lib.ListN.{length, getD};
 ghost use lib.Seq.{sets};
-ghost use Rattle.rules.specs.Rules.Instructions.{skip};
 ghost use Rattle.rules.specs.Rules.JobFile.{instr, branchLabelHolds, instruction, program};
-ghost use Rattle.token.specs.Meaning.{valueOr};
 ghost use Rattle.instruction.specs.Meaning.{meaning};
 ghost use Rattle.program.specs.Checks.{checkedOf};
-ghost use Rattle.program.specs.Offsets.{nextOffset, offsetsFrom, Fetchable};
+ghost use Rattle.entry.specs.Entries.{entryIn};
+ghost use Rattle.program.specs.Offsets.{nextOffset, wordsFrom};
 
 // Whether the branch label, if it has one, of the instruction with a label is allowed: at most n, and not the next label.
 fn branch_label_holds(i: Instruction, n: usize, label: usize) -> bool
@@ -102,26 +102,25 @@ fn next_offset(p: &[u8], at: usize) -> usize
     }
 }
 
-// Writes the offsets of n instructions to a table, from a base on. Any bytes have such offsets.
-pub fn write_offsets(p: &[u8], n: usize, table: &mut [u64], base: usize)
+// Writes the words of n instructions to a table, from a base on. Any bytes have such words.
+pub fn write_words(p: &[u8], n: usize, table: &mut [u64], base: usize)
     requires { ⌜ base + n ≤ length (now table) ⌝ }
-    ensures { λ _. ⌜ now (table .exit) ≡ sets (now (table .entry)) base (offsetsFrom n (now (p .entry)) 0) ⌝ }
+    ensures { λ _. ⌜ now (table .exit) ≡ sets (now (table .entry)) base (wordsFrom n (now (p .entry)) 0) ⌝ }
 {
     let mut at: usize = 0;
     let mut i = 0;
     while i < n {
-        table[base + i] = at as u64;
+        table[base + i] = entry::word_at(p, at);
         at = next_offset(p, at);
         i += 1;
     }
 }
 
-// The instruction with a label, of a program of n instructions that was accepted, by its offset in the table.
-pub fn fetch(p: &[u8], n: usize, table: &[u64], base: usize, label: Label) -> Instruction
-    requires { ⌜ Fetchable (now p) n (now table) base (label .0) ⌝ }
-    ensures { λ i. ⌜ meaning (now (p .entry)) i ≡ getD (valueOr [] (program n n 0 (now (p .entry)) 0)) (label .0) skip ⌝ }
+// The entry of a label, by its word in the table.
+pub fn fetch(table: &[u64], base: usize, label: Label) -> Entry
+    requires { ⌜ base + label .0 < length (now table) ⌝ }
+    ensures { λ e. ⌜ e ≡ entryIn (getD (now (table .entry)) (base + label .0) 0) ⌝ }
 {
-    let entry = base + label.index();
-    let at = table[entry] as usize;
-    instruction::instruction_at(p, at)
+    let word = table[base + label.index()];
+    entry::entry_in(word)
 }

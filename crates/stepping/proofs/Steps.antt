@@ -15,7 +15,7 @@ use Rattle.rules.specs.Rules.Calls.{observationWords, traceWords}
 use Rattle.rules.specs.Rules.Instructions.{Instr, beqz, Observation, pc, windowCosts}
 use Rattle.rules.specs.Rules.Plain.{State, at, put, Code, branchTo, silent, goEffect}
 use Rattle.rules.specs.Rules.Plain as plain
-use Rattle.rules.specs.Rules.Mispredicting.{Branch, Machine, Step, remaining, lower, newWindow, rolling, opening, stepWith}
+use Rattle.rules.specs.Rules.Mispredicting.{Branch, Machine, Step, lower, newWindow, rolling, opening, stepWith}
 use Rattle.rules.specs.Rules.Runs.{note}
 use Rattle.instruction.specs.declared.Instruction.{Instruction}
 use Rattle.instruction.specs.declared.Instruction.the-variants.{BranchZero}

@@ -11,11 +11,10 @@ use lib.ListN.{length, getD}
 use borrow.Author.Tests.{leb-true, ltb-true, ltb-false, le-leb, lt-leb, lt-ltb, le-ltb, ne-eqb}
 use Rattle.rules.specs.declared.Refusal.the-variants as refusals
 use Rattle.rules.specs.Rules.Operators.{neg, add}
-use Rattle.rules.specs.Rules.Expressions.{Token, reg, const, op1, op2, Expr, held, sound}
+use Rattle.rules.specs.Rules.Expressions.{Token, reg, const, op1, op2, Expr}
 use Rattle.rules.specs.Rules.JobFile.{Read, got, refused, andThen, return, refuse, little, wordOf, byte, unary, binary, constant, tokenOf, token, tokens, expr}
-use Rattle.token.specs.declared.Expression.{Expression}
 use Rattle.token.specs.Bytes.{byte-got, byte-past}
-use Rattle.token.specs.Meaning.{readable, nextOffset, valueOr, tokensOf}
+use Rattle.token.specs.Meaning.{readable, nextOffset, valueOr}
 
 unread : false ≡ true → ⊥
 unread h = let z : _≡_ {A = ℕ} 0 1 = cc in omega arith
@@ -153,15 +152,6 @@ tokens-read k p at h =
   where
     skipped : Token
     skipped = const 0
-
--- an expression that keeps the postfix rule has tokens, and they can be read
-pub sound-read : (p : List ℕ) (e : Expression) → sound (tokensOf p e) ≡ true → readable (tokens (e .count) p (e .at)) ≡ true
-unfolding tokensOf sound held readable
-sound-read p e h = go (tokens (e .count) p (e .at)) h
-  where
-    go : (R : Read Expr) → eqb (held 0 (valueOr [] R)) 1 ≡ true → readable R ≡ true
-    go (got ts q) h = refl
-    go (refused r) h = absurd (unread h)
 
 -- an expression: its token count, then so many tokens
 pub expr-read : (p : List ℕ) (at : ℕ) → readable (expr p at) ≡ true → (at < length p) × (expr p at ≡ tokens (getD p at 0) p (at + 1))

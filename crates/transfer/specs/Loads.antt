@@ -8,7 +8,7 @@ use lib.ListN.{length, getD, take, drop}
 use Rattle.location.specs.Sets.{limit}
 use Rattle.rules.specs.Rules.Plain.{ownFrom}
 use Rattle.rules.specs.Rules.JobFile.{wordsAt}
-use Rattle.program.specs.Offsets.{offsetsFrom}
+use Rattle.program.specs.Offsets.{wordsFrom}
 use Rattle.work.specs.Layout.{operandBase, labels, labelBase}
 use Rattle.work.specs.Machines.{stateIn}
 use Rattle.work.proofs.Ranges.{drop-past}
@@ -20,9 +20,9 @@ pub record StateLoaded (bs : List ℕ) (at n : ℕ) (w w′ : List ℕ) : Type 0
   pub after : drop (operandBase n) w′ ≡ drop (operandBase n) w
   pub size : length w′ ≡ length w
 
--- The entries of the table of labels are the offsets of a program's instructions; the other words stay.
+-- The entries of the table of labels are the words of a program's instructions; the other words stay.
 pub record LabelsLoaded (p : List ℕ) (count : ℕ) (w w′ : List ℕ) : Type 0 where
-  pub entry : (i : ℕ) → i < count → getD w′ (labelBase i) 0 ≡ getD (offsetsFrom count p 0) i 0
+  pub entry : (i : ℕ) → i < count → getD w′ (labelBase i) 0 ≡ getD (wordsFrom count p 0) i 0
   pub before : take labels w′ ≡ take labels w
   pub after : drop (labelBase count) w′ ≡ drop (labelBase count) w
   pub size : length w′ ≡ length w

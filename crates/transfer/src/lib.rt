@@ -41,12 +41,12 @@ pub fn load_state(bytes: &[u8], at: usize, n: usize, work: &mut [u64])
     }
 }
 
-// The table of labels takes the byte offsets of a program's instructions.
+// The table of labels takes the words of a program's instructions.
 pub fn load_labels(p: &[u8], count: usize, work: &mut [u64])
     requires { ⌜ labelBase count ≤ length (now work) ⌝ }
     ensures { λ _. ⌜ LabelsLoaded (now (p .entry)) count (now (work .entry)) (now (work .exit)) ⌝ }
 {
-    program::write_offsets(p, count, &mut work[..], work::LABELS);
+    program::write_words(p, count, &mut work[..], work::LABELS);
 }
 
 // Registers then cells as they are now, from the front of an area.

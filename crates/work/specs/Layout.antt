@@ -6,7 +6,8 @@ use Prim.Native.Nat.{ℕ, _+_, _*_}
 abbrev pub operandBase : ℕ → ℕ
 operandBase l = 5 * l
 
--- words 1280 to 2485: the log of 201 changes of 6 words: the location, then its operand of before
+-- words 1280 to 2485: the log of changes, room for 201 of 6 words, of which at most 200 are used: the location, then its operand of
+-- before
 abbrev pub logBase : ℕ
 logBase = 1280
 
@@ -21,7 +22,7 @@ firstBranch = 2486
 abbrev pub branchBase : ℕ → ℕ
 branchBase k = firstBranch + 4 * k
 
--- words 3290 to 3801: the byte offset of each of 512 labels; words 3802 to 4095 are free
+-- words 3290 to 3801: the word of each of 512 labels; words 3802 to 4095 are free
 abbrev pub labels : ℕ
 labels = 3290
 

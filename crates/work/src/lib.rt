@@ -24,7 +24,7 @@ pub const CHANGE: usize = 6;
 pub const BRANCHES: usize = 2486;
 // How many words a branch has.
 pub const ENTRY: usize = 4;
-// Label i has the byte offset of its instruction at LABELS + i.
+// Label i has the word of its instruction, as the crate `entry` makes it, at LABELS + i.
 pub const LABELS: usize = 3290;
 // How many words there are; those past the table of labels are free.
 pub const WORDS: usize = 4096;

@@ -1,8 +1,17 @@
--- `opening_of` meets its contract, by the two runs and the eight instructions. Assumes nothing.
-use Rattle.rules.specs.Rules.Mispredicting.{forward}
+-- `opening_of` meets its contract: the shape of a branch is no other instruction's, and the plain run opens nothing. Assumes nothing.
+use mathlib.Core.Path.{refl, sym, ap, _∙_}
+use native.Mathlib.Omega.{arith}
+use Rattle.rules.specs.Rules.Instructions.{beqz}
+use Rattle.entry.specs.Reading.{no-branch}
+use Rattle.execution.proofs.Laws.{never-opens}
 use borrow.Author.Needs.{needs}
 use Rattle.execution.proofs.opening_of.Statement.{statement}
 use Rattle.execution.proofs.opening_of.Tie as tie
+
+returns : tie.Need-returns
+returns c =
+    let a = c .before .before .before .args in
+    never-opens (a .mode) _ (no-branch (a .e .shape) (a .p .now) (a .e .at) (a .e .first) _ (c .if1 .taken) (c .before .before .before .pre))
 
 enum-told : tie.Need-enum-told
 enum-told c = search needs
@@ -10,84 +19,32 @@ enum-told c = search needs
 enum-told-2 : tie.Need-enum-told-2
 enum-told-2 c = search needs
 
-enum-told-3 : tie.Need-enum-told-3
-enum-told-3 c = search needs
+add-number : tie.Need-add-number
+add-number c = let h = (rw (c .before .before .before .if1 .left) at (c .before .before .before .before .before .before .pre)) .2 in search needs
 
-enum-told-4 : tie.Need-enum-told-4
-enum-told-4 c = search needs
+number-requires : tie.Need-number-requires
+number-requires c κs = let h = (rw (c .before .before .before .if1 .left) at (c .before .before .before .before .before .before .pre)) .2 in (omega arith, omega arith)
 
-enum-told-5 : tie.Need-enum-told-5
-enum-told-5 c = search needs
-
-enum-told-6 : tie.Need-enum-told-6
-enum-told-6 c = search needs
-
-enum-told-7 : tie.Need-enum-told-7
-enum-told-7 c = search needs
-
-enum-known-i : tie.Need-enum-known-i
-enum-known-i c = search needs
-
-enum-told-8 : tie.Need-enum-told-8
-enum-told-8 c = search needs
-
-enum-told-9 : tie.Need-enum-told-9
-enum-told-9 c = search needs
-
-returns : tie.Need-returns
-returns c = λ p code M. rw (c .enum-told .given .1)
+new-requires : tie.Need-new-requires
+new-requires c κs = search needs
 
 returns-2 : tie.Need-returns-2
-unfolding forward
-returns-2 c = λ p code M. rw (c .before .before .enum-told2 .given .1, c .enum-told3 .given .1)
+returns-2 c = rw (c .enum-told .given .1) (λ code M. refl)
 
 returns-3 : tie.Need-returns-3
-unfolding forward
-returns-3 c = λ p code M. rw (c .before .before .enum-told2 .given .1, c .enum-told4 .given .1)
-
-returns-4 : tie.Need-returns-4
-unfolding forward
-returns-4 c = λ p code M. rw (c .before .before .enum-told2 .given .1, c .enum-told5 .given .1)
-
-returns-5 : tie.Need-returns-5
-unfolding forward
-returns-5 c = λ p code M. rw (c .before .before .enum-told2 .given .1, c .enum-told6 .given .1)
-
-returns-6 : tie.Need-returns-6
-unfolding forward
-returns-6 c = λ p code M. rw (c .before .before .enum-told2 .given .1, c .enum-told7 .given .1)
-
-returns-7 : tie.Need-returns-7
-returns-7 c = search needs
-
-returns-8 : tie.Need-returns-8
-unfolding forward
-returns-8 c = λ p code M. rw (c .before .before .enum-told2 .given .1, c .enum-told8 .given .1)
-
-returns-9 : tie.Need-returns-9
-unfolding forward
-returns-9 c = λ p code M. rw (c .before .before .enum-told2 .given .1, c .enum-told9 .given .1)
+returns-3 c =
+    let h = rw (c .before .before .before .before .before .if1 .left) at (c .before .before .before .before .before .before .before .before .pre) in
+    (c .before .before .before .enum-told2 .given .1, h .0 ∙ ap (beqz (c .before .before .before .before .before .before .before .before .args .e .first)) (sym (c .new .ensures ∙ c .before .number .ensures .0)))
 
 pub opening-of-spec : {M : Type 1} → statement M
 opening-of-spec =
     tie.close
     (tie.spec
+    returns
     enum-told
     enum-told-2
-    enum-told-3
-    enum-told-4
-    enum-told-5
-    enum-told-6
-    enum-told-7
-    enum-known-i
-    enum-told-8
-    enum-told-9
-    returns
+    add-number
+    number-requires
+    new-requires
     returns-2
-    returns-3
-    returns-4
-    returns-5
-    returns-6
-    returns-7
-    returns-8
-    returns-9)
+    returns-3)

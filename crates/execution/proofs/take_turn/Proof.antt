@@ -4,6 +4,7 @@ use Rattle.work.specs.Words.{entryAt, changeAt}
 use Rattle.work.specs.Machines.{stateIn, machineOf}
 use Rattle.work.proofs.Rules.{expired-depth}
 use Rattle.rules.specs.Rules.JobFile.{locations}
+use Rattle.effect.specs.Sources.{instructionAt}
 use Rattle.execution.specs.TurnLaws.{closed-false, closed-window, window-left, back-found, on-found, halts-stopped, turned-back, turned-on, fetchable, fetched-same, advancing}
 use Rattle.execution.proofs.Laws.{inside, unchanged}
 use borrow.Author.Needs.{needs}
@@ -42,7 +43,7 @@ fetch-requires c κs =
     let n = locations (a .t) in
     let k = a .c .control in
     let f = on-found (a .t) (a .c) (machineOf w k n .branches) (sym (c .before .before .before .before .before .rule-of .ensures w n) ∙ c .before .before .before .enum-told2 .given .1) in
-    rw (c .before .new .ensures) (fetchable (a .p .now) (a .t) (a .mode) (a .work .now) (a .trace .now) (a .c) (c .before .before .before .before .before .before .before .before .before .pre) (inside (a .t .count) w k n (f .on) (f .top)))
+    rw (c .before .new .ensures) (fetchable (a .p .now) (a .t) (a .mode) (a .work .now) (a .trace .now) (a .c) (c .before .before .before .before .before .before .before .before .before .pre) (inside (a .t .count) w k n (f .on) (f .top)) .room)
 
 advance-requires : tie.Need-advance-requires
 advance-requires c κs =
@@ -91,7 +92,7 @@ returns-3 c =
     let k = a .c .control in
     let f = on-found (a .t) (a .c) (machineOf w k n .branches) (sym (c .before .before .before .before .before .before .before .before .before .before .before .before .before .rule-of .ensures w n) ∙ c .before .before .before .before .before .before .before .before .before .before .before .enum-told2 .given .1) in
     let i = inside (a .t .count) w k n (f .on) (f .top) in
-    turned-on (a .p .now) (a .t) (a .mode) w _ (a .trace .now) _ (c .before .before .before .before .before .before .before .fetch .result) (a .c) _ _ (c .before .before .before .before .before .before .before .before .before .before .before .before .before .before .before .before .before .pre) (closed-false (k .depth) (a .t .count) (k .place) (f .on))
+    turned-on (a .p .now) (a .t) (a .mode) w _ (a .trace .now) _ (instructionAt (a .p .now) (c .before .before .before .before .before .before .before .fetch .result .at)) (a .c) _ _ (c .before .before .before .before .before .before .before .before .before .before .before .before .before .before .before .before .before .pre) (closed-false (k .depth) (a .t .count) (k .place) (f .on))
     (f .left) (f .top) (fetched-same (a .p .now) (a .t) (a .mode) (a .work .now) (a .trace .now) (a .c) (c .before .before .before .before .before .before .before .before .before .before .before .before .before .before .before .before .before .pre) i (c .before .before .before .before .before .before .before .fetch .result) (rw (c .before .before .before .before .before .before .before .before .before .new .ensures) at (c .before .before .before .before .before .before .before .fetch .ensures))) (c .before .before .before .before .advance .ensures)
 
 pub take-turn-spec : {M : Type 1} → statement M

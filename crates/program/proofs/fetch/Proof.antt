@@ -1,6 +1,8 @@
--- `program::fetch` meets its contract: an accepted program has its instruction at the offset of each label. Assumes nothing.
-use mathlib.Core.Path.{_∙_}
-use Rattle.program.proofs.Laws.{entry-readable, entry-instruction}
+-- `program::fetch` meets its contract. Assumes nothing.
+use mathlib.Core.Path.{ap, _∙_}
+use Prim.Native.Nat.{ℕ, _+_}
+use lib.ListN.{getD}
+use Rattle.entry.specs.Entries.{entryIn}
 use borrow.Author.Needs.{needs}
 use Rattle.program.proofs.fetch.Statement.{statement}
 use Rattle.program.proofs.fetch.Tie as tie
@@ -8,34 +10,24 @@ use Rattle.program.proofs.fetch.Tie as tie
 index-requires : tie.Need-index-requires
 index-requires c κs = search needs
 
-add-entry : tie.Need-add-entry
-add-entry c = search needs
+add-word : tie.Need-add-word
+add-word c = search needs
 
-mul-at : tie.Need-mul-at
-mul-at c = search needs
+mul-word : tie.Need-mul-word
+mul-word c = search needs
 
-shared-slice-read-at : tie.Need-shared-slice-read-at
-shared-slice-read-at c = search needs
+shared-slice-read-word : tie.Need-shared-slice-read-word
+shared-slice-read-word c = search needs
 
-instruction-at-requires : tie.Need-instruction-at-requires
-instruction-at-requires c κs =
-    let s = c .before .before .before .before in
-    let a = s .args in
-    entry-readable (a .p .now) (a .n) (a .table .now) (a .base) (a .label .0) _ (s .pre) (c .before .index .ensures)
+entry-in-requires : tie.Need-entry-in-requires
+entry-in-requires c κs = search needs
 
 returns : tie.Need-returns
 returns c =
-    let s = c .before .before .before .before .before in
-    let a = s .args in
-    c .instruction-at .ensures ∙ entry-instruction (a .p .now) (a .n) (a .table .now) (a .base) (a .label .0) _ (s .pre) (c .before .before .index .ensures)
+    let a = c .before .before .before .before .args in
+    c .entry-in .ensures ∙ ap (λ (i : ℕ). entryIn (getD (a .table .now) (a .base + i) 0)) (c .before .before .index .ensures)
 
 pub fetch-spec : {M : Type 1} → statement M
 fetch-spec =
     tie.close
-    (tie.spec
-    index-requires
-    add-entry
-    mul-at
-    shared-slice-read-at
-    instruction-at-requires
-    returns)
+    (tie.spec index-requires add-word mul-word shared-slice-read-word entry-in-requires returns)

@@ -1,0 +1,92 @@
+-- `entry::shape_at` meets its contract, by the kind byte. Assumes nothing.
+use mathlib.Core.Path.{_∙_}
+use Rattle.entry.specs.Entries.{kindShapes, shapeAt}
+use Rattle.entry.proofs.Laws.{shape-nothing}
+use borrow.Author.Needs.{needs}
+use Rattle.entry.proofs.shape_at.Statement.{statement}
+use Rattle.entry.proofs.shape_at.Tie as tie
+
+byte-at-requires : tie.Need-byte-at-requires
+byte-at-requires c κs = search needs
+
+add-shape-of-expression : tie.Need-add-shape-of-expression
+add-shape-of-expression c = search needs
+
+shape-of-expression-requires : tie.Need-shape-of-expression-requires
+shape-of-expression-requires c κs = search needs
+
+add-shape-of-expression-2 : tie.Need-add-shape-of-expression-2
+add-shape-of-expression-2 c = search needs
+
+shape-of-expression-requires-2 : tie.Need-shape-of-expression-requires-2
+shape-of-expression-requires-2 c κs = search needs
+
+add-shape-of-expression-3 : tie.Need-add-shape-of-expression-3
+add-shape-of-expression-3 c = search needs
+
+shape-of-expression-requires-3 : tie.Need-shape-of-expression-requires-3
+shape-of-expression-requires-3 c κs = search needs
+
+add-shape-of-jump : tie.Need-add-shape-of-jump
+add-shape-of-jump c = search needs
+
+shape-of-jump-requires : tie.Need-shape-of-jump-requires
+shape-of-jump-requires c κs = search needs
+
+add-shape-of-expression-4 : tie.Need-add-shape-of-expression-4
+add-shape-of-expression-4 c = search needs
+
+shape-of-expression-requires-4 : tie.Need-shape-of-expression-requires-4
+shape-of-expression-requires-4 c κs = search needs
+
+returns : tie.Need-returns
+unfolding kindShapes shapeAt
+returns c = rw (← c .before .before .byte-at .ensures, c .before .match .keys1) (c .shape-of-expression .ensures)
+
+returns-2 : tie.Need-returns-2
+unfolding kindShapes shapeAt
+returns-2 c = rw (← c .before .before .byte-at .ensures, c .before .match .keys2) (c .shape-of-expression2 .ensures)
+
+returns-3 : tie.Need-returns-3
+unfolding kindShapes shapeAt
+returns-3 c = rw (← c .before .before .byte-at .ensures, c .before .match .keys3) (c .shape-of-expression3 .ensures)
+
+returns-4 : tie.Need-returns-4
+unfolding kindShapes shapeAt
+returns-4 c = rw (← c .before .before .byte-at .ensures, c .before .match .keys4) (c .shape-of-jump .ensures)
+
+returns-5 : tie.Need-returns-5
+unfolding kindShapes shapeAt
+returns-5 c = rw (← c .before .byte-at .ensures, c .match .keys5)
+
+returns-6 : tie.Need-returns-6
+unfolding kindShapes shapeAt
+returns-6 c = rw (← c .before .before .byte-at .ensures, c .before .match .keys6) (c .shape-of-expression4 .ensures)
+
+returns-7 : tie.Need-returns-7
+returns-7 c =
+    let e = c .before .byte-at .ensures in let h = c .match .rest in
+    shape-nothing _ _ (λ k. h .0 .0 .0 .0 .0 .1 (e ∙ k)) (λ k. h .0 .0 .0 .0 .1 (e ∙ k)) (λ k. h .0 .0 .0 .1 (e ∙ k)) (λ k. h .0 .0 .1 (e ∙ k)) (λ k. h .0 .1 (e ∙ k)) (λ k. h .1 (e ∙ k))
+
+pub shape-at-spec : {M : Type 1} → statement M
+shape-at-spec =
+    tie.close
+    (tie.spec
+    byte-at-requires
+    add-shape-of-expression
+    shape-of-expression-requires
+    add-shape-of-expression-2
+    shape-of-expression-requires-2
+    add-shape-of-expression-3
+    shape-of-expression-requires-3
+    add-shape-of-jump
+    shape-of-jump-requires
+    add-shape-of-expression-4
+    shape-of-expression-requires-4
+    returns
+    returns-2
+    returns-3
+    returns-4
+    returns-5
+    returns-6
+    returns-7)
