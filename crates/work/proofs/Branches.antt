@@ -2,7 +2,7 @@
 -- Assumes nothing.
 use mathlib.Core.Path.{_≡_, refl, sym, ap, _∙_, subst}
 use mathlib.Core.List.{List, [], _∷_}
-use Prim.Native.Nat.{ℕ, zero, suc, _+_, _-_, _<_, _≤_}
+use Prim.Native.Nat.{ℕ, zero, suc, _+_, _-_, _*_, _<_, _≤_}
 use native.Mathlib.Nat.{le-refl}
 use native.Mathlib.Omega.{arith}
 use lib.ListN.{length}
@@ -12,11 +12,11 @@ use Rattle.rules.specs.Rules.Calls.{workingWords}
 use Rattle.rules.specs.Rules.Plain.{State}
 use Rattle.rules.specs.Theorems.Undo.{Change, restore}
 use Rattle.work.specs.declared.BranchEntry.{BranchEntry}
-use Rattle.work.specs.Layout.{changeBase, branchBase}
+use Rattle.work.specs.Layout.{changeBase, branchBase, firstBranch}
 use Rattle.work.specs.Words.{changeAt, changed, entryAt, entryStored}
 use Rattle.work.specs.Machines.{stateIn, lastChanges, savedAt, branchesOf, maxWindow, WindowBound}
 use Rattle.work.specs.Moves.{lowerTo}
-use Rattle.work.proofs.Ranges.{same-before, change-same, entry-same, entry-stored}
+use Rattle.work.proofs.Ranges.{same-before, same-after, change-same, entry-same, entry-stored}
 use Rattle.work.proofs.States.{state-before, changes-agree, changed-before, changed-entry, changed-saved}
 
 -- ---- branches with the same entries, and with the same changes below the log's length, are the same
@@ -54,7 +54,7 @@ bound-left e u v (suc d) k l s h =
 
 -- ---- location l given x and its operand of before logged as change number k, where the top is branch number d and has the window u
 module _ (w : List ℕ) (n k d l u : ℕ) (x : Tagged) (room : workingWords ≤ length w) (hn : n ≤ limit) (hl : l < limit)
-    (e : length (x .deps .words) ≡ 4) (most : k + d < maxWindow) (h : WindowBound (entryAt w) u (suc d) k) where
+    (e : length (x .deps .words) ≡ 4) (apart : 6 * k + 6 + 4 * d ≤ firstBranch) (h : WindowBound (entryAt w) u (suc d) k) where
   abbrev w₁ : List ℕ
   w₁ = changed w k l x
 
@@ -101,7 +101,7 @@ module _ (w : List ℕ) (n k d l u : ℕ) (x : Tagged) (room : workingWords ≤ 
       subst (λ (y : BranchEntry). (y .mark ≤ k + 1) × (k + 1 + d + v ≤ maxWindow) × WindowBound (entryAt w₁) (y .outer) d (y .mark)) (sym top) (a₁, b, H)
 
 -- ---- an entry pushed as branch number d, with the log's length as its mark
-module _ (w : List ℕ) (n k d : ℕ) (b : BranchEntry) (hn : n ≤ limit) (room : workingWords ≤ length w) (most : k + d ≤ maxWindow)
+module _ (w : List ℕ) (n k d : ℕ) (b : BranchEntry) (hn : n ≤ limit) (room : workingWords ≤ length w) (apart : 6 * k + 4 * d ≤ firstBranch)
     (mark : b .mark ≡ k) (h : WindowBound (entryAt w) (b .outer) d k) where
   abbrev w₂ : List ℕ
   w₂ = entryStored w d b
@@ -113,7 +113,7 @@ module _ (w : List ℕ) (n k d : ℕ) (b : BranchEntry) (hn : n ≤ limit) (room
   new = entry-stored w d b (omega arith)
 
   old : (j : ℕ) → j < d → entryAt w j ≡ entryAt w₂ j
-  old j l = sym (entry-same j (same-before vs w (branchBase d) (branchBase j) 4 (omega arith)))
+  old j l = sym (entry-same j (same-after vs w (branchBase d) (branchBase j) 4 (omega arith)))
 
   logs : (j : ℕ) → j < k → changeAt w j ≡ changeAt w₂ j
   logs j l = sym (change-same j (same-before vs w (branchBase d) (changeBase j) 6 (omega arith)))

@@ -2,7 +2,7 @@
 -- Assumes nothing.
 use mathlib.Core.Path.{_≡_, refl, sym, ap, _∙_, subst, subst₂}
 use mathlib.Core.List.{List, [], _∷_}
-use Prim.Native.Nat.{ℕ, zero, suc, _+_, _-_, _<_, _≤_}
+use Prim.Native.Nat.{ℕ, zero, suc, _+_, _-_, _*_, _<_, _≤_}
 use native.Mathlib.Nat.{pos-of-ne-zero}
 use native.Mathlib.Numerals.{add-one}
 use native.Mathlib.Omega.{arith}
@@ -16,7 +16,7 @@ use Rattle.rules.specs.Theorems.Undo.{Change}
 use Rattle.work.specs.declared.BranchEntry.{BranchEntry}
 use Rattle.work.specs.declared.machine.Control.{Control}
 use Rattle.work.specs.declared.machine.RolledBack.{RolledBack}
-use Rattle.work.specs.Layout.{operandBase, changeBase, branchBase, labels, logBase}
+use Rattle.work.specs.Layout.{operandBase, changeBase, branchBase, labels, logBase, firstBranch}
 use Rattle.work.specs.Words.{taggedAt, stored, changeAt, changed, undone, entryAt, entryStored, windowAt, taggedWords}
 use Rattle.work.specs.Machines.{stateIn, savedAt, branchesOf, machineOf, maxWindow, WindowBound, Fit, Left}
 use Rattle.work.specs.Moves.{lowerTo, windowOn, ordinaryNext, gone, openingNext, Moves, RollsBack}
@@ -98,7 +98,7 @@ module _ (w : List ℕ) (c : Control) (l p v : ℕ) (x : Tagged) (f : Fit w c) (
       let ls = l ∷ taggedWords (taggedAt w l) in
       let h : WindowBound (entryAt w) (c .window) (suc d) k = subst (λ (j : ℕ). WindowBound (entryAt w) (c .window) j k) s (f .bound) in
       let h₁ = h .1 in
-      let a : k + d < maxWindow = omega arith in
+      let a : 6 * k + 6 + 4 * d ≤ firstBranch = omega arith in
       let H = changed-bound w 0 k d l (c .window) x (f .room) (omega arith) hl e a h v (omega arith) in
       record {
         machine = λ n hn.
@@ -143,7 +143,7 @@ module _ (w : List ℕ) (c : Control) (p t u v : ℕ) (f : Fit w c) (b : Left c 
       let ns = c .opened ∷ t ∷ v ∷ k ∷ [] in
       let r = f .room in
       let h = bound-left (entryAt w) (c .window) v d k (b .less) (b .some) (f .bound) in
-      let i : k + d ≤ maxWindow = omega (arith, open-bound) in
+      let i : 6 * k + 4 * d ≤ firstBranch = omega (arith, open-bound) in
       let H = pushed-bound w 0 k d new (omega arith) r i refl h x open-bound in
       record {
         machine = λ n hn.

@@ -63,7 +63,7 @@ abbrev pub WindowBound : (ℕ → BranchEntry) → ℕ → ℕ → ℕ → Type 
 WindowBound e v zero k = (k ≡ 0) × (0 < v)
 WindowBound e v (suc d) k = (e d .mark ≤ k) × (k + d + v ≤ maxWindow) × WindowBound e (e d .outer) d (e d .mark)
 
--- the working area is long enough, and neither the log nor the branches leave their words
+-- the working area is long enough, and the log and the branches do not meet
 pub record Fit (w : List ℕ) (c : Control) : Type 0 where
   pub room : workingWords ≤ length w
   pub bound : WindowBound (entryAt w) (c .window) (c .depth) (c .log)

@@ -11,21 +11,21 @@ ghost use mathlib.Core.List.{_∷_};
 ghost use lib.ListN.{length, replicate};
 ghost use lib.Seq.{sets};
 ghost use Rattle.rules.specs.Rules.Calls.{written, workingWords};
-ghost use Rattle.work.specs.Layout.{operandBase, changeBase, branchBase};
+ghost use Rattle.work.specs.Layout.{operandBase, changeBase, firstBranch, branchBase};
 ghost use Rattle.work.specs.Words.{taggedIn, taggedAt, stored, changed, undone, entryAt, entryStored};
 
 // Location l has its operand from OPERAND * l on: the value, then the words of the set.
 pub const OPERAND: usize = 5;
-// Change k of the log stands from LOG + CHANGE * k on, below BRANCHES: the location, then its operand of before.
+// Change k of the log stands from LOG + CHANGE * k on: the location, then its operand of before.
 pub const LOG: usize = 1280;
 // How many words a change has.
 pub const CHANGE: usize = 6;
-// Branch k stands from BRANCHES + ENTRY * k on, below LABELS.
-pub const BRANCHES: usize = 2486;
+// Branch k stands from LOG + (BRANCHES - ENTRY * k) on, downwards towards the log and never below LOG.
+pub const BRANCHES: usize = 1202;
 // How many words a branch has.
 pub const ENTRY: usize = 4;
 // Label i has the word of its instruction, as the crate `entry` makes it, at LABELS + i.
-pub const LABELS: usize = 3290;
+pub const LABELS: usize = 2486;
 // How many words there are; those past the table of labels are free.
 pub const WORDS: usize = 4096;
 
@@ -108,10 +108,11 @@ pub fn undo(work: &mut [u64], count: usize, mark: usize)
 
 // What stands as branch number k.
 pub fn load_branch(work: &[u64], k: usize) -> BranchEntry
+    requires { ⌜ 4 * k ≤ firstBranch ⌝ }
     requires { ⌜ branchBase k + 4 ≤ length (now work) ⌝ }
     ensures { λ r. ⌜ r ≡ entryAt (now (work .entry)) k ⌝ }
 {
-    let at = BRANCHES + ENTRY * k;
+    let at = LOG + (BRANCHES - ENTRY * k);
     BranchEntry {
         id: work[at] as usize,
         target: work[at + 1] as usize,
@@ -121,10 +122,11 @@ pub fn load_branch(work: &[u64], k: usize) -> BranchEntry
 }
 
 pub fn push_branch(work: &mut [u64], k: usize, b: BranchEntry)
+    requires { ⌜ 4 * k ≤ firstBranch ⌝ }
     requires { ⌜ branchBase k + 4 ≤ length (now work) ⌝ }
     ensures { λ _. ⌜ now (work .exit) ≡ entryStored (now (work .entry)) k b ⌝ }
 {
-    let at = BRANCHES + ENTRY * k;
+    let at = LOG + (BRANCHES - ENTRY * k);
     work[at] = b.id as u64;
     work[at + 1] = b.target as u64;
     work[at + 2] = b.outer as u64;

@@ -10,6 +10,9 @@ use Rattle.work.proofs.push_branch.Tie as tie
 mul-at : tie.Need-mul-at
 mul-at c = search needs
 
+sub-at : tie.Need-sub-at
+sub-at c = search needs
+
 add-at : tie.Need-add-at
 add-at c = search needs
 
@@ -59,6 +62,7 @@ push-branch-spec =
     tie.close
     (tie.spec
     mul-at
+    sub-at
     add-at
     mul-work
     slice-write-work
