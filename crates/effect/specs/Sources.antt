@@ -9,8 +9,8 @@ use Rattle.rules.specs.Rules.Expressions.{eval}
 use Rattle.rules.specs.Rules.Instructions.{Instr, skip}
 use Rattle.rules.specs.Rules.JobFile.{instr, postfix}
 use Rattle.token.specs.Meaning.{valueOr}
-use Rattle.entry.specs.declared.Entry.{Entry}
-use Rattle.entry.specs.Entries.{firstTokens, Shaped}
+use Rattle.descriptor.specs.declared.Descriptor.{Descriptor}
+use Rattle.descriptor.specs.Descriptors.{firstTokens, Shaped}
 
 -- the instruction at an offset
 abbrev pub instructionAt : List ℕ → ℕ → Instr
@@ -20,7 +20,7 @@ instructionAt p at = valueOr skip (instr p at)
 abbrev pub firstValue : List ℕ → ℕ → (ℕ → Tagged) → Tagged
 firstValue p at f = eval f (firstTokens (instructionAt p at))
 
--- The instruction of an entry keeps the postfix rule, and the entry's shape holds for it.
-pub record Sourced (p : List ℕ) (e : Entry) : Type 0 where
+-- The instruction of a descriptor keeps the postfix rule, and the descriptor's shape holds for it.
+pub record Sourced (p : List ℕ) (e : Descriptor) : Type 0 where
   pub sound : postfix (instructionAt p (e .at)) ≡ true
   pub shaped : Shaped p e (instructionAt p (e .at))

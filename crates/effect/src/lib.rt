@@ -1,6 +1,6 @@
 // What one instruction computes from the working words, and writes nowhere: what it reads first, what a load gives, what a
 // conditional assignment assigns and where a jump goes. The crate `stepping` carries the instruction out.
-use entry::Entry;
+use descriptor::Descriptor;
 use location::Address;
 use location::Label;
 use location::Location;
@@ -19,7 +19,7 @@ ghost use Rattle.token.specs.Meaning.{tokensOf};
 ghost use Rattle.work.specs.Layout.{operandBase};
 ghost use Rattle.work.specs.Words.{taggedAt};
 ghost use Rattle.work.specs.Machines.{stateIn};
-ghost use Rattle.entry.specs.Entries.{operatorBy, General};
+ghost use Rattle.descriptor.specs.Descriptors.{operatorBy, General};
 ghost use Rattle.effect.specs.Sources.{instructionAt, firstValue, Sourced};
 
 // A word whose set takes over another.
@@ -87,7 +87,7 @@ fn general_value(p: &[u8], work: &[u64], at: usize) -> Tagged
     requires { ⌜ (postfix (instructionAt (now p) at) ≡ true) × General (now p) at (instructionAt (now p) at) × (operandBase registers ≤ length (now work)) ⌝ }
     ensures { λ r. ⌜ r ≡ firstValue (now (p .entry)) at (taggedAt (now (work .entry))) ⌝ }
 {
-    let e = token::expression_at(p, entry::count_at(p, at));
+    let e = token::expression_at(p, descriptor::count_at(p, at));
     expression::evaluate(&p[..], &work[..], e)
 }
 
@@ -122,8 +122,8 @@ fn with_register(p: &[u8], work: &[u64], at: usize, first: u8) -> Tagged
     expression::combine(p[at + 5] - 19, x, y)
 }
 
-// The value of what the instruction of an entry reads first; 0 where it reads nothing. The arms are the shapes of `Entry`.
-pub fn source_value(p: &[u8], work: &[u64], e: Entry) -> Tagged
+// The value of what the instruction of a descriptor reads first; 0 where it reads nothing. The arms are the shapes of `Descriptor`.
+pub fn source_value(p: &[u8], work: &[u64], e: Descriptor) -> Tagged
     requires { ⌜ Sourced (now p) e × (operandBase registers ≤ length (now work)) ⌝ }
     ensures { λ r. ⌜ r ≡ firstValue (now (p .entry)) (e .at) (taggedAt (now (work .entry))) ⌝ }
 {

@@ -20,7 +20,7 @@ use Rattle.rules.specs.Rules.JobFile.{locations}
 use Rattle.rules.specs.Theorems.JobLaws.{Limits}
 use Rattle.instruction.specs.declared.Instruction.{Instruction}
 use Rattle.instruction.specs.Meaning.{meaning}
-use Rattle.entry.specs.Entries.{NoBranch}
+use Rattle.descriptor.specs.Descriptors.{NoBranch}
 use Rattle.work.specs.declared.machine.Control.{Control}
 use Rattle.work.specs.Machines.{stateIn, machineOf}
 use Rattle.work.specs.Moves.{expiredOn}

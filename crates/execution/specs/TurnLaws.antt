@@ -26,8 +26,8 @@ use Rattle.rules.specs.Theorems.JobLaws.{Limits, length-program}
 use Rattle.rules.specs.Theorems.CallLaws.{length-traceWords}
 use Rattle.rules.specs.Theorems.Undo.{Change}
 use Rattle.token.specs.Meaning.{valueOr}
-use Rattle.entry.specs.declared.Entry.{Entry}
-use Rattle.entry.specs.Entries.{entryIn, Entered}
+use Rattle.descriptor.specs.declared.Descriptor.{Descriptor}
+use Rattle.descriptor.specs.Descriptors.{descriptorIn, Described}
 use Rattle.program.specs.Offsets.{readable, offsetsFrom, Stands, Fetchable, labelled, fetched}
 use Rattle.effect.specs.Registers.{instr-below}
 use Rattle.effect.specs.Sources.{instructionAt}
@@ -301,8 +301,8 @@ module _ (p : List ℕ) (t : Trailer) (mode : Mode) (w area : List ℕ) (c : Pro
   stands : Stands (t .count) (c .control .place) p (getD (offsetsFrom (t .count) p 0) (c .control .place) 0) x
   stands = rw (zero-add (c .control .place)) at (labelled (t .count) (t .count) 0 p 0 (r .loaded .accepted) (c .control .place) inside)
 
-  module _ (e : Entry) (f : e ≡ entryIn (getD w (labels + c .control .place) 0)) where
-    entered : Entered p e x
+  module _ (e : Descriptor) (f : e ≡ descriptorIn (getD w (labels + c .control .place) 0)) where
+    entered : Described p e x
     entered = rw f (fetched fetchable)
 
     pub fetched-same : instructionAt p (e .at) ≡ fetch (codeOf p t) (c .control .place)

@@ -24,8 +24,8 @@ use Rattle.rules.specs.Rules.JobFile.{instr, postfix, program, locations}
 use Rattle.rules.specs.Rules.Calls.{written, traceWords}
 use Rattle.rules.specs.Theorems.JobLaws.{Limits}
 use Rattle.token.specs.Meaning.{valueOr}
-use Rattle.entry.specs.declared.Entry.{Entry}
-use Rattle.entry.specs.Entries.{firstTokens, offsets}
+use Rattle.descriptor.specs.declared.Descriptor.{Descriptor}
+use Rattle.descriptor.specs.Descriptors.{firstTokens, offsets}
 use Rattle.program.specs.Offsets.{readable, wordsFrom}
 use Rattle.instruction.specs.declared.Instruction.{Instruction}
 use Rattle.instruction.specs.Meaning.{meaning}
@@ -143,8 +143,8 @@ pub record Executing (p : List ℕ) (t : Trailer) (w area : List ℕ) (i : Instr
   pub below : RegistersBelow registers (meaning p i)
   pub value : a ≡ eval (taggedAt w) (firstTokens (meaning p i))
 
--- What the entry of the next instruction asks: rules 2 and 3 can be tried, and the entry and its instruction are those of a job.
-pub record Advancing (p : List ℕ) (t : Trailer) (w area : List ℕ) (e : Entry) (c : Progress) : Type 0 where
+-- What the descriptor of the next instruction asks: rules 2 and 3 can be tried, and the descriptor and its instruction are those of a job.
+pub record Advancing (p : List ℕ) (t : Trailer) (w area : List ℕ) (e : Descriptor) (c : Progress) : Type 0 where
   pub can : CanStep w area c
   pub limits : Limits t
   pub read : readable (instr p (e .at)) ≡ true

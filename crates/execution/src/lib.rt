@@ -1,5 +1,5 @@
 // The plain run and the mispredicting run over the lent areas: one turn after another, until a stop.
-use entry::Entry;
+use descriptor::Descriptor;
 use instruction::Instruction;
 use location::Label;
 use location::LocationSet;
@@ -15,7 +15,7 @@ ghost use lib.ListN.{length};
 ghost use Rattle.location.specs.Sets.{registers, limit};
 ghost use Rattle.rules.specs.Rules.Plain.{loadEffect, storeEffect};
 ghost use Rattle.rules.specs.Rules.Calls.{workingWords};
-ghost use Rattle.entry.specs.Entries.{Shaped};
+ghost use Rattle.descriptor.specs.Descriptors.{Shaped};
 ghost use Rattle.effect.specs.Sources.{instructionAt};
 ghost use Rattle.work.specs.Machines.{machineOf, Fit, maxWindow};
 ghost use Rattle.stepping.specs.Steps.{Counted, Live};
@@ -201,7 +201,7 @@ fn try_instruction(
     }
 }
 
-// Rule 3 for the instruction of an entry, if its observation fits. What it reads first is evaluated before its kind is looked at, so that
+// Rule 3 for the instruction of a descriptor, if its observation fits. What it reads first is evaluated before its kind is looked at, so that
 // one place evaluates for all kinds.
 fn try_carry_out(
     p: &[u8],
@@ -209,7 +209,7 @@ fn try_carry_out(
     work: &mut [u64],
     trace: &mut [u64],
     c: Progress,
-    e: Entry,
+    e: Descriptor,
 ) -> Turn
     requires { ⌜ Advancing (now p) t (now work) (now trace) e c ⌝ }
     ensures { λ r. ⌜ CarryingTried t (now (work .entry)) (now (work .exit)) (now (trace .entry)) (now (trace .exit)) (instructionAt (now (p .entry)) (e .at)) c (r .next) (r .progress) ⌝ }
@@ -225,12 +225,12 @@ pub enum Opening {
     Nothing,
 }
 
-// What the instruction of an entry opens in one of the two runs: a branch, in the mispredicting one.
-fn opening_of(p: &[u8], mode: Mode, e: Entry) -> Opening
+// What the instruction of a descriptor opens in one of the two runs: a branch, in the mispredicting one.
+fn opening_of(p: &[u8], mode: Mode, e: Descriptor) -> Opening
     requires { ⌜ Shaped (now p) e (instructionAt (now p) (e .at)) ⌝ }
     ensures { λ x. ⌜ Opens mode (instructionAt (now (p .entry)) (e .at)) x ⌝ }
 {
-    if e.shape != entry::BRANCH {
+    if e.shape != descriptor::BRANCH {
         return Opening::Nothing;
     }
     match mode {
@@ -250,7 +250,7 @@ fn advance(
     work: &mut [u64],
     trace: &mut [u64],
     c: Progress,
-    e: Entry,
+    e: Descriptor,
 ) -> Turn
     requires { ⌜ Advancing (now p) t (now work) (now trace) e c ⌝ }
     ensures { λ r. ⌜ Advanced t mode (now (work .entry)) (now (work .exit)) (now (trace .entry)) (now (trace .exit)) (instructionAt (now (p .entry)) (e .at)) c (r .next) (r .progress) ⌝ }

@@ -13,8 +13,8 @@ use Rattle.rules.specs.Rules.Instructions.{Instr, skip}
 use Rattle.rules.specs.Rules.JobFile.{Read, got, refused, andThen, instr, postfix, branchLabelHolds, instruction, program}
 use Rattle.token.specs.Meaning.{valueOr}
 use Rattle.instruction.proofs.Laws.{instr-read}
-use Rattle.entry.specs.Entries.{offsets, wordAt, entryIn, Entered}
-use Rattle.entry.specs.Reading.{word-entered}
+use Rattle.descriptor.specs.Descriptors.{offsets, wordAt, descriptorIn, Described}
+use Rattle.descriptor.specs.Reading.{word-described}
 unfoldable pub use Rattle.token.specs.Meaning.{readable, nextOffset}
 
 -- ---- offsets
@@ -48,10 +48,10 @@ unfolding wordsFrom
 length-words zero p at = refl
 length-words (suc k) p at = ap suc (length-words k p (nextOffset (instr p at)))
 
--- an entry of a table that the words of n instructions are written to, from a base on
-pub entry-word : (n : ℕ) (p table : List ℕ) (base i : ℕ) → base + n ≤ length table → i < n
+-- a word of a table that the words of n instructions are written to, from a base on
+pub table-word : (n : ℕ) (p table : List ℕ) (base i : ℕ) → base + n ≤ length table → i < n
     → getD (sets table base (wordsFrom n p 0)) (base + i) 0 ≡ getD (wordsFrom n p 0) i 0
-entry-word n p table base i h g =
+table-word n p table base i h g =
     let vs = wordsFrom n p 0 in
     let front = take base table in
     let lv : length vs ≡ n = length-words n p 0 in
@@ -145,9 +145,9 @@ labelled n k i p at h l g = go (program n k i p at) refl h
     go (got xs q) e h = program-got n k i p at xs q e l g
     go (refused r) e h = absurd (unread r h)
 
--- ---- fetching: the entry of a label is that of the program's instruction with that label
+-- ---- fetching: the descriptor of a label is that of the program's instruction with that label
 pub fetched : {p : List ℕ} {n : ℕ} {table : List ℕ} {base label : ℕ} → Fetchable p n table base label
-    → Entered p (entryIn (getD table (base + label) 0)) (getD (valueOr [] (program n n 0 p 0)) label skip)
+    → Described p (descriptorIn (getD table (base + label) 0)) (getD (valueOr [] (program n n 0 p 0)) label skip)
 unfolding readable
 fetched {p} {n} {table} {base} {label} f =
     let at = getD (offsetsFrom n p 0) label 0 in
@@ -156,4 +156,4 @@ fetched {p} {n} {table} {base} {label} f =
     let l = instr-read p at r in
     let k = f .size in
     let v : valueOr skip (instr p at) ≡ getD (valueOr [] (program n n 0 p 0)) label skip = rw (s .read) in
-    rw (f .word, word-at-offset n p 0 label (f .inside), ← v) (word-entered p at (omega arith) r)
+    rw (f .word, word-at-offset n p 0 label (f .inside), ← v) (word-described p at (omega arith) r)

@@ -1,5 +1,5 @@
-// A program: its tests (refusals 4 to 7), the table of its labels, and the entry of a label.
-use entry::Entry;
+// A program: its tests (refusals 4 to 7), the table of its labels, and the descriptor of a label.
+use descriptor::Descriptor;
 use instruction::Instruction;
 use instruction::InstructionRead;
 use location::Label;
@@ -12,7 +12,7 @@ ghost use lib.Seq.{sets};
 ghost use Rattle.rules.specs.Rules.JobFile.{instr, branchLabelHolds, instruction, program};
 ghost use Rattle.instruction.specs.Meaning.{meaning};
 ghost use Rattle.program.specs.Checks.{checkedOf};
-ghost use Rattle.entry.specs.Entries.{entryIn};
+ghost use Rattle.descriptor.specs.Descriptors.{descriptorIn};
 ghost use Rattle.program.specs.Offsets.{nextOffset, wordsFrom};
 
 // Whether the branch label, if it has one, of the instruction with a label is allowed: at most n, and not the next label.
@@ -110,17 +110,17 @@ pub fn write_words(p: &[u8], n: usize, table: &mut [u64], base: usize)
     let mut at: usize = 0;
     let mut i = 0;
     while i < n {
-        table[base + i] = entry::word_at(p, at);
+        table[base + i] = descriptor::word_at(p, at);
         at = next_offset(p, at);
         i += 1;
     }
 }
 
-// The entry of a label, by its word in the table.
-pub fn fetch(table: &[u64], base: usize, label: Label) -> Entry
+// The descriptor of a label, by its word in the table.
+pub fn fetch(table: &[u64], base: usize, label: Label) -> Descriptor
     requires { ⌜ base + label .0 < length (now table) ⌝ }
-    ensures { λ e. ⌜ e ≡ entryIn (getD (now (table .entry)) (base + label .0) 0) ⌝ }
+    ensures { λ e. ⌜ e ≡ descriptorIn (getD (now (table .entry)) (base + label .0) 0) ⌝ }
 {
     let word = table[base + label.index()];
-    entry::entry_in(word)
+    descriptor::descriptor_in(word)
 }

@@ -17,7 +17,7 @@ use Rattle.rules.specs.Rules.Plain.{State, ownFrom, values}
 use Rattle.rules.specs.Rules.JobFile.{little, wordsAt}
 use Rattle.rules.specs.Rules.Calls.{written}
 use Rattle.rules.specs.Rules.Pairs.{alikeFrom}
-use Rattle.program.specs.Offsets.{wordsFrom, length-words, entry-word}
+use Rattle.program.specs.Offsets.{wordsFrom, length-words, table-word}
 use Rattle.work.specs.Layout.{operandBase, labels, labelBase}
 use Rattle.work.specs.Words.{taggedAt, stored}
 use Rattle.work.specs.Machines.{stateFrom, stateIn}
@@ -87,7 +87,7 @@ labels-loaded p count w w′ f e =
     let vs = wordsFrom count p 0 in
     let s : length vs ≡ count = length-words count p 0 in
     record {
-      entry = λ i h. ap (λ (u : List ℕ). getD u (labelBase i) 0) e ∙ entry-word count p w labels i f h;
+      entry = λ i h. ap (λ (u : List ℕ). getD u (labelBase i) 0) e ∙ table-word count p w labels i f h;
       before = ap (take labels) e ∙ take-sets vs w labels labels (omega arith);
       after = ap (drop (labelBase count)) e ∙ drop-sets vs w labels (labelBase count) (omega arith);
       size = ap length e ∙ length-sets w labels vs;

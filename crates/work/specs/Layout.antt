@@ -6,9 +6,9 @@ use Prim.Native.Nat.{ℕ, _+_, _-_, _*_}
 abbrev pub operandBase : ℕ → ℕ
 operandBase l = 5 * l
 
--- words 1280 to 2485: the log of changes upwards, 6 words each: the location, then its operand of before
+-- words 1680 to 2885: the log of changes upwards, 6 words each: the location, then its operand of before
 abbrev pub logBase : ℕ
-logBase = 1280
+logBase = 1680
 
 abbrev pub changeBase : ℕ → ℕ
 changeBase k = logBase + 6 * k
@@ -22,9 +22,9 @@ firstBranch = 1202
 abbrev pub branchBase : ℕ → ℕ
 branchBase k = logBase + (firstBranch - 4 * k)
 
--- words 2486 to 2997: the word of each of 512 labels; words 2998 to 4095 are free
+-- words 3576 to 4087: the word of each of 512 labels; words 1280 to 1679, 2886 to 3575 and 4088 to 4095 are free
 abbrev pub labels : ℕ
-labels = 2486
+labels = 3576
 
 abbrev pub labelBase : ℕ → ℕ
 labelBase i = labels + i

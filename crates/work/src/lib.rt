@@ -17,15 +17,15 @@ ghost use Rattle.work.specs.Words.{taggedIn, taggedAt, stored, changed, 
 // Location l has its operand from OPERAND * l on: the value, then the words of the set.
 pub const OPERAND: usize = 5;
 // Change k of the log stands from LOG + CHANGE * k on: the location, then its operand of before.
-pub const LOG: usize = 1280;
+pub const LOG: usize = 1680;
 // How many words a change has.
 pub const CHANGE: usize = 6;
 // Branch k stands from LOG + (BRANCHES - ENTRY * k) on, downwards towards the log and never below LOG.
 pub const BRANCHES: usize = 1202;
 // How many words a branch has.
 pub const ENTRY: usize = 4;
-// Label i has the word of its instruction, as the crate `entry` makes it, at LABELS + i.
-pub const LABELS: usize = 2486;
+// Label i has the word of its instruction, as the crate `descriptor` makes it, at LABELS + i.
+pub const LABELS: usize = 3576;
 // How many words there are; those past the table of labels are free.
 pub const WORDS: usize = 4096;
 

@@ -2,7 +2,7 @@
 use mathlib.Core.Path.{ap, _∙_}
 use native.Mathlib.Omega.{arith}
 use Rattle.rules.specs.Rules.Expressions.{eval}
-use Rattle.entry.specs.Reading.{general-room}
+use Rattle.descriptor.specs.Reading.{general-room}
 use Rattle.work.specs.Words.{taggedAt}
 use Rattle.effect.proofs.Laws.{general-tokens}
 use borrow.Author.Needs.{needs}

@@ -1,10 +1,10 @@
 -- `effect::source_value` meets its contract, by the entry's shape. Assumes nothing.
-use Rattle.entry.specs.Reading.{general}
+use Rattle.descriptor.specs.Reading.{general}
 use mathlib.Core.Path.{ap}
 use native.Mathlib.Omega.{arith}
 use Rattle.location.specs.declared.LocationSet.{LocationSet}
 use Rattle.rules.specs.Rules.Expressions.{tagged}
-use Rattle.entry.specs.Entries.{firstTokens}
+use Rattle.descriptor.specs.Descriptors.{firstTokens}
 use Rattle.effect.proofs.Laws.{value-nothing, value-register, value-constant, value-with-constant, value-with-register}
 use borrow.Author.Needs.{needs}
 use Rattle.effect.proofs.source_value.Statement.{statement}

@@ -2,7 +2,7 @@
 use mathlib.Core.Path.{refl, sym, ap, _∙_}
 use native.Mathlib.Omega.{arith}
 use Rattle.rules.specs.Rules.Instructions.{beqz}
-use Rattle.entry.specs.Reading.{no-branch}
+use Rattle.descriptor.specs.Reading.{no-branch}
 use Rattle.execution.proofs.Laws.{never-opens}
 use borrow.Author.Needs.{needs}
 use Rattle.execution.proofs.opening_of.Statement.{statement}

@@ -3,7 +3,7 @@ use mathlib.Core.Path.{sym, ap, _∙_}
 use native.Mathlib.Omega.{arith}
 use Rattle.rules.specs.Rules.Expressions.{eval}
 use Rattle.rules.specs.Rules.Instructions.{Instr}
-use Rattle.entry.specs.Entries.{firstTokens}
+use Rattle.descriptor.specs.Descriptors.{firstTokens}
 use Rattle.work.specs.Words.{taggedAt}
 use Rattle.execution.proofs.Laws.{carried-same}
 use borrow.Author.Needs.{needs}

@@ -3,7 +3,7 @@
 ghost use mathlib.Core.Path.{_≡_};
 ghost use Prim.Native.Nat.{_+_, _^_, _<_};
 ghost use lib.ListN.{length, getD};
-ghost use Rattle.entry.specs.Entries.{oneShape, threeShape, expressionShape, jumpShape, shapeAt, firstAt, countAt, wordAt, entryIn};
+ghost use Rattle.descriptor.specs.Descriptors.{oneShape, threeShape, expressionShape, jumpShape, shapeAt, firstAt, countAt, wordAt, descriptorIn};
 
 // `at` is the instruction's offset. `shape` says what the instruction reads first, and which bytes from `at` on hold it, of which byte 0
 // is the kind byte; in the shapes that do not name it `first` means nothing:
@@ -15,7 +15,7 @@ ghost use Rattle.entry.specs.Entries.{oneShape, threeShape, expressionSh
 //   5  a constant that a jump goes to, bytes 3 to 10
 //   6  the register `first`, which a branch tests; its label is in bytes 2 and 3
 //   7  any other expression
-pub struct Entry {
+pub struct Descriptor {
     pub at: usize,
     pub shape: u8,
     pub first: u8,
@@ -157,11 +157,11 @@ pub fn word_at(p: &[u8], at: usize) -> u64
     at as u64 + OFFSETS * (shape + SHAPES * first)
 }
 
-// The entry that a word holds.
-pub fn entry_in(word: u64) -> Entry
-    ensures { λ r. ⌜ r ≡ entryIn word ⌝ }
+// The descriptor that a word holds.
+pub fn descriptor_in(word: u64) -> Descriptor
+    ensures { λ r. ⌜ r ≡ descriptorIn word ⌝ }
 {
-    Entry {
+    Descriptor {
         at: (word % OFFSETS) as usize,
         shape: (word / OFFSETS % SHAPES) as u8,
         first: (word / OFFSETS / SHAPES % 256) as u8,

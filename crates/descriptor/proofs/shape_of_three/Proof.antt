@@ -1,8 +1,8 @@
--- `entry::shape_of_three` meets its contract, by the bytes of the tokens. Assumes nothing.
+-- `descriptor::shape_of_three` meets its contract, by the bytes of the tokens. Assumes nothing.
 use borrow.Author.Tests.{lt-ltb, le-ltb, ne-eqb}
 use borrow.Author.Needs.{needs}
-use Rattle.entry.proofs.shape_of_three.Statement.{statement}
-use Rattle.entry.proofs.shape_of_three.Tie as tie
+use Rattle.descriptor.proofs.shape_of_three.Statement.{statement}
+use Rattle.descriptor.proofs.shape_of_three.Tie as tie
 
 byte-at-requires : tie.Need-byte-at-requires
 byte-at-requires c κs = search needs

@@ -1,9 +1,9 @@
--- `entry::word_at` meets its contract. Assumes nothing.
+-- `descriptor::word_at` meets its contract. Assumes nothing.
 use borrow.Author.Tests.{le-leb, lt-leb}
-use Rattle.entry.specs.Entries.{offsets, wordAt}
+use Rattle.descriptor.specs.Descriptors.{offsets, wordAt}
 use borrow.Author.Needs.{needs}
-use Rattle.entry.proofs.word_at.Statement.{statement}
-use Rattle.entry.proofs.word_at.Tie as tie
+use Rattle.descriptor.proofs.word_at.Statement.{statement}
+use Rattle.descriptor.proofs.word_at.Tie as tie
 
 returns : tie.Need-returns
 unfolding wordAt

@@ -1,8 +1,8 @@
--- `entry::shape_of_expression` meets its contract, by the token count. Assumes nothing.
+-- `descriptor::shape_of_expression` meets its contract, by the token count. Assumes nothing.
 use borrow.Author.Tests.{ne-eqb}
 use borrow.Author.Needs.{needs}
-use Rattle.entry.proofs.shape_of_expression.Statement.{statement}
-use Rattle.entry.proofs.shape_of_expression.Tie as tie
+use Rattle.descriptor.proofs.shape_of_expression.Statement.{statement}
+use Rattle.descriptor.proofs.shape_of_expression.Tie as tie
 
 byte-at-requires : tie.Need-byte-at-requires
 byte-at-requires c κs = search needs

@@ -1,7 +1,7 @@
--- `entry::shape_of_one` meets its contract, by the token's byte. Assumes nothing.
+-- `descriptor::shape_of_one` meets its contract, by the token's byte. Assumes nothing.
 use borrow.Author.Tests.{lt-ltb, le-ltb, ne-eqb}
-use Rattle.entry.proofs.shape_of_one.Statement.{statement}
-use Rattle.entry.proofs.shape_of_one.Tie as tie
+use Rattle.descriptor.proofs.shape_of_one.Statement.{statement}
+use Rattle.descriptor.proofs.shape_of_one.Tie as tie
 
 returns : tie.Need-returns
 returns c = rw (lt-ltb _ 16 (c .if1 .taken))

@@ -4,7 +4,7 @@ use mathlib.Core.Path.{_≡_, refl}
 use mathlib.Core.List.{List}
 use Prim.Native.Nat.{ℕ, zero, suc}
 use lib.ListN.{getD}
-use Rattle.entry.specs.Entries.{nothingRead, kindShapes, shapeAt}
+use Rattle.descriptor.specs.Descriptors.{nothingRead, kindShapes, shapeAt}
 
 -- a kind that is none of 1 to 6
 pub shape-nothing : (p : List ℕ) (at : ℕ) → (getD p at 0 ≡ 1 → ⊥) → (getD p at 0 ≡ 2 → ⊥) → (getD p at 0 ≡ 3 → ⊥)

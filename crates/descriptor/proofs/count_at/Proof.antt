@@ -1,9 +1,9 @@
--- `entry::count_at` meets its contract. Assumes nothing.
+-- `descriptor::count_at` meets its contract. Assumes nothing.
 use borrow.Author.Tests.{ne-eqb}
-use Rattle.entry.specs.Entries.{countAt}
+use Rattle.descriptor.specs.Descriptors.{countAt}
 use borrow.Author.Needs.{needs}
-use Rattle.entry.proofs.count_at.Statement.{statement}
-use Rattle.entry.proofs.count_at.Tie as tie
+use Rattle.descriptor.proofs.count_at.Statement.{statement}
+use Rattle.descriptor.proofs.count_at.Tie as tie
 
 shared-slice-read-if1 : tie.Need-shared-slice-read-if1
 shared-slice-read-if1 c = search needs

@@ -1,8 +1,8 @@
--- `entry::shape_of_jump` meets its contract. Assumes nothing.
+-- `descriptor::shape_of_jump` meets its contract. Assumes nothing.
 use borrow.Author.Tests.{ne-eqb}
 use borrow.Author.Needs.{needs}
-use Rattle.entry.proofs.shape_of_jump.Statement.{statement}
-use Rattle.entry.proofs.shape_of_jump.Tie as tie
+use Rattle.descriptor.proofs.shape_of_jump.Statement.{statement}
+use Rattle.descriptor.proofs.shape_of_jump.Tie as tie
 
 byte-at-requires : tie.Need-byte-at-requires
 byte-at-requires c κs = search needs

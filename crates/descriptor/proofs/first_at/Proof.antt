@@ -1,9 +1,9 @@
--- `entry::first_at` meets its contract. Assumes nothing.
+-- `descriptor::first_at` meets its contract. Assumes nothing.
 use borrow.Author.Tests.{ne-eqb}
-use Rattle.entry.specs.Entries.{firstAt}
+use Rattle.descriptor.specs.Descriptors.{firstAt}
 use borrow.Author.Needs.{needs}
-use Rattle.entry.proofs.first_at.Statement.{statement}
-use Rattle.entry.proofs.first_at.Tie as tie
+use Rattle.descriptor.proofs.first_at.Statement.{statement}
+use Rattle.descriptor.proofs.first_at.Tie as tie
 
 byte-at-requires : tie.Need-byte-at-requires
 byte-at-requires c κs = search needs

@@ -13,7 +13,7 @@ use Rattle.rules.specs.Rules.Expressions.{Token, reg, const, op2, Expr, sound}
 use Rattle.rules.specs.Rules.Instructions.{Instr, skip, assign, load, store, jmp, beqz, cassign, spbarr}
 use Rattle.rules.specs.Rules.JobFile.{little, binary, expr, instr, postfix}
 use Rattle.token.specs.Meaning.{readable, valueOr}
-use Rattle.entry.specs.declared.Entry.{Entry}
+use Rattle.descriptor.specs.declared.Descriptor.{Descriptor}
 
 -- ---- shapes
 -- of one token, by its byte
@@ -75,9 +75,9 @@ shapes = 8
 unfoldable pub wordAt : List ℕ → ℕ → ℕ
 wordAt p at = cond (leb offsets at) 0 (at + offsets * (shapeAt p at + shapes * firstAt p at))
 
--- the entry that a word holds
-unfoldable pub entryIn : ℕ → Entry
-entryIn w = record { at = w % offsets; shape = w / offsets % shapes; first = w / offsets / shapes % 256 }
+-- the descriptor that a word holds
+unfoldable pub descriptorIn : ℕ → Descriptor
+descriptorIn w = record { at = w % offsets; shape = w / offsets % shapes; first = w / offsets / shapes % 256 }
 
 -- ---- what the shapes mean
 -- the tokens that an instruction reads first
@@ -124,12 +124,12 @@ ShapeMeans (suc (suc (suc (suc (suc zero))))) p at r x =
 ShapeMeans (suc (suc (suc (suc (suc (suc zero)))))) p at r x = (x ≡ beqz r (little p (at + 2) 2)) × (r < registers) × (at + 4 ≤ length p)
 ShapeMeans (suc (suc (suc (suc (suc (suc (suc n))))))) p at r x = General p at x
 
--- the entry e holds for the instruction x
-abbrev pub Shaped : List ℕ → Entry → Instr → Type 0
+-- the descriptor e holds for the instruction x
+abbrev pub Shaped : List ℕ → Descriptor → Instr → Type 0
 Shaped p e x = ShapeMeans (e .shape) p (e .at) (e .first) x
 
--- The entry e is that of the instruction x: it can be read at the entry's offset, and the shape holds for it.
-pub record Entered (p : List ℕ) (e : Entry) (x : Instr) : Type 0 where
+-- The descriptor e is that of the instruction x: it can be read at the descriptor's offset, and the shape holds for it.
+pub record Described (p : List ℕ) (e : Descriptor) (x : Instr) : Type 0 where
   pub read : readable (instr p (e .at)) ≡ true
   pub same : valueOr skip (instr p (e .at)) ≡ x
   pub shaped : Shaped p e x

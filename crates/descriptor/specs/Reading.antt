@@ -18,7 +18,7 @@ use Rattle.token.specs.Meaning.{readable, valueOr}
 use Rattle.token.specs.Bytes.{byte-got}
 use Rattle.token.specs.Readable.{first-read, byte-read, token-read, constant-read, operator-read, tokens-read, expr-read}
 use Rattle.instruction.proofs.Laws.{instr-kind, instr-unknown, instr-read, with-parts, jump-parts, branch-parts, conditional-parts}
-use Rattle.entry.specs.Entries.{oneShape, threeShape, expressionShape, jumpShape, operatorOf, firstTokens, NoBranch, General, ShapeMeans, nothingRead, kindShapes, shapeAt, firstAt, countAt, offsets, shapes, wordAt, entryIn, Entered}
+use Rattle.descriptor.specs.Descriptors.{oneShape, threeShape, expressionShape, jumpShape, operatorOf, firstTokens, NoBranch, General, ShapeMeans, nothingRead, kindShapes, shapeAt, firstAt, countAt, offsets, shapes, wordAt, descriptorIn, Described}
 
 -- ---- tokens by their bytes; q is the offset after the token
 register-token : (p : List ℕ) (at q : ℕ) → q ≡ at + 1 → readable (token p at) ≡ true → getD p at 0 < 16 → token p at ≡ got (reg (getD p at 0)) q
@@ -287,9 +287,9 @@ taken : (at s f : ℕ) → at < offsets → s < shapes
     × ((at + offsets * (s + shapes * f)) / offsets / shapes % 256 ≡ f % 256)
 taken at s f h k = (omega arith, omega arith, omega arith)
 
-entry-taken : (p : List ℕ) (at : ℕ) → at < offsets → entryIn (wordAt p at) ≡ record { at = at; shape = shapeAt p at; first = firstAt p at % 256 }
-unfolding entryIn wordAt
-entry-taken p at h =
+descriptor-taken : (p : List ℕ) (at : ℕ) → at < offsets → descriptorIn (wordAt p at) ≡ record { at = at; shape = shapeAt p at; first = firstAt p at % 256 }
+unfolding descriptorIn wordAt
+descriptor-taken p at h =
     let t = taken at (shapeAt p at) (firstAt p at) h (shape-below p at) in
     let e = t .0 in
     let s = t .1 in
@@ -297,9 +297,9 @@ entry-taken p at h =
     rw (lt-leb offsets at h) (λ i. record { at = e i; shape = s i; first = f i })
 
 -- the word of an instruction that can be read
-pub word-entered : (p : List ℕ) (at : ℕ) → at < offsets → readable (instr p at) ≡ true
-    → Entered p (entryIn (wordAt p at)) (valueOr skip (instr p at))
-word-entered p at l h = rw (entry-taken p at l) (record { read = h; same = refl; shaped = shape-means p at h })
+pub word-described : (p : List ℕ) (at : ℕ) → at < offsets → readable (instr p at) ≡ true
+    → Described p (descriptorIn (wordAt p at)) (valueOr skip (instr p at))
+word-described p at l h = rw (descriptor-taken p at l) (record { read = h; same = refl; shaped = shape-means p at h })
 
 -- an instruction whose shape is not a branch's is none
 pub no-branch : (s : ℕ) (p : List ℕ) (at r : ℕ) (x : Instr) → (s ≡ 6 → ⊥) → ShapeMeans s p at r x → NoBranch x

@@ -1,9 +1,9 @@
--- `entry::byte_at` meets its contract. Assumes nothing.
+-- `descriptor::byte_at` meets its contract. Assumes nothing.
 use lib.ListN.{List·getD-eq-default}
 use mathlib.Core.Path.{sym}
 use borrow.Author.Needs.{needs}
-use Rattle.entry.proofs.byte_at.Statement.{statement}
-use Rattle.entry.proofs.byte_at.Tie as tie
+use Rattle.descriptor.proofs.byte_at.Statement.{statement}
+use Rattle.descriptor.proofs.byte_at.Tie as tie
 
 shared-slice-read-result : tie.Need-shared-slice-read-result
 shared-slice-read-result c = search needs

@@ -1,10 +1,10 @@
--- `entry::shape_at` meets its contract, by the kind byte. Assumes nothing.
+-- `descriptor::shape_at` meets its contract, by the kind byte. Assumes nothing.
 use mathlib.Core.Path.{_∙_}
-use Rattle.entry.specs.Entries.{kindShapes, shapeAt}
-use Rattle.entry.proofs.Laws.{shape-nothing}
+use Rattle.descriptor.specs.Descriptors.{kindShapes, shapeAt}
+use Rattle.descriptor.proofs.Laws.{shape-nothing}
 use borrow.Author.Needs.{needs}
-use Rattle.entry.proofs.shape_at.Statement.{statement}
-use Rattle.entry.proofs.shape_at.Tie as tie
+use Rattle.descriptor.proofs.shape_at.Statement.{statement}
+use Rattle.descriptor.proofs.shape_at.Tie as tie
 
 byte-at-requires : tie.Need-byte-at-requires
 byte-at-requires c κs = search needs
