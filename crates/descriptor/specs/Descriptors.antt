@@ -13,6 +13,7 @@ use Rattle.rules.specs.Rules.Expressions.{Token, reg, const, op2, Expr, sound}
 use Rattle.rules.specs.Rules.Instructions.{Instr, skip, assign, load, store, jmp, beqz, cassign, spbarr}
 use Rattle.rules.specs.Rules.JobFile.{little, binary, expr, instr, postfix}
 use Rattle.token.specs.Meaning.{readable, valueOr}
+use Rattle.instruction.specs.Registers.{RegistersBelow}
 use Rattle.descriptor.specs.declared.Descriptor.{Descriptor}
 
 -- ---- shapes
@@ -133,3 +134,12 @@ pub record Described (p : List ℕ) (e : Descriptor) (x : Instr) : Type 0 where
   pub read : readable (instr p (e .at)) ≡ true
   pub same : valueOr skip (instr p (e .at)) ≡ x
   pub shaped : Shaped p e x
+
+abbrev pub instructionIn : List ℕ → Descriptor → Instr
+instructionIn p d = valueOr skip (instr p (d .at))
+
+pub record Valid (p : List ℕ) (d : Descriptor) : Type 0 where
+  pub sound : postfix (instructionIn p d) ≡ true
+  pub below : RegistersBelow registers (instructionIn p d)
+  pub shaped : Shaped p d (instructionIn p d)
+  pub read : readable (instr p (d .at)) ≡ true

@@ -1,9 +1,11 @@
 // An instruction's word in the table of labels: its byte offset, with the shape of what it reads first, so that a step finds the
 // operands where they stand and tests no token again.
+use instruction::Instruction;
 ghost use mathlib.Core.Path.{_≡_};
 ghost use Prim.Native.Nat.{_+_, _^_, _<_};
 ghost use lib.ListN.{length, getD};
-ghost use Rattle.descriptor.specs.Descriptors.{oneShape, threeShape, expressionShape, jumpShape, shapeAt, firstAt, countAt, wordAt, descriptorIn};
+ghost use Rattle.descriptor.specs.Descriptors.{oneShape, threeShape, expressionShape, jumpShape, shapeAt, firstAt, countAt, wordAt, descriptorIn, instructionIn, Valid};
+ghost use Rattle.instruction.specs.Meaning.{meaning};
 
 // `at` is the instruction's offset. `shape` says what the instruction reads first, and which bytes from `at` on hold it, of which byte 0
 // is the kind byte; in the shapes that do not name it `first` means nothing:
@@ -166,4 +168,12 @@ pub fn descriptor_in(word: u64) -> Descriptor
         shape: (word / OFFSETS % SHAPES) as u8,
         first: (word / OFFSETS / SHAPES % 256) as u8,
     }
+}
+
+// The instruction of a descriptor.
+pub fn instruction_of(p: &[u8], d: Descriptor) -> Instruction
+    requires { ⌜ Valid (now p) d ⌝ }
+    ensures { λ i. ⌜ meaning (now (p .entry)) i ≡ instructionIn (now (p .entry)) d ⌝ }
+{
+    instruction::instruction_at(p, d.at)
 }

@@ -1,3 +1,3 @@
-pub mod Turns
-pub mod TurnLaws
+pub mod Next
+pub mod Running
 pub mod Starts

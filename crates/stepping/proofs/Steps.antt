@@ -29,8 +29,8 @@ use Rattle.work.specs.Moves.{lowerTo, windowOn, ordinaryNext, gone, openingNext
 use Rattle.work.proofs.States.{state-at}
 use Rattle.work.proofs.Moves.{go-law}
 use Rattle.stepping.specs.declared.Progress.{Progress}
-use Rattle.stepping.specs.Progress.{logOf, rolledBack, progressAfter}
-use Rattle.stepping.specs.Steps.{Made, leftBy, Leaves, RolledBackTo, OpenedTo, CarriedOut, StateKept, Live}
+use Rattle.stepping.specs.Progress.{standing, logOf, rolledBack, progressAfter}
+use Rattle.stepping.specs.Steps.{Made, leftBy, Leaves, RolledBackTo, OpenedTo, CarriedOut, StateKept, Unexpired}
 use Rattle.stepping.proofs.Laws.{gathered, counted-back, depth-of, length-lower, top-lowered, window-lowered, left-some}
 
 -- ---- any step
@@ -53,13 +53,12 @@ module _ (w w′ t t′ : List ℕ) (c c′ : Progress) (n : ℕ) (s : Step) (co
   pub made-of : machineOf w′ control n ≡ s .next → Fit w′ control → drop labels w′ ≡ drop labels w
       → t′ ≡ sets t (2 * c .observations) (traceWords (s .obs)) → s .next .opened ≤ c .control .opened + 1
       → s .next .opened + c .control .depth ≡ c .control .opened + length (s .next .branches) + s .back
-      → (0 < s .back → c .control .depth ≤ c .control .opened) → Made n s w w′ t t′ c c′
+      → (0 < s .back → c .control .depth ≤ c .control .opened) → Made n s (standing w t c) (standing w′ t′ c′)
   made-of m f r e o b h =
       let C = ap (λ (x : Progress). x .control) counted in
       let O = ap (λ (M : Machine). M .opened) m in
       let D = depth-of w′ control n ∙ ap (λ (M : Machine). length (M .branches)) m in
       let O′ = ap (λ (x : Progress). x .control .opened) counted in
-      let D′ = ap (λ (x : Progress). x .control .depth) counted in
       record {
         machine = ap (λ (x : Control). machineOf w′ x n) C ∙ m;
         fits = subst (Fit w′) (sym C) f;
@@ -68,14 +67,13 @@ module _ (w w′ t t′ : List ℕ) (c c′ : Progress) (n : ℕ) (s : Step) (co
         observations = ap (λ (x : Progress). x .observations) counted;
         log = noted (counted-back (c .control .opened) (c .control .depth) (control .opened) (control .depth) (s .back) (omega arith) h);
         opened = omega arith;
-        depth = λ l. omega arith;
         steps = ap (λ (x : Progress). x .steps) counted;
       }
 
 -- ---- rule 1
 pub rolled-back : {w w′ t t′ : List ℕ} {c c′ : Progress} {r : RolledBack} {seen : LocationSet} → RollsBack w w′ (c .control) r
     → c .control .depth ≤ c .control .opened → t′ ≡ sets t (2 * c .observations) (1 ∷ r .id ∷ 2 ∷ r .target ∷ []) → seen ≡ empty
-    → c′ ≡ progressAfter c (r .control) 2 seen → RolledBackTo w w′ t t′ c c′
+    → c′ ≡ progressAfter c (r .control) 2 seen → RolledBackTo (standing w t c) (standing w′ t′ c′)
 unfolding rolling traceWords
 rolled-back {w} {w′} {t} {t′} {c} {c′} {r} {seen} m h et es ec =
     record {
@@ -108,7 +106,7 @@ pub opened : {w w′ t t′ : List ℕ} {c c′ : Progress} {r window wrong targ
     → target ≡ branchTo x (l .0) (c .control .place + 1) → wrong ≡ branchTo x (c .control .place + 1) (l .0)
     → Leaves (c .control) (BranchZero r l) v
     → t′ ≡ sets t (2 * c .observations) (0 ∷ c .control .opened ∷ 2 ∷ wrong ∷ []) → c′ ≡ progressAfter c control 2 (x .deps)
-    → OpenedTo w w′ t t′ r (l .0) window c c′
+    → OpenedTo r (l .0) window (standing w t c) (standing w′ t′ c′)
 unfolding opening traceWords
 opened {w} {w′} {t} {t′} {c} {c′} {r} {window} {wrong} {target} {v} {l} {x} {control} hr m ex eg ew left et ec =
     record {
@@ -138,7 +136,7 @@ module _ {n : ℕ} {w w′ t t′ : List ℕ} {c c′ : Progress} (i : Instructi
     (p : List ℕ) (code : Code) (left : v ≡ leftBy code (meaning p i) (c .control)) where
   -- the effect x is that state, that place, and what was counted and written
   carried : (x : plain.Effect) → σ ≡ x .state → q ≡ x .place → t′ ≡ sets t (2 * c .observations) (traceWords (x .obs))
-      → c′ ≡ progressAfter c control (length (x .obs)) (x .seen) → Made n (stepWith code (machineOf w (c .control) n) (meaning p i) x) w w′ t t′ c c′
+      → c′ ≡ progressAfter c control (length (x .obs)) (x .seen) → Made n (stepWith code (machineOf w (c .control) n) (meaning p i) x) (standing w t c) (standing w′ t′ c′)
   carried x es eq et ec =
       let M = machineOf w (c .control) n in
       let B = branches-left w (c .control) n v (meaning p i) code left in
@@ -148,7 +146,7 @@ module _ {n : ℕ} {w w′ t t′ : List ℕ} {c c′ : Progress} (i : Instructi
 
   -- nothing is shown
   pub carried-silently : {s : LocationSet} → q ≡ c .control .place + 1 → t′ ≡ t → s ≡ empty → c′ ≡ progressAfter c control 0 s
-      → Made n (stepWith code (machineOf w (c .control) n) (meaning p i) (silent σ (c .control .place))) w w′ t t′ c c′
+      → Made n (stepWith code (machineOf w (c .control) n) (meaning p i) (silent σ (c .control .place))) (standing w t c) (standing w′ t′ c′)
   unfolding traceWords
   carried-silently eq et es ec =
       carried (silent σ (c .control .place)) refl (eq ∙ add-one (c .control .place)) et (ec ∙ ap (progressAfter c control 0) es)
@@ -156,7 +154,7 @@ module _ {n : ℕ} {w w′ t t′ : List ℕ} {c c′ : Progress} (i : Instructi
   -- one observation is shown, of the kind a with the value b
   pub carried-shown : {a b : ℕ} (o : Observation) {s : LocationSet} (τ : State) (r : ℕ) → σ ≡ τ → q ≡ r → a ∷ b ∷ [] ≡ observationWords o
       → t′ ≡ sets t (2 * c .observations) (a ∷ b ∷ []) → c′ ≡ progressAfter c control 1 s
-      → Made n (stepWith code (machineOf w (c .control) n) (meaning p i) (record { state = τ; place = r; obs = o ∷ []; seen = s })) w w′ t t′ c c′
+      → Made n (stepWith code (machineOf w (c .control) n) (meaning p i) (record { state = τ; place = r; obs = o ∷ []; seen = s })) (standing w t c) (standing w′ t′ c′)
   unfolding traceWords
   carried-shown o {s} τ r es eq eo et ec =
       carried (record { state = τ; place = r; obs = o ∷ []; seen = s }) es eq
@@ -167,7 +165,7 @@ module _ {w w′ t t′ : List ℕ} {c c′ : Progress} {i : Instruction} {v : �
     (m : Moves w w′ (c .control) control (λ M. ordinaryNext M (put (M .state) l x) (c .control .place + 1) v)) (n : ℕ) (most : n ≤ limit)
     (p : List ℕ) (code : Code) (costs : code .costs ≡ windowCosts) where
   pub assigned : (r : ℕ) {s : LocationSet} → l ≡ r → t′ ≡ t → s ≡ empty → c′ ≡ progressAfter c control 0 s
-      → Made n (stepWith code (machineOf w (c .control) n) (meaning p i) (silent (put (stateIn w n) r x) (c .control .place))) w w′ t t′ c c′
+      → Made n (stepWith code (machineOf w (c .control) n) (meaning p i) (silent (put (stateIn w n) r x) (c .control .place))) (standing w t c) (standing w′ t′ c′)
   assigned r el et es ec =
       let m′ = m .machine n most ∙ (λ j. ordinaryNext (machineOf w (c .control) n) (put (stateIn w n) (el j) x) (c .control .place + 1) v) in
       carried-silently i m′ (m .fits) (m .frame) p code (leaves .exact p code costs) refl et es ec
@@ -176,7 +174,7 @@ module _ {w w′ t t′ : List ℕ} {c c′ : Progress} {i : Instruction} {v : �
   pub assigned-shown : {a b : ℕ} (o : Observation) {s : LocationSet} (r : ℕ) (y : Tagged) → l ≡ r → x ≡ y → a ∷ b ∷ [] ≡ observationWords o
       → t′ ≡ sets t (2 * c .observations) (a ∷ b ∷ []) → c′ ≡ progressAfter c control 1 s
       → Made n (stepWith code (machineOf w (c .control) n) (meaning p i)
-      (record { state = put (stateIn w n) r y; place = suc (c .control .place); obs = o ∷ []; seen = s })) w w′ t t′ c c′
+      (record { state = put (stateIn w n) r y; place = suc (c .control .place); obs = o ∷ []; seen = s })) (standing w t c) (standing w′ t′ c′)
   assigned-shown o r y el ex eo et ec =
       carried-shown i (m .machine n most) (m .fits) (m .frame) p code (leaves .exact p code costs) o (put (stateIn w n) r y) (suc (c .control .place))
       (λ j. put (stateIn w n) (el j) (ex j)) (add-one (c .control .place)) eo et ec
@@ -191,8 +189,8 @@ kept {c} {c′} {i} {q} {k} left eg es ec = record {
       ec ∙ (λ j. progressAfter c ((eg ∙ (λ u. gone (c .control) q (L u))) j) k (es j));
 }
 
-module _ {w t : List ℕ} {c c′ : Progress} {i : Instruction} {cells : ℕ} (live : Live w c) (most : registers + cells ≤ limit) where
-  pub kept-silently : StateKept (c .control .place + 1) 0 empty i c c′ → CarriedOut w w t t cells i (λ code σ. silent σ (c .control .place)) c c′
+module _ {w t : List ℕ} {c c′ : Progress} {i : Instruction} {cells : ℕ} (live : Unexpired w c) (most : registers + cells ≤ limit) where
+  pub kept-silently : StateKept (c .control .place + 1) 0 empty i c c′ → CarriedOut cells i (λ code σ. silent σ (c .control .place)) (standing w t c) (standing w t c′)
   kept-silently h = record {
     made = λ p code ec costs.
         let v = leftBy code (meaning p i) (c .control) in
@@ -201,7 +199,7 @@ module _ {w t : List ℕ} {c c′ : Progress} {i : Instruction} {cells : ℕ} (l
   }
 
   pub kept-shown : {t′ : List ℕ} (q : ℕ) (x : Tagged) → StateKept q 1 (x .deps) i c c′ → t′ ≡ sets t (2 * c .observations) (traceWords (pc q ∷ []))
-      → CarriedOut w w t t′ cells i (λ code σ. goEffect σ q x) c c′
+      → CarriedOut cells i (λ code σ. goEffect σ q x) (standing w t c) (standing w t′ c′)
   kept-shown q x h et = record {
     made = λ p code ec costs.
         let n = registers + cells in

@@ -1,13 +1,28 @@
--- What a run has come to: the code's progress, as the rules' log.
+-- Where a run stands, and what it has come to: the code's progress, as the rules' log.
 -- Assumes nothing.
 use mathlib.Core.List.{List}
 use Prim.Native.Nat.{ℕ, zero, suc, _+_, _-_}
 use Rattle.location.specs.declared.LocationSet.{LocationSet}
 use Rattle.location.specs.Sets.{union}
 use Rattle.rules.specs.Rules.Instructions.{Observation}
+use Rattle.rules.specs.Rules.Mispredicting.{Machine}
 use Rattle.rules.specs.Rules.Runs.{Log}
 use Rattle.work.specs.declared.machine.Control.{Control}
+use Rattle.work.specs.Machines.{machineOf}
 use Rattle.stepping.specs.declared.Progress.{Progress}
+
+-- Where a run stands: the working words, the trace area and the progress.
+pub record Standing : Type 0 where
+  pub work : List ℕ
+  pub trace : List ℕ
+  pub progress : Progress
+
+abbrev pub standing : List ℕ → List ℕ → Progress → Standing
+standing w t c = record { work = w; trace = t; progress = c }
+
+-- the rules' machine there, with n locations
+abbrev pub machineAt : Standing → ℕ → Machine
+machineAt x n = machineOf (x .work) (x .progress .control) n
 
 -- the branches that were rolled back: every other one that was opened is open
 abbrev pub rolledBack : Control → ℕ

@@ -16,48 +16,45 @@ use Rattle.rules.specs.Rules.Calls.{traceWords}
 use Rattle.work.specs.declared.machine.Control.{Control}
 use Rattle.work.specs.Layout.{labels}
 use Rattle.work.specs.Words.{windowAt}
-use Rattle.work.specs.Machines.{stateIn, machineOf, Fit, Left}
+use Rattle.work.specs.Machines.{stateIn, Fit, Left}
 use Rattle.work.specs.Moves.{gone}
 use Rattle.instruction.specs.declared.Instruction.{Instruction}
 use Rattle.instruction.specs.Meaning.{meaning}
 use Rattle.stepping.specs.declared.Progress.{Progress}
-use Rattle.stepping.specs.Progress.{logOf, progressAfter}
+use Rattle.stepping.specs.Progress.{Standing, machineAt, logOf, progressAfter}
 
--- The counts stay far below 2 ^ 64: no more branches were opened than steps made. No more are open than were opened, and the trace
--- area has the observations made.
-pub record Counted (c : Progress) (t : List ℕ) : Type 0 where
-  pub opened : c .control .opened ≤ c .steps
-  pub depth : c .control .depth ≤ c .control .opened
-  pub steps : c .steps ≤ 1000000
-  pub room : 2 * c .observations ≤ length t
+-- The counts stay far below 2 ^ 64: no more branches were opened than steps made, and the trace area has the observations made.
+pub record Counted (x : Standing) : Type 0 where
+  pub opened : x .progress .control .opened ≤ x .progress .steps
+  pub steps : x .progress .steps ≤ 1000000
+  pub room : 2 * x .progress .observations ≤ length (x .trace)
 
--- The words w, the trace area t and the progress c become those after the rules' step s of a machine with n locations.
-pub record Made (n : ℕ) (s : Step) (w w′ t t′ : List ℕ) (c c′ : Progress) : Type 0 where
-  pub machine : machineOf w′ (c′ .control) n ≡ s .next
-  pub fits : Fit w′ (c′ .control)
-  pub frame : drop labels w′ ≡ drop labels w
-  pub trace : t′ ≡ sets t (2 * c .observations) (traceWords (s .obs))
-  pub observations : c′ .observations ≡ c .observations + length (s .obs)
-  pub log : (os : List Observation) → logOf (os ++ s .obs) c′ ≡ note (machineOf w (c .control) n) s (logOf os c)
-  pub opened : c′ .control .opened ≤ c .control .opened + 1
-  pub depth : c .control .depth ≤ c .control .opened → c′ .control .depth ≤ c′ .control .opened
-  pub steps : c′ .steps ≡ c .steps + 1
+-- From x the run has come to y by the rules' step s of a machine with n locations.
+pub record Made (n : ℕ) (s : Step) (x y : Standing) : Type 0 where
+  pub machine : machineAt y n ≡ s .next
+  pub fits : Fit (y .work) (y .progress .control)
+  pub frame : drop labels (y .work) ≡ drop labels (x .work)
+  pub trace : y .trace ≡ sets (x .trace) (2 * x .progress .observations) (traceWords (s .obs))
+  pub observations : y .progress .observations ≡ x .progress .observations + length (s .obs)
+  pub log : (os : List Observation) → logOf (os ++ s .obs) (y .progress) ≡ note (machineAt x n) s (logOf os (x .progress))
+  pub opened : y .progress .control .opened ≤ x .progress .control .opened + 1
+  pub steps : y .progress .steps ≡ x .progress .steps + 1
 
 -- rule 1 on the top branch
-pub record RolledBackTo (w w′ t t′ : List ℕ) (c c′ : Progress) : Type 0 where
-  pub made : (n : ℕ) (b : Branch) (bs : List Branch) → n ≤ limit → machineOf w (c .control) n .branches ≡ b ∷ bs
-      → Made n (rolling (machineOf w (c .control) n) b bs) w w′ t t′ c c′
+pub record RolledBackTo (x y : Standing) : Type 0 where
+  pub made : (n : ℕ) (b : Branch) (bs : List Branch) → n ≤ limit → machineAt x n .branches ≡ b ∷ bs
+      → Made n (rolling (machineAt x n) b bs) x y
 
 -- rule 2 for beqz r, l, in a program whose window is so much
-pub record OpenedTo (w w′ t t′ : List ℕ) (r l window : ℕ) (c c′ : Progress) : Type 0 where
+pub record OpenedTo (r l window : ℕ) (x y : Standing) : Type 0 where
   pub made : (n : ℕ) (code : Code) → registers ≤ n → n ≤ limit → code .window ≡ window → code .costs ≡ windowCosts
-      → Made n (opening code (machineOf w (c .control) n) r l) w w′ t t′ c c′
+      → Made n (opening code (machineAt x n) r l) x y
 
 -- Rule 3 for instruction i, with the effect that a rule gives in the state of so many cells.
-pub record CarriedOut (w w′ t t′ : List ℕ) (cells : ℕ) (i : Instruction) (rule : Code → State → plain.Effect) (c c′ : Progress) : Type 0 where
+pub record CarriedOut (cells : ℕ) (i : Instruction) (rule : Code → State → plain.Effect) (x y : Standing) : Type 0 where
   pub made : (p : List ℕ) (code : Code) → code .cells ≡ cells → code .costs ≡ windowCosts
       → Made (registers + cells)
-      (stepWith code (machineOf w (c .control) (registers + cells)) (meaning p i) (rule code (stateIn w (registers + cells)))) w w′ t t′ c c′
+      (stepWith code (machineAt x (registers + cells)) (meaning p i) (rule code (stateIn (x .work) (registers + cells)))) x y
 
 -- what an instruction leaves of the top's window; with nothing open the window is kept
 abbrev pub leftBy : Code → Instr → Control → ℕ
@@ -68,16 +65,17 @@ pub record StateKept (place observations : ℕ) (s : LocationSet) (i : Instructi
   pub exact : (p : List ℕ) (code : Code) → code .costs ≡ windowCosts
       → c′ ≡ progressAfter c (gone (c .control) place (leftBy code (meaning p i) (c .control))) observations s
 
--- The words fit, and there is some window left.
-pub record Live (w : List ℕ) (c : Progress) : Type 0 where
+-- The words fit, and there is some window left: rule 1 is not for the window's sake the next.
+pub record Unexpired (w : List ℕ) (c : Progress) : Type 0 where
   pub fits : Fit w (c .control)
   pub window : 0 < c .control .window
 
--- What an opening asks: that, small counts, and room in the trace area for so many observations more.
-pub record Steppable (w t : List ℕ) (observations : ℕ) (c : Progress) : Type 0 where
-  pub live : Live w c
-  pub counted : Counted c t
-  pub more : 2 * (c .observations + observations) ≤ length t
+-- What a step of rule 2 or 3 asks that makes so many observations.
+pub record Steppable (observations : ℕ) (x : Standing) : Type 0 where
+  pub unexpired : Unexpired (x .work) (x .progress)
+  pub counted : Counted x
+  pub more : 2 * (x .progress .observations + observations) ≤ length (x .trace)
+  pub place : x .progress .control .place < 512
 
 -- What instruction i leaves of the window: with a branch open less than there was, and with none not 0, if there was any.
 pub record Leaves (c : Control) (i : Instruction) (v : ℕ) : Type 0 where

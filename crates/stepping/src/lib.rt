@@ -21,10 +21,11 @@ ghost use Rattle.location.specs.Sets.{registers, limit, empty};
 ghost use Rattle.rules.specs.Rules.Calls.{traceWords};
 ghost use Rattle.rules.specs.Rules.Instructions.{pc};
 ghost use Rattle.rules.specs.Rules.Plain.{Code, at, put, storedTo, silent, loadEffect, storeEffect, goEffect};
+ghost use Rattle.work.specs.Words.{taggedAt};
 ghost use Rattle.work.specs.Machines.{maxWindow, Fit, Left};
 ghost use Rattle.work.specs.Moves.{ordinaryNext, MovesAt};
-ghost use Rattle.stepping.specs.Progress.{gatherAt, progressAfter};
-ghost use Rattle.stepping.specs.Steps.{Counted, Live, Steppable, Leaves, RolledBackTo, OpenedTo, CarriedOut, StateKept};
+ghost use Rattle.stepping.specs.Progress.{standing, gatherAt, progressAfter};
+ghost use Rattle.stepping.specs.Steps.{Unexpired, Steppable, Leaves, RolledBackTo, OpenedTo, CarriedOut, StateKept};
 
 // Where a run stands: the machine's control, the counts, the full set and the plain set. The rollbacks are not counted: every branch
 // that was opened is open or rolled back.
@@ -84,8 +85,8 @@ fn count_step(c: Progress, control: Control, observations: usize, seen: Location
 
 // Rule 1, with its observations.
 pub fn roll_back(work: &mut [u64], trace: &mut [u64], c: Progress) -> Progress
-    requires { ⌜ Fit (now work) (c .control) × (0 < c .control .depth) × Counted c (now trace) × (2 * c .observations + 4 ≤ length (now trace)) ⌝ }
-    ensures { λ r. ⌜ RolledBackTo (now (work .entry)) (now (work .exit)) (now (trace .entry)) (now (trace .exit)) c r ⌝ }
+    requires { ⌜ Fit (now work) (c .control) × (0 < c .control .depth) × (c .steps + 1 < 2 ^ 64) × (2 * (c .observations + 2) ≤ length (now trace)) ⌝ }
+    ensures { λ r. ⌜ RolledBackTo (standing (now (work .entry)) (now (trace .entry)) c) (standing (now (work .exit)) (now (trace .exit)) r) ⌝ }
 {
     let control = c.control;
     let r = work::machine::roll_back(&mut work[..], control);
@@ -104,20 +105,21 @@ fn remaining_window(c: Control, i: Instruction) -> usize
     instruction::lowered(c.window as u64, i) as usize
 }
 
-// Rule 2 for beqz r, l, with its observations; w is the window of a branch that is opened with none open.
+// Rule 2 for beqz r, l, with its observations; t is what the register holds, and w is the window of a branch that is opened with none
+// open.
 pub fn open_branch(
     work: &mut [u64],
     trace: &mut [u64],
     c: Progress,
     r: u8,
     l: Label,
+    t: Tagged,
     w: usize,
 ) -> Progress
-    requires { ⌜ Steppable (now work) (now trace) 2 c × (c .control .place + 1 < 2 ^ 64) × (r < registers) × (w ≤ maxWindow) ⌝ }
-    ensures { λ x. ⌜ OpenedTo (now (work .entry)) (now (work .exit)) (now (trace .entry)) (now (trace .exit)) r (l .0) w c x ⌝ }
+    requires { ⌜ Steppable 2 (standing (now work) (now trace) c) × (r < registers) × (t ≡ taggedAt (now work) r) × (w ≤ maxWindow) ⌝ }
+    ensures { λ x. ⌜ OpenedTo r (l .0) w (standing (now (work .entry)) (now (trace .entry)) c) (standing (now (work .exit)) (now (trace .exit)) x) ⌝ }
 {
     let control = c.control;
-    let t = work::load(&work[..], Location::register(r));
     let next = control.place + 1;
     let target = effect::branch_to(t, l, next);
     let wrong = effect::branch_to(t, Label::new(next), l.index());
@@ -132,7 +134,7 @@ pub fn open_branch(
 pub fn skip(c: Progress, i: Instruction) -> Progress
     requires { ⌜ (c .control .place + 1 < 2 ^ 64) × (c .steps + 1 < 2 ^ 64) ⌝ }
     ensures exact { λ x. ⌜ StateKept (c .control .place + 1) 0 empty i c x ⌝ }
-    ensures carried { λ x. ⌜ ((w t : List ℕ) (cells : ℕ) → Live w c → registers + cells ≤ limit → CarriedOut w w t t cells i (λ code σ. silent σ (c .control .place)) c x) ⌝ }
+    ensures carried { λ x. ⌜ ((w t : List ℕ) (cells : ℕ) → Unexpired w c → registers + cells ≤ limit → CarriedOut cells i (λ code σ. silent σ (c .control .place)) (standing w t c) (standing w t x)) ⌝ }
 {
     let control = c.control;
     let remaining = remaining_window(control, i);
@@ -142,8 +144,8 @@ pub fn skip(c: Progress, i: Instruction) -> Progress
 
 // Rule 3 for an instruction that gives register r the word v and shows nothing.
 pub fn assign(work: &mut [u64], c: Progress, i: Instruction, r: u8, v: Tagged) -> Progress
-    requires { ⌜ Live (now work) c × (c .control .place + 1 < 2 ^ 64) × (c .steps + 1 < 2 ^ 64) × (r < registers) ⌝ }
-    ensures { λ x. ⌜ ((t : List ℕ) (cells : ℕ) → registers + cells ≤ limit → CarriedOut (now (work .entry)) (now (work .exit)) t t cells i (λ code σ. silent (put σ r v) (c .control .place)) c x) ⌝ }
+    requires { ⌜ Unexpired (now work) c × (c .control .place + 1 < 2 ^ 64) × (c .steps + 1 < 2 ^ 64) × (r < registers) ⌝ }
+    ensures { λ x. ⌜ ((t : List ℕ) (cells : ℕ) → registers + cells ≤ limit → CarriedOut cells i (λ code σ. silent (put σ r v) (c .control .place)) (standing (now (work .entry)) t c) (standing (now (work .exit)) t x)) ⌝ }
 {
     let control = c.control;
     let remaining = remaining_window(control, i);
@@ -163,8 +165,8 @@ pub fn load(
     r: u8,
     a: Tagged,
 ) -> Progress
-    requires { ⌜ Live (now work) c × (2 * (c .observations + 1) ≤ length (now trace)) × (c .control .place + 1 < 2 ^ 64) × (c .steps + 1 < 2 ^ 64) × (r < registers) × (registers + cells ≤ limit) ⌝ }
-    ensures { λ x. ⌜ CarriedOut (now (work .entry)) (now (work .exit)) (now (trace .entry)) (now (trace .exit)) cells i (λ code σ. loadEffect code σ (c .control .place) r a) c x ⌝ }
+    requires { ⌜ Unexpired (now work) c × (2 * (c .observations + 1) ≤ length (now trace)) × (c .control .place + 1 < 2 ^ 64) × (c .steps + 1 < 2 ^ 64) × (r < registers) × (registers + cells ≤ limit) ⌝ }
+    ensures { λ x. ⌜ CarriedOut cells i (λ code σ. loadEffect code σ (c .control .place) r a) (standing (now (work .entry)) (now (trace .entry)) c) (standing (now (work .exit)) (now (trace .exit)) x) ⌝ }
 {
     let control = c.control;
     let remaining = remaining_window(control, i);
@@ -211,8 +213,8 @@ pub fn store(
     r: u8,
     a: Tagged,
 ) -> Progress
-    requires { ⌜ Live (now work) c × (2 * (c .observations + 1) ≤ length (now trace)) × (c .control .place + 1 < 2 ^ 64) × (c .steps + 1 < 2 ^ 64) × (r < registers) × (registers + cells ≤ limit) ⌝ }
-    ensures { λ x. ⌜ CarriedOut (now (work .entry)) (now (work .exit)) (now (trace .entry)) (now (trace .exit)) cells i (λ code σ. storeEffect code σ (c .control .place) r a) c x ⌝ }
+    requires { ⌜ Unexpired (now work) c × (2 * (c .observations + 1) ≤ length (now trace)) × (c .control .place + 1 < 2 ^ 64) × (c .steps + 1 < 2 ^ 64) × (r < registers) × (registers + cells ≤ limit) ⌝ }
+    ensures { λ x. ⌜ CarriedOut cells i (λ code σ. storeEffect code σ (c .control .place) r a) (standing (now (work .entry)) (now (trace .entry)) c) (standing (now (work .exit)) (now (trace .exit)) x) ⌝ }
 {
     let control = c.control;
     let remaining = remaining_window(control, i);
@@ -226,7 +228,7 @@ pub fn store(
 pub fn go_to(trace: &mut [u64], c: Progress, i: Instruction, place: usize, v: Tagged) -> Progress
     requires { ⌜ (2 * (c .observations + 1) ≤ length (now trace)) × (c .steps + 1 < 2 ^ 64) ⌝ }
     ensures exact { λ x. ⌜ StateKept place 1 (v .deps) i c x × (now (trace .exit) ≡ sets (now (trace .entry)) (2 * c .observations) (traceWords (pc place ∷ []))) ⌝ }
-    ensures carried { λ x. ⌜ ((w : List ℕ) (cells : ℕ) → Live w c → registers + cells ≤ limit → CarriedOut w w (now (trace .entry)) (now (trace .exit)) cells i (λ code σ. goEffect σ place v) c x) ⌝ }
+    ensures carried { λ x. ⌜ ((w : List ℕ) (cells : ℕ) → Unexpired w c → registers + cells ≤ limit → CarriedOut cells i (λ code σ. goEffect σ place v) (standing w (now (trace .entry)) c) (standing w (now (trace .exit)) x)) ⌝ }
 {
     let control = c.control;
     let remaining = remaining_window(control, i);

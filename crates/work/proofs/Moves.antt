@@ -50,7 +50,11 @@ go-law w c p v f b =
       machine = λ n hn.
           let B = top-left (entryAt w) (changeAt w) (stateIn w n) (c .window) v (c .log) (c .depth) in
           λ t. record { state = stateIn w n; place = p; branches = B t; opened = c .opened };
-      fits = record { room = f .room; bound = bound-left (entryAt w) (c .window) v (c .depth) (c .log) (b .less) (b .some) (f .bound) };
+      fits = record {
+        room = f .room;
+        bound = bound-left (entryAt w) (c .window) v (c .depth) (c .log) (b .less) (b .some) (f .bound);
+        opened = f .opened;
+      };
       frame = refl;
     }
 
@@ -83,7 +87,11 @@ module _ (w : List ℕ) (c : Control) (l p v : ℕ) (x : Tagged) (f : Fit w c) (
             let S = state-stored w n l x e (omega (arith, f .room)) in
             let B = subst (Lowered w₁ k n) (sym z) refl in
             λ t. record { state = S t; place = p; branches = B t; opened = c .opened };
-        fits = record { room = rw (length-sets w (operandBase l) xs) (f .room); bound = subst (λ (d : ℕ). WindowBound (entryAt w₁) v d k) (sym z) (h .0, b .some z) };
+        fits = record {
+          room = rw (length-sets w (operandBase l) xs) (f .room);
+          bound = subst (λ (d : ℕ). WindowBound (entryAt w₁) v d k) (sym z) (h .0, b .some z);
+          opened = f .opened;
+        };
         frame = drop-sets xs w (operandBase l) labels (omega (arith, e));
       }
 
@@ -108,6 +116,7 @@ module _ (w : List ℕ) (c : Control) (l p v : ℕ) (x : Tagged) (f : Fit w c) (
         fits = record {
           room = rw (length-changed w k l x) (f .room);
           bound = subst (λ (j : ℕ). WindowBound (entryAt w₁) v j (k + 1)) (sym s) H;
+          opened = f .opened;
         };
         frame =
             drop-sets xs (sets w (changeBase k) ls) (operandBase l) labels (omega (arith, e)) ∙ drop-sets ls w (changeBase k) labels (omega arith);
@@ -157,6 +166,7 @@ module _ (w : List ℕ) (c : Control) (p t u v : ℕ) (f : Fit w c) (b : Left c 
         fits = record {
           room = rw (length-sets w (branchBase d) ns) r;
           bound = subst (λ (j : ℕ). WindowBound (entryAt w₁) x j k) (sym (add-one d)) H;
+          opened = let o = f .opened in omega arith;
         };
         frame = drop-sets ns w (branchBase d) labels (omega arith);
       }
@@ -248,6 +258,7 @@ module _ (w w₁ : List ℕ) (c : Control) (y : BranchEntry) (f : Fit w c) (h : 
         fits = record {
           room = rw (ew, length-undone w (c .log) (c .log - y .mark)) (f .room);
           bound = subst₂ (λ (e : ℕ → BranchEntry) (b : BranchEntry). WindowBound e (b .outer) (c .depth - 1) (b .mark)) E (sym ey) T;
+          opened = let o = f .opened in omega arith;
         };
         frame = drop-past w₁ w logBase labels (omega arith) past;
       }

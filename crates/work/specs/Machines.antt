@@ -63,10 +63,11 @@ abbrev pub WindowBound : (ℕ → BranchEntry) → ℕ → ℕ → ℕ → Type 
 WindowBound e v zero k = (k ≡ 0) × (0 < v)
 WindowBound e v (suc d) k = (e d .mark ≤ k) × (k + d + v ≤ maxWindow) × WindowBound e (e d .outer) d (e d .mark)
 
--- the working area is long enough, and the log and the branches do not meet
+-- The working area is long enough, the log and the branches do not meet, and no more branches are open than were opened.
 pub record Fit (w : List ℕ) (c : Control) : Type 0 where
   pub room : workingWords ≤ length w
   pub bound : WindowBound (entryAt w) (c .window) (c .depth) (c .log)
+  pub opened : c .depth ≤ c .opened
 
 -- v may be left of the window: less than there was with a branch open, and not 0 with none.
 pub record Left (c : Control) (v : ℕ) : Type 0 where

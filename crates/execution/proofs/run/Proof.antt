@@ -1,19 +1,20 @@
--- `run` meets its contract: what is left of the run from each turn is the rest of the whole run. The measure is what is left of
--- the budget. Assumes nothing.
+-- `run` meets its contract: what is left of the run is kept until a stop is found. Assumes nothing.
 use mathlib.Core.Path.{_≡_, refl}
 use Prim.Native.Nat.{_-_}
 use native.Mathlib.Omega.{arith}
 use lib.ListN.{length}
-use Rattle.execution.specs.Turns.{Running}
-use Rattle.execution.specs.TurnLaws.{turned-go, turned-halt, running-on}
-use Rattle.execution.specs.Starts.{whole, running-start}
+use Rattle.stepping.specs.Progress.{standing}
+use Rattle.execution.specs.Running.{Ready, Running}
+use Rattle.execution.specs.Starts.{whole}
+use Rattle.execution.proofs.Running.{proceeds, halted, ready-start, running-start, running-ends}
 use borrow.Author.Needs.{needs}
 use Rattle.execution.proofs.run.Statement.{statement}
 use Rattle.execution.proofs.run.Tie as tie
 
 abbrev Inv-loop : tie.InvT-loop
 Inv-loop p t mode work₀ trace₀ c₀ work trace c =
-    (length work ≡ length work₀) × (length trace ≡ length trace₀) × Running p t mode work₀ trace₀ work trace c (whole p t mode work₀ trace₀)
+    (length work ≡ length work₀) × (length trace ≡ length trace₀) × Ready p t mode (standing work trace c)
+    × Running p t mode work₀ trace₀ (standing work trace c) (whole p t mode work₀ trace₀)
 
 abbrev μ-loop : tie.MeasureT-loop
 μ-loop p t mode work₀ trace₀ c₀ work trace c = t .budget - c .steps
@@ -23,32 +24,56 @@ start-requires c κs = search needs
 
 loop-holds : tie.Need-loop-holds Inv-loop μ-loop
 loop-holds c =
-    let a = c .before .before .before .before .args in
-    let p = c .before .before .before .before .pre in
-    (refl, refl, rw (c .start .ensures) (running-start (a .p .now) (a .t) (a .mode) (a .work .now) (a .trace .now) (p .0) (p .1)))
+    let at-start = c .before .before .before .before in
+    let a = at-start .args in
+    (refl, refl, rw (c .start .ensures) (ready-start (a .p .now) (a .t) (a .mode) (a .work .now) (a .trace .now) (at-start .pre .0) (at-start .pre .1)),
+    rw (c .start .ensures) (running-start (a .p .now) (a .t) (a .mode) (a .work .now) (a .trace .now)))
 
-take-turn-requires : tie.Need-take-turn-requires Inv-loop μ-loop
-take-turn-requires c κs = c .before .before .loop .inv .2 .ready
+halt-of-requires : tie.Need-halt-of-requires Inv-loop μ-loop
+halt-of-requires c κs =
+    let at-loop = c .before .before in
+    at-loop .loop .inv .2
 
 enum-told : tie.Need-enum-told Inv-loop μ-loop
 enum-told c = search needs
 
+free-until-requires : tie.Need-free-until-requires Inv-loop μ-loop
+free-until-requires c κs =
+    let at-enum-told = c .before in
+    let at-halt-of = at-enum-told .before .before in
+    let at-loop = at-halt-of .before .before .before in
+    let o = proceeds _ _ _ (at-enum-told .enum-told .given .1) (at-halt-of .halt-of .ensures) in
+    (at-loop .loop .inv .2 .counted .room, o .left)
+
+make-steps-requires : tie.Need-make-steps-requires Inv-loop μ-loop
+make-steps-requires c κs =
+    let at-free-until = c .before .before in
+    let at-enum-told = at-free-until .before .before in
+    let at-halt-of = at-enum-told .before .before in
+    let at-loop = at-halt-of .before .before .before in
+    let o = proceeds _ _ _ (at-enum-told .enum-told .given .1) (at-halt-of .halt-of .ensures) in
+    (at-loop .loop .inv .2, o, at-free-until .free-until .ensures _)
+
 loop-less : tie.Need-loop-less Inv-loop μ-loop
 loop-less c =
-    let o = turned-go _ _ _ _ _ _ _ _ _ _ (c .enum-told .given .1) (c .before .before .before .before .before .before .before .take-turn .ensures) in
-    let h = o .before in
-    let s = o .made .steps in
+    let at-make-steps = c .before .before .before .before in
+    let further = at-make-steps .make-steps .ensures .further in
+    let most = at-make-steps .make-steps .ensures .ready .budget in
     omega arith
 
 loop-again : tie.Need-loop-again Inv-loop μ-loop
 loop-again c =
-    let a = c .before .before .before .before .before .before .before .before .before .before .before .before .before .before .before .args in
-    let v = c .before .before .before .before .before .before .before .before .before .before .loop .inv in
-    let o = turned-go _ _ _ _ _ _ _ _ _ _ (c .enum-told .given .1) (c .before .before .before .before .before .before .before .take-turn .ensures) in
-    (search needs, search needs, running-on (a .p .now) (a .t) (a .mode) (a .work .now) (a .trace .now) (whole (a .p .now) (a .t) (a .mode) (a .work .now) (a .trace .now)) (v .2) o)
+    let at-make-steps = c .before .before .before .before in
+    let at-loop = at-make-steps .before .before .before .before .before .before .before .before .before .before in
+    (search needs, search needs, at-make-steps .make-steps .ensures .ready, at-make-steps .make-steps .ensures .kept _ _ _ (at-loop .loop .inv .3))
 
-enum-known-next : tie.Need-enum-known-next Inv-loop μ-loop
-enum-known-next c = search needs
+enum-known-stop : tie.Need-enum-known-stop Inv-loop μ-loop
+enum-known-stop c = search needs
+
+report-requires : tie.Need-report-requires Inv-loop μ-loop
+report-requires c κs =
+    let at-loop = c .before .before .before .before .before .before in
+    at-loop .loop .inv .2 .steady .fits .opened
 
 same-length : tie.Need-same-length Inv-loop μ-loop
 same-length c = search needs
@@ -58,8 +83,10 @@ same-length-2 c = search needs
 
 returns : tie.Need-returns Inv-loop μ-loop
 returns c =
-    let v = c .before .before .before .before .before .before .before .before .before .before .before .loop .inv in
-    turned-halt _ _ _ _ _ _ _ _ _ _ _ _ _ _ (v .2) (c .before .next .given .1) (c .before .before .before .before .before .before .before .before .take-turn .ensures)
+    let at-stop = c .before .before in
+    let at-halt-of = at-stop .before .before in
+    let at-loop = at-halt-of .before .before .before in
+    running-ends _ _ _ (c .report .ensures) (at-loop .loop .inv .2) (at-loop .loop .inv .3) (halted _ _ _ (at-stop .stop .given .1) (at-halt-of .halt-of .ensures))
 
 pub run-spec : {M : Type 1} → statement M
 run-spec =
@@ -69,11 +96,14 @@ run-spec =
     μ-loop
     start-requires
     loop-holds
-    take-turn-requires
+    halt-of-requires
     enum-told
+    free-until-requires
+    make-steps-requires
     loop-less
     loop-again
-    enum-known-next
+    enum-known-stop
+    report-requires
     same-length
     same-length-2
     returns)

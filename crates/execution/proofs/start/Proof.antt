@@ -16,6 +16,7 @@ empty-requires-2 c κs = search needs
 returns : tie.Need-returns
 unfolding beginning
 returns c =
+    let at-empty = c .before in
     ap₂ {C = Progress}
     (λ (f g : LocationSet). record {
       control = record { place = 0; depth = 0; log = 0; opened = 0; window = 1 };
@@ -24,7 +25,7 @@ returns c =
       full = f;
       plain = g;
     })
-    (c .before .empty .ensures) (c .empty2 .ensures)
+    (at-empty .empty .ensures) (c .empty2 .ensures)
 
 pub start-spec : {M : Type 1} → statement M
 start-spec = tie.close (tie.spec empty-requires empty-requires-2 returns)

@@ -1,21 +1,16 @@
 -- `open_branch` meets its contract: the move, its observations and the counts are rule 2. Assumes nothing.
-use mathlib.Core.Path.{_∙_, ap}
+use mathlib.Core.Path.{_∙_}
 use native.Mathlib.Omega.{arith}
 use Rattle.rules.specs.Rules.Plain.{branchTo}
-use Rattle.work.specs.Words.{taggedAt}
 use Rattle.stepping.proofs.Steps.{opened}
 use borrow.Author.Needs.{needs}
 use Rattle.stepping.proofs.open_branch.Statement.{statement}
 use Rattle.stepping.proofs.open_branch.Tie as tie
 
-register-requires : tie.Need-register-requires
-register-requires c κs = search needs
-
-load-requires : tie.Need-load-requires
-load-requires c κs = search needs
-
 add-next : tie.Need-add-next
-add-next c = search needs
+add-next c =
+    let at-start = c .before .before .before .before in
+    let h = at-start .pre .0 .place in omega arith
 
 branch-to-requires : tie.Need-branch-to-requires
 branch-to-requires c κs = search needs
@@ -34,14 +29,20 @@ remaining-window-requires c κs = search needs
 
 open-branch-requires : tie.Need-open-branch-requires
 open-branch-requires c κs =
-    let p = c .before .before .before .before .before .before .before .before .before .before .before .before .before .pre in
-    (p .0 .live .fits, (c .before .remaining-window .ensures .left (p .0 .live .window), (p .3, omega (arith, p .0 .counted .opened, p .0 .counted .steps))))
+    let at-remaining-window = c .before in
+    let at-start = at-remaining-window .before .before .before .before .before .before .before .before .before in
+    let q = at-start .pre .0 in
+    (q .unexpired .fits, (at-remaining-window .remaining-window .ensures .left (q .unexpired .window), (at-start .pre .3, omega (arith, q .counted .opened, q .counted .steps))))
 
 observe-branch-requires : tie.Need-observe-branch-requires
-observe-branch-requires c κs = omega (arith, c .before .before .before .before .before .before .before .before .before .before .before .before .before .before .before .before .before .pre .0 .more)
+observe-branch-requires c κs =
+    let at-start = c .before .before .before .before .before .before .before .before .before .before .before .before .before .before in
+    omega (arith, at-start .pre .0 .more)
 
 count-step-requires : tie.Need-count-step-requires
-count-step-requires c κs = let p = c .before .before .before .before .before .before .before .before .before .before .before .before .before .before .before .before .before .before .before .before .before .pre in omega (arith, p .0 .more, p .0 .counted .steps, c .before .before .before .before .before .before .before .before .before .before .before .before .before .before .before .before .before .before .before .before .before .good .1 .0)
+count-step-requires c κs =
+    let at-start = c .before .before .before .before .before .before .before .before .before .before .before .before .before .before .before .before .before .before in
+    omega (arith, at-start .pre .0 .more, at-start .pre .0 .counted .steps, at-start .good .1 .0)
 
 same-length : tie.Need-same-length
 same-length c = search needs
@@ -51,19 +52,22 @@ same-length-2 c = search needs
 
 returns : tie.Need-returns
 returns c =
-    let p = c .before .before .before .before .before .before .before .before .before .before .before .before .before .before .before .before .before .before .before .before .before .before .pre in
-    let a = c .before .before .before .before .before .before .before .before .before .before .before .before .before .before .before .before .before .before .before .before .before .before .args in
-    let t = c .before .before .before .before .before .before .before .before .before .before .before .before .before .before .before .before .load .result in
-    opened (p .2) (c .before .before .before .before .before .before .before .before .open-branch .ensures) (c .before .before .before .before .before .before .before .before .before .before .before .before .before .before .before .before .load .ensures ∙ ap (taggedAt (a .work .now)) (c .before .before .before .before .before .before .before .before .before .before .before .before .before .before .before .before .before .register .ensures))
-    (c .before .before .before .before .before .before .before .before .before .before .before .before .before .before .branch-to .ensures) (c .before .before .before .before .before .before .before .before .before .before .before .branch-to2 .ensures ∙ (λ i. branchTo t (c .before .before .before .before .before .before .before .before .before .before .before .before .before .new .ensures i) (c .before .before .before .before .before .before .before .before .before .before .before .before .index .ensures i)))
-    (c .before .before .before .before .before .before .before .before .before .before .remaining-window .ensures) (c .before .before .before .before .observe-branch .ensures) (c .count-step .ensures)
+    let at-observe-branch = c .before .before .before .before in
+    let at-open-branch = at-observe-branch .before .before .before .before in
+    let at-remaining-window = at-open-branch .before .before in
+    let at-branch-to2 = at-remaining-window .before in
+    let at-index = at-branch-to2 .before in
+    let at-new = at-index .before in
+    let at-branch-to = at-new .before in
+    let at-start = at-branch-to .before .before .before .before .before in
+    opened (at-start .pre .1) (at-open-branch .open-branch .ensures) (at-start .pre .2) (at-branch-to .branch-to .ensures)
+    (at-branch-to2 .branch-to2 .ensures ∙ (λ i. branchTo (at-start .args .t) (at-new .new .ensures i) (at-index .index .ensures i)))
+    (at-remaining-window .remaining-window .ensures) (at-observe-branch .observe-branch .ensures) (c .count-step .ensures)
 
 pub open-branch-spec : {M : Type 1} → statement M
 open-branch-spec =
     tie.close
     (tie.spec
-    register-requires
-    load-requires
     add-next
     branch-to-requires
     new-requires

@@ -24,7 +24,7 @@ same-length-2 c = search needs
 
 returns : tie.Need-returns
 returns c =
-    rolled-back (c .before .before .before .before .before .before .before .before .before .roll-back .ensures) (c .before .before .before .before .before .before .before .before .before .before .before .before .before .before .pre .2 .depth) (c .before .before .before .before .before .observe-branch .ensures) (c .before .empty .ensures) (c .count-step .ensures)
+    rolled-back (c .before .before .before .before .before .before .before .before .before .roll-back .ensures) (c .before .before .before .before .before .before .before .before .before .before .before .before .before .before .pre .0 .opened) (c .before .before .before .before .before .observe-branch .ensures) (c .before .empty .ensures) (c .count-step .ensures)
 
 pub roll-back-spec : {M : Type 1} → statement M
 roll-back-spec =

@@ -1,0 +1,248 @@
+-- `carry_out` meets its contract: each instruction's effect is the rules'. Assumes nothing.
+use mathlib.Core.Path.{_∙_}
+use native.Mathlib.Omega.{arith}
+use Rattle.effect.proofs.Laws.{second-sound, register-value}
+use Rattle.execution.proofs.Effects.{skip-carried, barrier-carried, assign-carried, load-carried, store-carried, jump-carried, branch-carried, assign-if-carried, load-shown, store-shown, jump-shown, branch-shown}
+use borrow.Author.Needs.{needs}
+use Rattle.execution.proofs.step.carry_out.Statement.{statement}
+use Rattle.execution.proofs.step.carry_out.Tie as tie
+
+add-next : tie.Need-add-next
+add-next c =
+    let at-start = c .before .before .before .before .before in
+    let h = at-start .pre .place in omega arith
+
+enum-told : tie.Need-enum-told
+enum-told c = search needs
+
+skip-requires : tie.Need-skip-requires
+skip-requires c κs =
+    let at-start = c .before .before .before .before .before .before .before in
+    let h = at-start .pre .place in let s = at-start .pre .counted .steps in (omega arith, omega arith)
+
+enum-known-i : tie.Need-enum-known-i
+enum-known-i c = search needs
+
+assign-requires : tie.Need-assign-requires
+assign-requires c κs =
+    let at-i = c .before .before in
+    let at-start = at-i .before .before .before .before .before .before .before in
+    let q = rw (at-i .i .given .1) at (at-start .pre) in
+    let h = q .place in
+    let s = q .counted .steps in
+    (q .unexpired, omega arith, omega arith, q .below)
+
+enum-known-i-2 : tie.Need-enum-known-i-2
+enum-known-i-2 c = search needs
+
+load-requires : tie.Need-load-requires
+load-requires c κs =
+    let at-i2 = c .before .before .before in
+    let at-start = at-i2 .before .before .before .before .before .before .before in
+    let q = rw (at-i2 .i2 .given .1) at (at-start .pre) in
+    let l = q .limits .cells in
+    let h = q .place in
+    let s = q .counted .steps in
+    (q .unexpired, load-shown (at-start .pre) (at-i2 .i2 .given .1), omega arith, omega arith, q .below, omega arith)
+
+enum-known-i-3 : tie.Need-enum-known-i-3
+enum-known-i-3 c = search needs
+
+store-requires : tie.Need-store-requires
+store-requires c κs =
+    let at-i3 = c .before .before .before in
+    let at-start = at-i3 .before .before .before .before .before .before .before in
+    let q = rw (at-i3 .i3 .given .1) at (at-start .pre) in
+    let l = q .limits .cells in
+    let h = q .place in
+    let s = q .counted .steps in
+    (q .unexpired, store-shown (at-start .pre) (at-i3 .i3 .given .1), omega arith, omega arith, q .below, omega arith)
+
+enum-told-2 : tie.Need-enum-told-2
+enum-told-2 c = search needs
+
+jump-to-requires : tie.Need-jump-to-requires
+jump-to-requires c κs = search needs
+
+go-to-requires : tie.Need-go-to-requires
+go-to-requires c κs =
+    let at-enum-told2 = c .before .before in
+    let at-start = at-enum-told2 .before .before .before .before .before .before .before in
+    let s = at-start .pre .counted .steps in (jump-shown (at-start .pre) (at-enum-told2 .enum-told2 .given .1), omega arith)
+
+enum-known-i-4 : tie.Need-enum-known-i-4
+enum-known-i-4 c = search needs
+
+branch-to-requires : tie.Need-branch-to-requires
+branch-to-requires c κs = search needs
+
+go-to-requires-2 : tie.Need-go-to-requires-2
+go-to-requires-2 c κs =
+    let at-i4 = c .before .before .before in
+    let at-start = at-i4 .before .before .before .before .before .before .before in
+    let s = at-start .pre .counted .steps in (branch-shown (at-start .pre) (at-i4 .i4 .given .1), omega arith)
+
+enum-known-i-5 : tie.Need-enum-known-i-5
+enum-known-i-5 c = search needs
+
+chosen-requires : tie.Need-chosen-requires
+chosen-requires c κs =
+    let at-i5 = c .before .before in
+    let at-start = at-i5 .before .before .before .before .before .before .before in
+    let q = rw (at-i5 .i5 .given .1) at (at-start .pre) in
+    let r = q .unexpired .fits .room in
+    (second-sound (at-start .args .p .now) (at-i5 .i5 .given .1) (at-start .pre .sound), (omega arith, q .below))
+
+assign-requires-2 : tie.Need-assign-requires-2
+assign-requires-2 c κs =
+    let at-i5 = c .before .before .before .before in
+    let at-start = at-i5 .before .before .before .before .before .before .before in
+    let q = rw (at-i5 .i5 .given .1) at (at-start .pre) in
+    let h = q .place in
+    let s = q .counted .steps in
+    (q .unexpired, omega arith, omega arith, q .below)
+
+enum-told-3 : tie.Need-enum-told-3
+enum-told-3 c = search needs
+
+skip-requires-2 : tie.Need-skip-requires-2
+skip-requires-2 c κs =
+    let at-start = c .before .before .before .before .before .before .before in
+    let h = at-start .pre .place in let s = at-start .pre .counted .steps in (omega arith, omega arith)
+
+returns : tie.Need-returns
+returns c =
+    let at-enum-told = c .before in
+    let at-start = at-enum-told .before .before .before .before .before .before .before in
+    let a = at-start .args in
+    let l = at-start .pre .limits .cells in
+    skip-carried (at-enum-told .enum-told .given .1) (c .skip .ensures .1 (a .work .now) (a .trace .now) (a .t .cells) (at-start .pre .unexpired) (omega arith))
+
+same-length : tie.Need-same-length
+same-length c = search needs
+
+returns-2 : tie.Need-returns-2
+returns-2 c =
+    let at-assign = c .before .before in
+    let at-i = at-assign .before .before .before in
+    let at-start = at-i .before .before .before .before .before .before .before in
+    let a = at-start .args in
+    let l = at-start .pre .limits .cells in
+    assign-carried (at-i .i .given .1) (rw (at-i .i .given .1) at (at-start .pre .value)) (at-assign .assign .ensures (a .trace .now) (a .t .cells) (omega arith))
+
+same-length-2 : tie.Need-same-length-2
+same-length-2 c = search needs
+
+same-length-3 : tie.Need-same-length-3
+same-length-3 c = search needs
+
+returns-3 : tie.Need-returns-3
+returns-3 c =
+    let at-load = c .before .before .before .before in
+    let at-i2 = at-load .before .before .before .before in
+    let at-start = at-i2 .before .before .before .before .before .before .before in
+    load-carried (at-i2 .i2 .given .1) (rw (at-i2 .i2 .given .1) at (at-start .pre .value)) (at-load .load .ensures)
+
+same-length-4 : tie.Need-same-length-4
+same-length-4 c = search needs
+
+same-length-5 : tie.Need-same-length-5
+same-length-5 c = search needs
+
+returns-4 : tie.Need-returns-4
+returns-4 c =
+    let at-store = c .before .before .before .before in
+    let at-i3 = at-store .before .before .before .before in
+    let at-start = at-i3 .before .before .before .before .before .before .before in
+    store-carried (at-i3 .i3 .given .1) (rw (at-i3 .i3 .given .1) at (at-start .pre .value)) (at-store .store .ensures)
+
+same-length-6 : tie.Need-same-length-6
+same-length-6 c = search needs
+
+returns-5 : tie.Need-returns-5
+returns-5 c =
+    let at-go-to = c .before .before in
+    let at-jump-to = at-go-to .before .before in
+    let at-enum-told2 = at-jump-to .before in
+    let at-start = at-enum-told2 .before .before .before .before .before .before .before in
+    let l = at-start .pre .limits .cells in
+    jump-carried (at-enum-told2 .enum-told2 .given .1) (rw (at-enum-told2 .enum-told2 .given .1) at (at-start .pre .value)) (at-jump-to .jump-to .ensures)
+    (at-go-to .go-to .ensures .1 (at-start .args .work .now) (at-start .args .t .cells) (at-start .pre .unexpired) (omega arith))
+
+same-length-7 : tie.Need-same-length-7
+same-length-7 c = search needs
+
+returns-6 : tie.Need-returns-6
+returns-6 c =
+    let at-go-to2 = c .before .before in
+    let at-branch-to = at-go-to2 .before .before in
+    let at-i4 = at-branch-to .before .before in
+    let at-start = at-i4 .before .before .before .before .before .before .before in
+    let l = at-start .pre .limits .cells in
+    let q = rw (at-i4 .i4 .given .1) at (at-start .pre) in
+    branch-carried (at-i4 .i4 .given .1) (q .below) (rw (at-i4 .i4 .given .1) at (at-start .pre .value) ∙ register-value _ _) (at-branch-to .branch-to .ensures)
+    (at-go-to2 .go-to2 .ensures .1 (at-start .args .work .now) (at-start .args .t .cells) (at-start .pre .unexpired) (omega arith))
+
+same-length-8 : tie.Need-same-length-8
+same-length-8 c = search needs
+
+returns-7 : tie.Need-returns-7
+returns-7 c =
+    let at-assign2 = c .before .before in
+    let at-chosen = at-assign2 .before .before in
+    let at-i5 = at-chosen .before .before .before in
+    let at-start = at-i5 .before .before .before .before .before .before .before in
+    let a = at-start .args in
+    let l = at-start .pre .limits .cells in
+    let q = rw (at-i5 .i5 .given .1) at (at-start .pre) in
+    assign-if-carried (at-i5 .i5 .given .1) (q .below) (rw (at-i5 .i5 .given .1) at (at-start .pre .value)) (at-chosen .chosen .ensures)
+    (at-assign2 .assign2 .ensures (a .trace .now) (a .t .cells) (omega arith))
+
+returns-8 : tie.Need-returns-8
+returns-8 c =
+    let at-enum-told3 = c .before in
+    let at-start = at-enum-told3 .before .before .before .before .before .before .before in
+    let a = at-start .args in
+    let l = at-start .pre .limits .cells in
+    barrier-carried (at-enum-told3 .enum-told3 .given .1) (c .skip2 .ensures .1 (a .work .now) (a .trace .now) (a .t .cells) (at-start .pre .unexpired) (omega arith))
+
+pub carry-out-spec : {M : Type 1} → statement M
+carry-out-spec =
+    tie.close
+    (tie.spec
+    add-next
+    enum-told
+    skip-requires
+    enum-known-i
+    assign-requires
+    enum-known-i-2
+    load-requires
+    enum-known-i-3
+    store-requires
+    enum-told-2
+    jump-to-requires
+    go-to-requires
+    enum-known-i-4
+    branch-to-requires
+    go-to-requires-2
+    enum-known-i-5
+    chosen-requires
+    assign-requires-2
+    enum-told-3
+    skip-requires-2
+    returns
+    same-length
+    returns-2
+    same-length-2
+    same-length-3
+    returns-3
+    same-length-4
+    same-length-5
+    returns-4
+    same-length-6
+    returns-5
+    same-length-7
+    returns-6
+    same-length-8
+    returns-7
+    returns-8)

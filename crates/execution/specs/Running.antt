@@ -1,0 +1,163 @@
+-- A run in the lent areas: where it can go on, what halts it, and what is left of it.
+-- Assumes nothing.
+use mathlib.Core.Path.{_≡_}
+use mathlib.Core.Bool.{true, false}
+use mathlib.Core.List.{List}
+use Prim.Native.Nat.{ℕ, _+_, _-_, _*_, _/_, _<_, _≤_}
+use lib.ListN.{length, drop}
+use Rattle.location.specs.Sets.{registers}
+use Rattle.rules.specs.declared.Stop.{Stop}
+use Rattle.rules.specs.declared.Tagged.{Tagged}
+use Rattle.rules.specs.declared.Trailer.{Trailer}
+use Rattle.rules.specs.Rules.Expressions.{eval}
+use Rattle.rules.specs.Rules.Instructions.{Observation, windowCosts}
+use Rattle.rules.specs.Rules.Plain.{Code, endPlace}
+use Rattle.rules.specs.Rules.Mispredicting.{Step, ordinary}
+use Rattle.rules.specs.Rules.Loop.{ended}
+use Rattle.rules.specs.Rules.Runs.{Result, over, run}
+use Rattle.rules.specs.Rules.JobFile.{postfix, locations}
+use Rattle.rules.specs.Rules.Calls.{written, traceWords, counts}
+use Rattle.rules.specs.Theorems.JobLaws.{Limits}
+use Rattle.instruction.specs.declared.Instruction.{Instruction}
+use Rattle.instruction.specs.Meaning.{meaning}
+use Rattle.instruction.specs.Registers.{RegistersBelow}
+use Rattle.descriptor.specs.Descriptors.{firstTokens}
+use Rattle.program.specs.Programs.{programIn, Describes}
+use Rattle.work.specs.declared.machine.Control.{Control}
+use Rattle.work.specs.Layout.{labels}
+use Rattle.work.specs.Words.{taggedAt}
+use Rattle.work.specs.Machines.{stateIn, machineOf, Fit}
+use Rattle.stepping.specs.declared.Progress.{Progress}
+use Rattle.stepping.specs.Progress.{Standing, machineAt, logOf, rolledBack}
+use Rattle.stepping.specs.Steps.{Counted, Made, Unexpired}
+use Rattle.execution.specs.declared.Mode.{Mode}
+use Rattle.execution.specs.declared.Mode.the-variants as modes
+use Rattle.execution.specs.declared.Ran.{Ran}
+use Rattle.execution.specs.declared.halt.Halt.{Halt}
+use Rattle.execution.specs.declared.halt.Halt.the-variants as halt
+use Rattle.execution.specs.Next.{stepBy}
+
+-- ---- the program
+-- what the steps of a job are given: the program that the words ws of its labels describe over the bytes p, and its trailer's numbers
+unfoldable pub codeIn : List ℕ → Trailer → List ℕ → Code
+codeIn p t ws = record { prog = programIn p (t .count) ws; cells = t .cells; window = t .window; costs = windowCosts }
+
+-- The numbers keep their limits, and each word of the table of labels describes an instruction.
+pub record Loaded (p : List ℕ) (t : Trailer) (w : List ℕ) : Type 0 where
+  pub limits : Limits t
+  pub described : Describes p (t .count) (drop labels w)
+
+-- the job's code: what the rules are given, by its trailer
+pub record CodeOf (t : Trailer) (code : Code) : Type 0 where
+  pub count : endPlace code ≡ t .count
+  pub cells : code .cells ≡ t .cells
+  pub window : code .window ≡ t .window
+  pub costs : code .costs ≡ windowCosts
+
+-- ---- where a run can go on
+-- the words hold a machine of the run
+pub record Steady (p : List ℕ) (t : Trailer) (mode : Mode) (w : List ℕ) (c : Control) : Type 0 where
+  pub loaded : Loaded p t w
+  pub fits : Fit w c
+  pub closed : mode ≡ modes.Plain → c .depth ≡ 0
+
+-- and the counts are those of a run
+pub record Ready (p : List ℕ) (t : Trailer) (mode : Mode) (x : Standing) : Type 0 where
+  pub steady : Steady p t mode (x .work) (x .progress .control)
+  pub counted : Counted x
+  pub budget : x .progress .steps ≤ t .budget
+
+-- the code of the words at x
+abbrev pub codeAt : List ℕ → Trailer → Standing → Code
+codeAt p t x = codeIn p t (drop labels (x .work))
+
+-- the rules' next step from x
+abbrev pub nextStep : List ℕ → Trailer → Mode → Standing → Step
+nextStep p t mode x = stepBy mode (codeAt p t x) (machineAt x (locations t))
+
+-- how many observations it makes
+abbrev pub observedBy : List ℕ → Trailer → Mode → List ℕ → Control → ℕ
+observedBy p t mode w c = length (stepBy mode (codeIn p t (drop labels w)) (machineOf w c (locations t)) .obs)
+
+-- The next step may be made: the run is not over, the budget is not spent, and the step's observations fit.
+pub record Permitted (p : List ℕ) (t : Trailer) (mode : Mode) (x : Standing) : Type 0 where
+  pub on : over (codeAt p t x) (machineAt x (locations t)) ≡ false
+  pub left : x .progress .steps < t .budget
+  pub room : x .progress .observations + length (nextStep p t mode x .obs) ≤ length (x .trace) / 2
+
+-- The run stops at x, as s.
+pub record Halts (p : List ℕ) (t : Trailer) (mode : Mode) (x : Standing) (s : Stop) : Type 0 where
+  pub stops : (os : List Observation) → length os ≡ x .progress .observations
+      → run (stepBy mode (codeAt p t x)) (codeAt p t x) (length (x .trace) / 2) (t .budget - x .progress .steps) (machineAt x (locations t))
+      (logOf os (x .progress))
+      ≡ ended s (machineAt x (locations t)) (logOf os (x .progress))
+
+-- what halts it, if anything does
+abbrev pub HaltOf : List ℕ → Trailer → Mode → Standing → Halt → Type 0
+HaltOf p t mode x halt.Proceed = Permitted p t mode x
+HaltOf p t mode x (halt.Halted s) = Halts p t mode x s
+
+-- Up to so many steps in all the budget suffices; and the trace area too, unless it is one step more, which has been tested.
+pub record FreeUntil (budget until : ℕ) (x : Standing) : Type 0 where
+  pub more : x .progress .steps < until
+  pub most : until ≤ budget
+  pub free : x .progress .steps + 1 < until → x .progress .observations + 2 * (until - x .progress .steps) ≤ length (x .trace) / 2
+
+-- ---- one step
+-- What rule 3 asks for an instruction whose first value is a: its expressions and registers are those of a job, and there is room.
+pub record Executing (p : List ℕ) (t : Trailer) (i : Instruction) (a : Tagged) (x : Standing) : Type 0 where
+  pub unexpired : Unexpired (x .work) (x .progress)
+  pub counted : Counted x
+  pub place : x .progress .control .place < 512
+  pub limits : Limits t
+  pub room : (code : Code) → 2 * (x .progress .observations + length (ordinary code (machineAt x (locations t)) (meaning p i) .obs)) ≤ length (x .trace)
+  pub sound : postfix (meaning p i) ≡ true
+  pub below : RegistersBelow registers (meaning p i)
+  pub value : a ≡ eval (taggedAt (x .work)) (firstTokens (meaning p i))
+
+-- rule 3 for the instruction i
+pub record Performed (p : List ℕ) (t : Trailer) (i : Instruction) (x y : Standing) : Type 0 where
+  pub made : (code : Code) → CodeOf t code → Made (locations t) (ordinary code (machineAt x (locations t)) (meaning p i)) x y
+
+-- What the instruction at the place asks: it is the program's, rule 1 is not the next, and there is room.
+pub record Advancing (p : List ℕ) (t : Trailer) (mode : Mode) (x : Standing) : Type 0 where
+  pub ready : Ready p t mode x
+  pub inside : x .progress .control .place < t .count
+  pub window : 0 < x .progress .control .window
+  pub room : 2 * (x .progress .observations + length (nextStep p t mode x .obs)) ≤ length (x .trace)
+
+-- ---- a run
+-- Somewhere in a run R that began with the words w₀ and the trace area a₀: what is left of it from x is the rest of R.
+pub record Running (p : List ℕ) (t : Trailer) (mode : Mode) (w₀ a₀ : List ℕ) (x : Standing) (R : Result) : Type 0 where
+  pub observed : List Observation
+  pub count : length observed ≡ x .progress .observations
+  pub trace : x .trace ≡ written (traceWords observed) a₀
+  pub size : length (x .trace) ≡ length a₀
+  pub frame : drop labels (x .work) ≡ drop labels w₀
+  pub rest : run (stepBy mode (codeIn p t (drop labels w₀))) (codeIn p t (drop labels w₀)) (length a₀ / 2) (t .budget - x .progress .steps)
+      (machineAt x (locations t)) (logOf observed (x .progress))
+      ≡ R
+
+-- The run goes on from x to y, by one step at least.
+pub record GoesOn (p : List ℕ) (t : Trailer) (mode : Mode) (x y : Standing) : Type 0 where
+  pub further : x .progress .steps < y .progress .steps
+  pub ready : Ready p t mode y
+  pub kept : (w₀ a₀ : List ℕ) (R : Result) → Running p t mode w₀ a₀ x R → Running p t mode w₀ a₀ y R
+
+-- what is reported of a run that stops
+abbrev pub reportOf : Stop → Progress → Ran
+reportOf s c = record {
+  counts = record { stop = s; observations = c .observations; steps = c .steps; rollbacks = rolledBack (c .control) };
+  full = c .full;
+  plain = c .plain;
+}
+
+-- The run R as it has ended: what is reported, and what is left in the areas.
+pub record RanTo (t : Trailer) (w₀ a₀ w area : List ℕ) (r : Ran) (R : Result) : Type 0 where
+  pub counts : r .counts ≡ counts R
+  pub full : r .full ≡ R .log .full
+  pub plain : r .plain ≡ R .log .plain
+  pub trace : area ≡ written (traceWords (R .log .trace)) a₀
+  pub state : stateIn w (locations t) ≡ R .last .state
+  pub frame : drop labels w ≡ drop labels w₀
+  pub size : length w ≡ length w₀

@@ -1,0 +1,136 @@
+// The steps of a run, made without any test of the budget or of the trace area.
+use super::Mode;
+use super::rule::Rule;
+use descriptor::Descriptor;
+use instruction::Instruction;
+use location::Label;
+use rules::Tagged;
+use rules::Trailer;
+use stepping::Progress;
+ghost use Rattle.rules.specs.Rules.JobFile.{locations};
+ghost use Rattle.descriptor.specs.Descriptors.{instructionIn, Valid};
+ghost use Rattle.stepping.specs.Progress.{standing};
+ghost use Rattle.stepping.specs.Steps.{Made};
+ghost use Rattle.execution.specs.Next.{Opens};
+ghost use Rattle.execution.specs.Running.{Executing, Performed, Advancing, nextStep, Ready, Permitted, FreeUntil, GoesOn};
+
+// Rule 3 for the instruction i; `a` is the value of what it reads first. Each kind goes its own way to the end of the step, so that
+// nothing is decided twice.
+fn carry_out(
+    p: &[u8],
+    t: Trailer,
+    work: &mut [u64],
+    trace: &mut [u64],
+    c: Progress,
+    i: Instruction,
+    a: Tagged,
+) -> Progress
+    requires { ⌜ Executing (now p) t i a (standing (now work) (now trace) c) ⌝ }
+    ensures { λ r. ⌜ Performed (now (p .entry)) t i (standing (now (work .entry)) (now (trace .entry)) c) (standing (now (work .exit)) (now (trace .exit)) r) ⌝ }
+{
+    let control = c.control;
+    let next = control.place + 1;
+    let cells = t.cells;
+    match i {
+        Instruction::Skip => stepping::skip(c, i),
+        Instruction::Assign(r, _) => stepping::assign(&mut work[..], c, i, r, a),
+        Instruction::Load(r, _) => stepping::load(&mut work[..], &mut trace[..], c, i, cells, r, a),
+        Instruction::Store(r, _) => {
+            stepping::store(&mut work[..], &mut trace[..], c, i, cells, r, a)
+        }
+        Instruction::Jump(_) => {
+            let place = effect::jump_to(a.value, t.count);
+            stepping::go_to(&mut trace[..], c, i, place, a)
+        }
+        Instruction::BranchZero(_, l) => {
+            let place = effect::branch_to(a, l, next);
+            stepping::go_to(&mut trace[..], c, i, place, a)
+        }
+        Instruction::AssignIf(r, _, e) => {
+            let v = effect::chosen(p, &work[..], r, a, e);
+            stepping::assign(&mut work[..], c, i, r, v)
+        }
+        Instruction::Barrier => stepping::skip(c, i),
+    }
+}
+
+// The branch that rule 2 opens, or nothing: the instruction is rule 3's.
+pub enum Opening {
+    Branch(u8, Label),
+    Nothing,
+}
+
+// What the instruction of a descriptor opens in one of the two runs: a branch, in the mispredicting one.
+fn opening_of(p: &[u8], mode: Mode, d: Descriptor) -> Opening
+    requires { ⌜ Valid (now p) d ⌝ }
+    ensures { λ x. ⌜ Opens mode (instructionIn (now (p .entry)) d) x ⌝ }
+{
+    if d.shape != descriptor::BRANCH {
+        return Opening::Nothing;
+    }
+    match mode {
+        Mode::Plain => Opening::Nothing,
+        Mode::Mispredicting => {
+            let l = Label::new(token::number(p, d.at + 2, 2) as usize);
+            Opening::Branch(d.first, l)
+        }
+    }
+}
+
+// The instruction at the place, in one of the two runs: rule 2 for a branch that it opens, else rule 3. What it reads first is evaluated
+// before its kind is looked at, so that one place evaluates for all kinds.
+fn advance(
+    p: &[u8],
+    t: Trailer,
+    mode: Mode,
+    work: &mut [u64],
+    trace: &mut [u64],
+    c: Progress,
+) -> Progress
+    requires { ⌜ Advancing (now p) t mode (standing (now work) (now trace) c) ⌝ }
+    ensures { λ r. ⌜ Made (locations t) (nextStep (now (p .entry)) t mode (standing (now (work .entry)) (now (trace .entry)) c)) (standing (now (work .entry)) (now (trace .entry)) c) (standing (now (work .exit)) (now (trace .exit)) r) ⌝ }
+{
+    let control = c.control;
+    let label = Label::new(control.place);
+    let d = program::fetch(&work[..], work::LABELS, label);
+    let a = effect::source_value(p, &work[..], d);
+    match opening_of(p, mode, d) {
+        Opening::Branch(r, l) => {
+            stepping::open_branch(&mut work[..], &mut trace[..], c, r, l, a, t.window)
+        }
+        Opening::Nothing => {
+            let i = descriptor::instruction_of(p, d);
+            carry_out(p, t, &mut work[..], &mut trace[..], c, i, a)
+        }
+    }
+}
+
+// Steps up to a step count, or to the end of the run: neither the budget nor the trace area runs out before.
+pub fn make_steps(
+    p: &[u8],
+    t: Trailer,
+    mode: Mode,
+    work: &mut [u64],
+    trace: &mut [u64],
+    from: Progress,
+    until: usize,
+) -> Progress
+    requires { ⌜ Ready (now p) t mode (standing (now work) (now trace) from) × Permitted (now p) t mode (standing (now work) (now trace) from) × FreeUntil (t .budget) until (standing (now work) (now trace) from) ⌝ }
+    ensures { λ r. ⌜ GoesOn (now (p .entry)) t mode (standing (now (work .entry)) (now (trace .entry)) from) (standing (now (work .exit)) (now (trace .exit)) r) ⌝ }
+{
+    let mut c = from;
+    while c.steps < until {
+        match super::rule::rule_of(c.control, t.count) {
+            Rule::Over => {
+                return c;
+            }
+            Rule::RollBack => {
+                c = stepping::roll_back(&mut work[..], &mut trace[..], c);
+            }
+            Rule::Advance => {
+                c = advance(p, t, mode, &mut work[..], &mut trace[..], c);
+            }
+        }
+    }
+    c
+}
