@@ -34,7 +34,7 @@ pairWords w c d = pairNumber w ∷ countWords c ++ countWords d
 
 -- the words of an answer, which a call writes from the first word on: none where it refuses
 abbrev pub runAnswerWords : RunAnswer → List ℕ
-runAnswerWords r = elim (r .outcome) [ runs.Refused n ↦ [] | runs.Ran c v ↦ runWords c (r .depends) (r .plain) v ]
+runAnswerWords r = elim (r .outcome) [ runs.Refused n ↦ [] | runs.Ran c v ↦ runWords c (r .full) (r .plain) v ]
 
 abbrev pub plainAnswerWords : PlainAnswer → List ℕ
 plainAnswerWords r = elim (r .outcome) [ plains.Refused n ↦ [] | plains.Ran c ↦ plainWords c (r .plain) ]

@@ -28,7 +28,7 @@ fn run_refused(n: Refusal) -> RunAnswer
 {
     RunAnswer {
         outcome: RunOutcome::Refused(n),
-        depends: LocationSet::empty(),
+        full: LocationSet::empty(),
         plain: LocationSet::empty(),
     }
 }
@@ -50,12 +50,12 @@ fn report(public: LocationSet, r: Ran) -> RunAnswer
     let counts = job_run::counts_of(r);
     let stop = counts.stop;
     let c = r.progress;
-    let depends = c.full;
+    let full = c.full;
     let plain = c.plain;
-    let verdict = judgement::verdict_of(public, stop, depends, plain);
+    let verdict = judgement::verdict_of(public, stop, full, plain);
     RunAnswer {
         outcome: RunOutcome::Ran(counts, verdict),
-        depends,
+        full,
         plain,
     }
 }

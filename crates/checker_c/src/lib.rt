@@ -21,12 +21,12 @@ pub extern "C" fn checker_run(
 {
     let r = checker::run(job, &mut trace[..], &mut end[..], &mut work[..]);
     let outcome = r.outcome;
-    let depends = r.depends;
+    let full = r.full;
     let plain = r.plain;
     match outcome {
         RunOutcome::Refused(n) => answer_words::refusal_number(n),
         RunOutcome::Ran(c, v) => {
-            answer_words::write_run(c, depends, plain, v, answer);
+            answer_words::write_run(c, full, plain, v, answer);
             0
         }
     }

@@ -76,11 +76,11 @@ counts r = record { stop = r .stop; observations = length (r .log .trace); steps
 
 -- "A run returns its stop, observation count, steps, rollbacks, D, plain set and verdict."
 unfoldable pub runReport : Job → Result → RunAnswer
-runReport job r = record { outcome = runs.Ran (counts r) (verdict job r); depends = r .log .full; plain = r .log .plain }
+runReport job r = record { outcome = runs.Ran (counts r) (verdict job r); full = r .log .full; plain = r .log .plain }
 
 -- "number only"
 unfoldable pub runRefused : Refusal → RunAnswer
-runRefused n = record { outcome = runs.Refused n; depends = empty; plain = empty }
+runRefused n = record { outcome = runs.Refused n; full = empty; plain = empty }
 
 unfoldable pub runParsed : Parsed → Areas → Called RunAnswer Areas
 runParsed (rejected n) a = record { answer = runRefused n; areas = a }

@@ -109,7 +109,7 @@ pub record SameCall (r : RunAnswer) (after : Areas) (g : List ℕ) (a′ : Areas
 pub record Demand3 (f : List ℕ) (a : Areas) (r : RunAnswer) (after : Areas) : Type 0 where
   pub reported : {n : Counts} {v : Verdict} → r .outcome ≡ runs.Ran n v
       → (g : List ℕ) (a′ : Areas) → SameButState f g → SameLengths a a′
-      → AlikeOn (r .depends) (stateOf (trailer f) f) (stateOf (trailer f) g)
+      → AlikeOn (r .full) (stateOf (trailer f) f) (stateOf (trailer f) g)
       → SameCall r after g a′
   pub clean : {n : Counts} → r .outcome ≡ runs.Ran n Clean
       → (g : List ℕ) (a′ : Areas) → SameButState f g → SameLengths a a′
