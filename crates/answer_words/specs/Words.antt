@@ -2,19 +2,18 @@
 -- Assumes nothing.
 use mathlib.Core.List.{List, [], _∷_, _++_}
 use Prim.Native.Nat.{ℕ}
-use lib.Seq.{sets}
 use Rattle.location.specs.declared.LocationSet.{LocationSet}
 use Rattle.rules.specs.declared.Verdict.{Verdict}
 use Rattle.rules.specs.declared.Counts.{Counts}
 use Rattle.rules.specs.declared.PlainCounts.{PlainCounts}
-use Rattle.rules.specs.declared.RunOutcome.{RunOutcome}
 use Rattle.rules.specs.declared.RunOutcome.the-variants as runs
-use Rattle.rules.specs.declared.PlainOutcome.{PlainOutcome}
+use Rattle.rules.specs.declared.RunAnswer.{RunAnswer}
 use Rattle.rules.specs.declared.PlainOutcome.the-variants as plains
+use Rattle.rules.specs.declared.PlainAnswer.{PlainAnswer}
 use Rattle.rules.specs.declared.PairWord.{PairWord}
 use Rattle.rules.specs.declared.PairAnswer.{PairAnswer}
 use Rattle.rules.specs.declared.PairAnswer.the-variants as pairs
-use Rattle.rules.specs.Rules.Answers.{stopNumber, verdictNumber, pairNumber, refusalNumber}
+use Rattle.rules.specs.Rules.Answers.{stopNumber, verdictNumber, pairNumber}
 
 -- stop, observations, steps and rollbacks
 abbrev pub countWords : Counts → List ℕ
@@ -33,28 +32,13 @@ plainWords c plain = (stopNumber (c .stop) ∷ c .observations ∷ c .steps ∷ 
 abbrev pub pairWords : PairWord → Counts → Counts → List ℕ
 pairWords w c d = pairNumber w ∷ countWords c ++ countWords d
 
--- 0, or the number of the refusal
-abbrev pub runNumber : RunOutcome → ℕ
-runNumber (runs.Refused n) = refusalNumber n
-runNumber (runs.Ran c v) = 0
+-- the words of an answer, which a call writes from the first word on: none where it refuses
+abbrev pub runAnswerWords : RunAnswer → List ℕ
+runAnswerWords r = elim (r .outcome) [ runs.Refused n ↦ [] | runs.Ran c v ↦ runWords c (r .full) (r .plain) v ]
 
-abbrev pub plainNumber : PlainOutcome → ℕ
-plainNumber (plains.Refused n) = refusalNumber n
-plainNumber (plains.Ran c) = 0
+abbrev pub plainAnswerWords : PlainAnswer → List ℕ
+plainAnswerWords r = elim (r .outcome) [ plains.Refused n ↦ [] | plains.Ran c ↦ plainWords c (r .plain) ]
 
-abbrev pub pairAnswerNumber : PairAnswer → ℕ
-pairAnswerNumber (pairs.Refused n) = refusalNumber n
-pairAnswerNumber (pairs.Compared w c d) = 0
-
--- the words of the answer after a call, all of them from the first on: untouched on refusal
-abbrev pub runAnswerWords : List ℕ → LocationSet → LocationSet → RunOutcome → List ℕ
-runAnswerWords before full plain (runs.Refused n) = before
-runAnswerWords before full plain (runs.Ran c v) = sets before 0 (runWords c full plain v)
-
-abbrev pub plainAnswerWords : List ℕ → LocationSet → PlainOutcome → List ℕ
-plainAnswerWords before plain (plains.Refused n) = before
-plainAnswerWords before plain (plains.Ran c) = sets before 0 (plainWords c plain)
-
-abbrev pub pairAnswerWords : List ℕ → PairAnswer → List ℕ
-pairAnswerWords before (pairs.Refused n) = before
-pairAnswerWords before (pairs.Compared w c d) = sets before 0 (pairWords w c d)
+abbrev pub pairAnswerWords : PairAnswer → List ℕ
+pairAnswerWords (pairs.Refused n) = []
+pairAnswerWords (pairs.Compared w c d) = pairWords w c d

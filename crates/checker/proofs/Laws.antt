@@ -15,17 +15,12 @@ use Rattle.rules.specs.declared.Refusal.{Refusal}
 use Rattle.rules.specs.declared.Refusal.the-variants as refusals
 use Rattle.rules.specs.declared.RunAnswer.{RunAnswer}
 use Rattle.rules.specs.declared.PlainAnswer.{PlainAnswer}
-use Rattle.rules.specs.declared.PairAnswer.{PairAnswer}
 use Rattle.rules.specs.declared.PairAnswer.the-variants as pairs
 use Rattle.rules.specs.Rules.Runs.{mispredictingRun, plainRun}
 use Rattle.rules.specs.Rules.JobFile.{rejected, parse, locations, publicOf}
 use Rattle.rules.specs.Rules.Calls.{Areas, Called, lent, workingWords, room, longEnough, areasAfter, runReport, runRefused, runParsed, runCall, plainReport, plainRefused, plainParsed, plainCall}
 use Rattle.rules.specs.Rules.Pairs.{PairAreas, pairRefused, pairParsed, pairCall}
-use Rattle.rules.specs.Rules.Demands.{Exact, RunUnaltered, PlainUnaltered, Demand2, Demand3, PairExact, PairUnaltered, PairMeaning}
-use Rattle.rules.specs.Theorems.CallLaws.{refused-unaltered, plain-refused-unaltered}
-use Rattle.rules.specs.Theorems.FilePlain.{demand2-call}
-use Rattle.rules.specs.Theorems.FileSecrecy.{demand3-call}
-use Rattle.rules.specs.Theorems.PairLaws.{pair-meaning, pair-unaltered}
+use Rattle.rules.specs.Rules.Demands.{Exact}
 use Rattle.job.specs.Answers.{Accepts}
 use Rattle.stepping.specs.declared.Progress.{Progress}
 use Rattle.execution.specs.declared.Mode.the-variants as modes
@@ -34,7 +29,7 @@ use Rattle.job_run.specs.JobRuns.{AreasFit, RunIn}
 use Rattle.checker.specs.Reports.{reportOf, plainReportOf, report-same, plain-report-same, run-short, plain-short, run-rejected, plain-rejected}
 
 -- ---- each way that a call ends
-exact-of : {A : Type 0} {called : Called A} {r : A} {after : Areas} (answer : A) (areas : Areas)
+exact-of : {A B : Type 0} {called : Called A B} {r : A} {after : B} (answer : A) (areas : B)
     → called ≡ record { answer = answer; areas = areas } → r ≡ answer → after ≡ areas → Exact called r after
 exact-of answer areas e p q = rw e (record { answer = p; areas = q })
 
@@ -90,33 +85,6 @@ module _ (bs : List ℕ) (n : Refusal) (p : parse bs ≡ rejected n) (a : Areas)
   plain-exact-rejected e = exact-of (plainRefused n) a (plain-rejected bs a n p) e refl
 
 pub pair-rejected : (bs second : List ℕ) (n : Refusal) → parse bs ≡ rejected n → (a : PairAreas)
-    → PairExact (pairCall bs second a) (pairs.Refused n) a
+    → Exact (pairCall bs second a) (pairs.Refused n) a
 unfolding pairCall pairParsed pairRefused
 pair-rejected bs second n p a = rw (p, pairParsed) (record { answer = refl; areas = refl })
-
--- a refusal leaves every area as it was
-pub run-unaltered : (bs : List ℕ) (a : Areas) {r : RunAnswer} {a′ : Areas} → Exact (runCall bs a) r a′ → RunUnaltered r a a′
-run-unaltered bs a x = record {
-  refused = λ e. x .areas ∙ refused-unaltered bs a (ap (λ (y : RunAnswer). y .outcome) (sym (x .answer)) ∙ e);
-}
-
-pub plain-unaltered : (bs : List ℕ) (a : Areas) {r : PlainAnswer} {a′ : Areas} → Exact (plainCall bs a) r a′ → PlainUnaltered r a a′
-plain-unaltered bs a x = record {
-  refused = λ e. x .areas ∙ plain-refused-unaltered bs a (ap (λ (y : PlainAnswer). y .outcome) (sym (x .answer)) ∙ e);
-}
-
--- demands 2 and 3 of a call that is exact
-pub run-plainly : (bs : List ℕ) (a : Areas) {r : RunAnswer} {a′ : Areas} → Exact (runCall bs a) r a′ → Demand2 bs a r a′
-run-plainly bs a x = rw (x .answer, x .areas) (demand2-call bs a)
-
-pub run-secret : (bs : List ℕ) (a : Areas) {r : RunAnswer} {a′ : Areas} → Exact (runCall bs a) r a′ → Demand3 bs a r a′
-run-secret bs a x = rw (x .answer, x .areas) (demand3-call bs a)
-
--- what the words on a pair mean, of a call that is exact
-pub pair-means : (bs second : List ℕ) (a : PairAreas) {r : PairAnswer} {a′ : PairAreas} → PairExact (pairCall bs second a) r a′
-    → PairMeaning bs second a r a′
-pair-means bs second a x = rw (x .answer, x .areas) (pair-meaning bs second a)
-
-pub pair-unaltered-by : (bs second : List ℕ) (a : PairAreas) {r : PairAnswer} {a′ : PairAreas} → PairExact (pairCall bs second a) r a′
-    → PairUnaltered r a a′
-pair-unaltered-by bs second a x = rw (x .answer, x .areas) (pair-unaltered bs second a)

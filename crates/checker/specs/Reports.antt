@@ -23,7 +23,7 @@ use Rattle.job_run.specs.Reports.{steps-same, rollbacks-same, full-same, plain-
 
 -- ---- what is returned
 abbrev pub reportOf : LocationSet → Stop → Progress → RunAnswer
-reportOf public x c = record { outcome = runs.Ran (countsOf x c) (judge public x (c .full) (c .plain)); depends = c .full; plain = c .plain }
+reportOf public x c = record { outcome = runs.Ran (countsOf x c) (judge public x (c .full) (c .plain)); full = c .full; plain = c .plain }
 
 abbrev pub plainReportOf : Stop → Progress → PlainAnswer
 plainReportOf x c = record {
@@ -37,7 +37,7 @@ module _ {t : Trailer} {w₀ a₀ w a : List ℕ} {x : Stop} {c : Progress} {R :
   report-same job = λ i. record {
     outcome = runs.Ran (record { stop = r .stop i; observations = r .count i; steps = steps-same r i; rollbacks = rollbacks-same r i })
         (judge (job .public) (r .stop i) (full-same r i) (plain-same r i));
-    depends = full-same r i;
+    full = full-same r i;
     plain = plain-same r i;
   }
 

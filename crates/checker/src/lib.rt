@@ -1,14 +1,8 @@
 // The calls of the checker, on any bytes as a job and lent areas of any length and contents. Nothing has to be tested beforehand.
 //
-// What each call promises is stated in its contract, for every input:
-//   exact      demands 1 and 2: the answer and every word of every lent area are those of the rules, for refused jobs too;
-//   unaltered  demand 1: a refusal leaves every area as it was;
-//   plainly    (`run`) demand 2: where a run finishes, its trace with each outermost wrong path struck out is the plain run's
-//              trace, and the end states are equal;
-//   secret     (`run`) demand 3: a second state that is alike on the reported set (with a clean verdict: on the public list)
-//              gives the same trace, counts, stop, sets and verdict;
-//   meaning    (`compare`) what each word says of the two traces and of the two plain runs.
-// The definitions are in crates/rules/specs/Rules: Calls, Pairs and Demands.
+// What each call promises, for every input, is one record of crates/rules/specs/Rules/Promises.antt, which says each field:
+//   exact (demands 1 and 2), unaltered (demand 1), and for `run` plainly (demand 2) and secret (demand 3); for `compare` meaning,
+//   what the words on a pair say.
 use execution::Mode;
 use execution::Ran;
 use job::JobRead;
@@ -23,9 +17,9 @@ use rules::RunOutcome;
 use rules::Trailer;
 ghost use mathlib.Core.Path.{_≡_};
 ghost use Prim.Native.Nat.{_≤_};
-ghost use Rattle.rules.specs.Rules.Calls.{lent, runRefused, plainRefused, runCall, plainCall};
-ghost use Rattle.rules.specs.Rules.Pairs.{pairLent, pairCall};
-ghost use Rattle.rules.specs.Rules.Demands.{Exact, RunUnaltered, PlainUnaltered, Demand2, Demand3, PairExact, PairUnaltered, PairMeaning};
+ghost use Rattle.rules.specs.Rules.Calls.{runRefused, plainRefused, runCall, plainCall};
+ghost use Rattle.rules.specs.Rules.Demands.{Exact};
+ghost use Rattle.rules.specs.Rules.Promises.{RunPromise, PlainPromise, PairPromise, areasAtEntry, areasAtExit, pairAtEntry, pairAtExit};
 ghost use Rattle.job.specs.Answers.{Accepts};
 ghost use Rattle.checker.specs.Reports.{reportOf, plainReportOf};
 
@@ -34,7 +28,7 @@ fn run_refused(n: Refusal) -> RunAnswer
 {
     RunAnswer {
         outcome: RunOutcome::Refused(n),
-        depends: LocationSet::empty(),
+        full: LocationSet::empty(),
         plain: LocationSet::empty(),
     }
 }
@@ -56,12 +50,12 @@ fn report(public: LocationSet, r: Ran) -> RunAnswer
     let counts = job_run::counts_of(r);
     let stop = counts.stop;
     let c = r.progress;
-    let depends = c.full;
+    let full = c.full;
     let plain = c.plain;
-    let verdict = judgement::verdict_of(public, stop, depends, plain);
+    let verdict = judgement::verdict_of(public, stop, full, plain);
     RunAnswer {
         outcome: RunOutcome::Ran(counts, verdict),
-        depends,
+        full,
         plain,
     }
 }
@@ -92,7 +86,7 @@ fn run_accepted(
     work: &mut [u64],
 ) -> RunAnswer
     requires { ⌜ Accepts (now job) t ⌝ }
-    ensures { λ r. ⌜ Exact (runCall (now (job .entry)) (lent (now (trace .entry)) (now (end .entry)) (now (work .entry)))) r (lent (now (trace .exit)) (now (end .exit)) (now (work .exit))) ⌝ }
+    ensures { λ r. ⌜ Exact (runCall (now (job .entry)) (areasAtEntry trace end work)) r (areasAtExit trace end work) ⌝ }
 {
     let n = t.locations();
     if !job_run::areas_fit(n, &end[..], &work[..]) {
@@ -105,10 +99,7 @@ fn run_accepted(
 
 // A run: as if every branch were guessed wrongly.
 pub fn run(job: &[u8], trace: &mut [u64], end: &mut [u64], work: &mut [u64]) -> RunAnswer
-    ensures exact { λ r. ⌜ Exact (runCall (now (job .entry)) (lent (now (trace .entry)) (now (end .entry)) (now (work .entry)))) r (lent (now (trace .exit)) (now (end .exit)) (now (work .exit))) ⌝ }
-    ensures unaltered { λ r. ⌜ RunUnaltered r (lent (now (trace .entry)) (now (end .entry)) (now (work .entry))) (lent (now (trace .exit)) (now (end .exit)) (now (work .exit))) ⌝ }
-    ensures plainly { λ r. ⌜ Demand2 (now (job .entry)) (lent (now (trace .entry)) (now (end .entry)) (now (work .entry))) r (lent (now (trace .exit)) (now (end .exit)) (now (work .exit))) ⌝ }
-    ensures secret { λ r. ⌜ Demand3 (now (job .entry)) (lent (now (trace .entry)) (now (end .entry)) (now (work .entry))) r (lent (now (trace .exit)) (now (end .exit)) (now (work .exit))) ⌝ }
+    ensures { λ r. ⌜ RunPromise (now (job .entry)) (areasAtEntry trace end work) r (areasAtExit trace end work) ⌝ }
 {
     match job::read_job(job) {
         JobRead::Accepted(t) => run_accepted(job, t, &mut trace[..], &mut end[..], &mut work[..]),
@@ -124,7 +115,7 @@ fn plain_accepted(
     work: &mut [u64],
 ) -> PlainAnswer
     requires { ⌜ Accepts (now job) t ⌝ }
-    ensures { λ r. ⌜ Exact (plainCall (now (job .entry)) (lent (now (trace .entry)) (now (end .entry)) (now (work .entry)))) r (lent (now (trace .exit)) (now (end .exit)) (now (work .exit))) ⌝ }
+    ensures { λ r. ⌜ Exact (plainCall (now (job .entry)) (areasAtEntry trace end work)) r (areasAtExit trace end work) ⌝ }
 {
     let n = t.locations();
     if !job_run::areas_fit(n, &end[..], &work[..]) {
@@ -137,8 +128,7 @@ fn plain_accepted(
 
 // A plain run: every branch goes where its register says.
 pub fn plain_run(job: &[u8], trace: &mut [u64], end: &mut [u64], work: &mut [u64]) -> PlainAnswer
-    ensures exact { λ r. ⌜ Exact (plainCall (now (job .entry)) (lent (now (trace .entry)) (now (end .entry)) (now (work .entry)))) r (lent (now (trace .exit)) (now (end .exit)) (now (work .exit))) ⌝ }
-    ensures unaltered { λ r. ⌜ PlainUnaltered r (lent (now (trace .entry)) (now (end .entry)) (now (work .entry))) (lent (now (trace .exit)) (now (end .exit)) (now (work .exit))) ⌝ }
+    ensures { λ r. ⌜ PlainPromise (now (job .entry)) (areasAtEntry trace end work) r (areasAtExit trace end work) ⌝ }
 {
     match job::read_job(job) {
         JobRead::Accepted(t) => plain_accepted(job, t, &mut trace[..], &mut end[..], &mut work[..]),
@@ -154,9 +144,8 @@ pub fn compare(
     second_trace: &mut [u64],
     work: &mut [u64],
 ) -> PairAnswer
-    ensures exact { λ r. ⌜ PairExact (pairCall (now (job .entry)) (now (second .entry)) (pairLent (now («first_trace» .entry)) (now («second_trace» .entry)) (now (work .entry)))) r (pairLent (now («first_trace» .exit)) (now («second_trace» .exit)) (now (work .exit))) ⌝ }
-    ensures unaltered { λ r. ⌜ PairUnaltered r (pairLent (now («first_trace» .entry)) (now («second_trace» .entry)) (now (work .entry))) (pairLent (now («first_trace» .exit)) (now («second_trace» .exit)) (now (work .exit))) ⌝ }
-    ensures meaning { λ r. ⌜ PairMeaning (now (job .entry)) (now (second .entry)) (pairLent (now («first_trace» .entry)) (now («second_trace» .entry)) (now (work .entry))) r (pairLent (now («first_trace» .exit)) (now («second_trace» .exit)) (now (work .exit))) ⌝ }
+    ensures { λ r. ⌜ PairPromise (now (job .entry)) (now (second .entry)) (pairAtEntry «first_trace» «second_trace» work) r
+        (pairAtExit «first_trace» «second_trace» work) ⌝ }
 {
     match job::read_job(job) {
         JobRead::Accepted(t) => pair::compare_accepted(

@@ -1,30 +1,32 @@
--- What the C calls return: the number, the answer's words and the areas, by the rules' call.
+-- What a C call returns, of any call by the number and the words of its answers: a later call adds one line here.
 -- Assumes nothing.
 use mathlib.Core.Path.{_≡_}
 use mathlib.Core.List.{List}
 use Prim.Native.Nat.{ℕ, _<_}
+use lib.Seq.{sets}
+use denote.Ref.{now}
 use Rattle.rules.specs.declared.RunAnswer.{RunAnswer}
 use Rattle.rules.specs.declared.PlainAnswer.{PlainAnswer}
-use Rattle.rules.specs.Rules.Calls.{Areas, Called}
-use Rattle.rules.specs.Rules.Pairs.{PairAreas, PairCalled}
-use Rattle.answer_words.specs.Words.{runNumber, plainNumber, pairAnswerNumber, runAnswerWords, plainAnswerWords, pairAnswerWords}
+use Rattle.rules.specs.declared.PairAnswer.{PairAnswer}
+use Rattle.rules.specs.Rules.Answers.{runRefusal, plainRefusal, pairRefusal}
+use Rattle.rules.specs.Rules.Promises.{LentArea}
+use Rattle.answer_words.specs.Words.{runAnswerWords, plainAnswerWords, pairAnswerWords}
 
-pub record RunReturns (called : Called RunAnswer) (before : List ℕ) (r : ℕ) (after : List ℕ) (areas : Areas) : Type 0 where
-  pub number : r ≡ runNumber (called .answer .outcome)
-  pub words : after ≡ runAnswerWords before (called .answer .depends) (called .answer .plain) (called .answer .outcome)
-  pub left : areas ≡ called .areas
+-- The number r is the refusal number of an answer for which the promise holds, and that answer's words stand from the first word on;
+-- a refusal leaves every word as it was. `before` and `after` are the words of the answer's area.
+pub record Returns {A : Type 0} (refusal : A → ℕ) (wordsOf : A → List ℕ) (before : List ℕ) (r : ℕ) (after : List ℕ) (Promise : A → Type 0) : Type 0 where
+  pub answer : A
+  pub promise : Promise answer
+  pub number : r ≡ refusal answer
+  pub words : after ≡ sets before 0 (wordsOf answer)
+  pub unaltered : 0 < r → after ≡ before
 
-pub record PlainReturns (called : Called PlainAnswer) (before : List ℕ) (r : ℕ) (after : List ℕ) (areas : Areas) : Type 0 where
-  pub number : r ≡ plainNumber (called .answer .outcome)
-  pub words : after ≡ plainAnswerWords before (called .answer .plain) (called .answer .outcome)
-  pub left : areas ≡ called .areas
+-- ---- the calls, by the area that is lent for the answer
+abbrev pub RunReturns : LentArea → ℕ → (RunAnswer → Type 0) → Type 0
+RunReturns answer r Promise = Returns runRefusal runAnswerWords (now (answer .entry)) r (now (answer .exit)) Promise
 
-pub record PairReturns (called : PairCalled) (before : List ℕ) (r : ℕ) (after : List ℕ) (areas : PairAreas) : Type 0 where
-  pub number : r ≡ pairAnswerNumber (called .answer)
-  pub words : after ≡ pairAnswerWords before (called .answer)
-  pub left : areas ≡ called .areas
+abbrev pub PlainReturns : LentArea → ℕ → (PlainAnswer → Type 0) → Type 0
+PlainReturns answer r Promise = Returns plainRefusal plainAnswerWords (now (answer .entry)) r (now (answer .exit)) Promise
 
--- "A refusal leaves every area unaltered", and the answer too.
-pub record Unaltered {A : Type 0} (r : ℕ) (before after : List ℕ) (lent left : A) : Type 0 where
-  pub answer : 0 < r → after ≡ before
-  pub areas : 0 < r → left ≡ lent
+abbrev pub PairReturns : LentArea → ℕ → (PairAnswer → Type 0) → Type 0
+PairReturns answer r Promise = Returns pairRefusal pairAnswerWords (now (answer .entry)) r (now (answer .exit)) Promise

@@ -8,7 +8,8 @@ ghost use mathlib.Core.Bool.{_&&_};
 ghost use Prim.Native.Nat.{_≤_};
 ghost use lib.Dec.{leb};
 ghost use lib.ListN.{length};
-ghost use Rattle.rules.specs.Rules.Calls.{workingWords, lent};
+ghost use Rattle.rules.specs.Rules.Calls.{workingWords};
+ghost use Rattle.rules.specs.Rules.Promises.{areasAtEntry, areasAtExit};
 ghost use Rattle.job_run.specs.JobRuns.{countsOf, Runnable, RunOf, AreasFit, RunIn};
 
 // The run with the state that stands at an offset of some bytes.
@@ -52,7 +53,7 @@ pub fn run_in_areas(
     work: &mut [u64],
 ) -> Ran
     requires { ⌜ AreasFit (now job) t (now end) (now work) ⌝ }
-    ensures { λ r. ⌜ RunIn (now (job .entry)) t mode (lent (now (trace .entry)) (now (end .entry)) (now (work .entry))) (lent (now (trace .exit)) (now (end .exit)) (now (work .exit))) (r .stop) (r .progress) ⌝ }
+    ensures { λ r. ⌜ RunIn (now (job .entry)) t mode (areasAtEntry trace end work) (areasAtExit trace end work) (r .stop) (r .progress) ⌝ }
 {
     let r = run_state(job, t, mode, job, t.state, &mut work[..], &mut trace[..]);
     let n = t.locations();

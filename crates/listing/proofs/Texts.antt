@@ -110,9 +110,9 @@ members-next s (suc k) h r =
 module _ (n : ℕ) (a : RunAnswer) (trace : List ℕ) where
   pub printed-refusal : (cause : Refusal) → a .outcome ≡ runs.Refused cause → printed n a trace ≡ numberLine (text "refused") (refusalNumber cause)
   unfolding printed answerLines
-  printed-refusal cause e = ap (λ (o : RunOutcome). outcomeLines n (observationsIn (observationCount o) trace) (a .depends) (a .plain) o) e
+  printed-refusal cause e = ap (λ (o : RunOutcome). outcomeLines n (observationsIn (observationCount o) trace) (a .full) (a .plain) o) e
 
   pub printed-run : (c : Counts) (v : Verdict) → a .outcome ≡ runs.Ran c v
-      → printed n a trace ≡ traceLines n (observationsIn (c .observations) trace) ++ summary c (a .depends) (a .plain) v
+      → printed n a trace ≡ traceLines n (observationsIn (c .observations) trace) ++ summary c (a .full) (a .plain) v
   unfolding printed answerLines
-  printed-run c v e = ap (λ (o : RunOutcome). outcomeLines n (observationsIn (observationCount o) trace) (a .depends) (a .plain) o) e
+  printed-run c v e = ap (λ (o : RunOutcome). outcomeLines n (observationsIn (observationCount o) trace) (a .full) (a .plain) o) e

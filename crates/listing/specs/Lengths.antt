@@ -147,4 +147,4 @@ outcome-bound n os full plain (runs.Ran c v) =
 
 pub answer-bound : (n : ℕ) (os : List Observation) (a : RunAnswer) → length (answerLines n os a) ≤ 30 * length os + 11372
 unfolding answerLines
-answer-bound n os a = outcome-bound n os (a .depends) (a .plain) (a .outcome)
+answer-bound n os a = outcome-bound n os (a .full) (a .plain) (a .outcome)

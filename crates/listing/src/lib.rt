@@ -236,7 +236,7 @@ pub fn write_answer(n: usize, answer: RunAnswer, trace: &[u64], out: &mut [u8]) 
             put_number_line(out, 0, b"refused", number as u64)
         }
         RunOutcome::Ran(counts, verdict) => {
-            let full = answer.depends;
+            let full = answer.full;
             let plain = answer.plain;
             let next = put_trace(out, 0, n as u64, counts.observations, trace);
             put_summary(out, next, counts, full, plain, verdict)

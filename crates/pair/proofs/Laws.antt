@@ -23,7 +23,7 @@ use Rattle.rules.specs.Rules.Runs.{Job, Result, mispredictingRun}
 use Rattle.rules.specs.Rules.JobFile.{locations, publicOf, wordsAt}
 use Rattle.rules.specs.Rules.Calls.{traceWords, written, workingWords, room, counts}
 use Rattle.rules.specs.Rules.Pairs.{withState, alikeFrom, PairAreas, pairLent, pairAfter, pairRefused, secondFits, pairFits, pairAccepted, pairParsed, pairCall}
-use Rattle.rules.specs.Rules.Demands.{PairExact}
+use Rattle.rules.specs.Rules.Demands.{Exact}
 use Rattle.rules.specs.Theorems.RunLaws.{mispredicting-trace}
 use Rattle.rules.specs.Theorems.CallLaws.{length-traceWords}
 use Rattle.rules.specs.Theorems.PairLaws.{Pairs, pair-runs}
@@ -136,7 +136,7 @@ module _ {bs : List ℕ} {t : Trailer} {second a b w w₁ w₂ a′ b′ : List 
       (counts-same first-ran i) (counts-same second-ran i)
 
   pub exact-compared : {r : PairAnswer} {w₃ : List ℕ} → w₃ ≡ written (replicate workingWords 0) w₂ → r ≡ comparedOf bs t second x c x′ c′ a′ b′
-      → PairExact (pairCall bs second (pairLent a b w)) r (pairLent a′ b′ w₃)
+      → Exact (pairCall bs second (pairLent a b w)) r (pairLent a′ b′ w₃)
   unfolding pairAccepted pairAfter compares
   exact-compared {r} ew er =
       rw (pair-runs compares)
@@ -154,7 +154,7 @@ module _ {bs : List ℕ} {t : Trailer} {second a b w w₁ w₂ a′ b′ : List 
 -- ---- refusals
 module _ {bs : List ℕ} {t : Trailer} (k : Accepts bs t) (second a b w : List ℕ) where
   refused : (n : Refusal) → pairCall bs second (pairLent a b w) ≡ pairRefused n (pairLent a b w)
-      → PairExact (pairCall bs second (pairLent a b w)) (answers.Refused n) (pairLent a b w)
+      → Exact (pairCall bs second (pairLent a b w)) (answers.Refused n) (pairLent a b w)
   unfolding pairRefused
   refused n e = rw e (record { answer = refl; areas = refl })
 
@@ -163,7 +163,7 @@ module _ {bs : List ℕ} {t : Trailer} (k : Accepts bs t) (second a b w : List �
   unsized h = ne-eqb (length second) (8 * length (k .job .init)) (λ e. h (rw (accepted-size k) at e))
 
   pub other-size : (length second ≡ 8 * locations t → ⊥)
-      → PairExact (pairCall bs second (pairLent a b w)) (answers.Refused refusals.SecondState) (pairLent a b w)
+      → Exact (pairCall bs second (pairLent a b w)) (answers.Refused refusals.SecondState) (pairLent a b w)
   unfolding pairCall pairParsed
   other-size h = refused refusals.SecondState (rw (k .parsed, unsized h, pairParsed))
 
@@ -173,16 +173,16 @@ module _ {bs : List ℕ} {t : Trailer} (k : Accepts bs t) (second a b w : List �
     sized = eq-eqb (length second) (8 * length (k .job .init)) (let z = accepted-size k in omega arith)
 
     unfit : pairFits (pairLent a b w) ≡ false
-        → PairExact (pairCall bs second (pairLent a b w)) (answers.Refused refusals.Areas) (pairLent a b w)
+        → Exact (pairCall bs second (pairLent a b w)) (answers.Refused refusals.Areas) (pairLent a b w)
     unfolding pairCall pairParsed
     unfit h = refused refusals.Areas (rw (k .parsed, sized, h, pairParsed))
 
     pub short-work : length w < workingWords
-        → PairExact (pairCall bs second (pairLent a b w)) (answers.Refused refusals.Areas) (pairLent a b w)
+        → Exact (pairCall bs second (pairLent a b w)) (answers.Refused refusals.Areas) (pairLent a b w)
     unfolding pairFits
     short-work h = unfit (rw (lt-leb workingWords (length w) h))
 
     pub unequal-traces : workingWords ≤ length w → (length a ≡ length b → ⊥)
-        → PairExact (pairCall bs second (pairLent a b w)) (answers.Refused refusals.Areas) (pairLent a b w)
+        → Exact (pairCall bs second (pairLent a b w)) (answers.Refused refusals.Areas) (pairLent a b w)
     unfolding pairFits
     unequal-traces h u = unfit (rw (le-leb workingWords (length w) h, ne-eqb (length a) (length b) u))

@@ -5,8 +5,9 @@ use rules::PairAnswer;
 use rules::Refusal;
 use rules::Trailer;
 ghost use mathlib.Core.Path.{_≡_};
-ghost use Rattle.rules.specs.Rules.Pairs.{pairLent, pairCall};
-ghost use Rattle.rules.specs.Rules.Demands.{PairExact};
+ghost use Rattle.rules.specs.Rules.Pairs.{pairCall};
+ghost use Rattle.rules.specs.Rules.Demands.{Exact};
+ghost use Rattle.rules.specs.Rules.Promises.{pairAtEntry, pairAtExit};
 ghost use Rattle.job.specs.Answers.{Accepts};
 ghost use Rattle.pair.specs.Runs.{BothRan, comparedOf, Comparable};
 
@@ -52,7 +53,8 @@ fn compare_runs(
     work: &mut [u64],
 ) -> PairAnswer
     requires { ⌜ Comparable (now job) t (now second) (now «first_trace») (now «second_trace») (now work) ⌝ }
-    ensures { λ r. ⌜ PairExact (pairCall (now (job .entry)) (now (second .entry)) (pairLent (now («first_trace» .entry)) (now («second_trace» .entry)) (now (work .entry)))) r (pairLent (now («first_trace» .exit)) (now («second_trace» .exit)) (now (work .exit))) ⌝ }
+    ensures { λ r. ⌜ Exact (pairCall (now (job .entry)) (now (second .entry)) (pairAtEntry «first_trace» «second_trace» work)) r
+        (pairAtExit «first_trace» «second_trace» work) ⌝ }
 {
     let m = Mode::Mispredicting;
     let r = job_run::run_state(job, t, m, job, t.state, &mut work[..], &mut first_trace[..]);
@@ -71,7 +73,8 @@ pub fn compare_accepted(
     work: &mut [u64],
 ) -> PairAnswer
     requires { ⌜ Accepts (now job) t ⌝ }
-    ensures { λ r. ⌜ PairExact (pairCall (now (job .entry)) (now (second .entry)) (pairLent (now («first_trace» .entry)) (now («second_trace» .entry)) (now (work .entry)))) r (pairLent (now («first_trace» .exit)) (now («second_trace» .exit)) (now (work .exit))) ⌝ }
+    ensures { λ r. ⌜ Exact (pairCall (now (job .entry)) (now (second .entry)) (pairAtEntry «first_trace» «second_trace» work)) r
+        (pairAtExit «first_trace» «second_trace» work) ⌝ }
 {
     let n = t.locations();
     if second.len() != 8 * n {

@@ -50,11 +50,11 @@ unfolding longEnough
 enough job a h k = rw (le-leb workingWords (length (a .work)) h, le-leb (length (job .init)) (length (a .end)) k)
 
 module _ (bs t e w : List ℕ) {a : RunAnswer} {t′ e′ w′ : List ℕ} (x : Exact (runCall bs (lent t e w)) a (lent t′ e′ w′)) where
-  answer-of : {called : Called RunAnswer} → runCall bs (lent t e w) ≡ called → a ≡ called .answer
-  answer-of q = x .answer ∙ ap (λ (z : Called RunAnswer). z .answer) q
+  answer-of : {called : Called RunAnswer Areas} → runCall bs (lent t e w) ≡ called → a ≡ called .answer
+  answer-of q = x .answer ∙ ap (λ (z : Called RunAnswer Areas). z .answer) q
 
-  trace-of : {called : Called RunAnswer} → runCall bs (lent t e w) ≡ called → t′ ≡ called .areas .trace
-  trace-of q = ap (λ (z : Areas). z .trace) (x .areas) ∙ ap (λ (z : Called RunAnswer). z .areas .trace) q
+  trace-of : {called : Called RunAnswer Areas} → runCall bs (lent t e w) ≡ called → t′ ≡ called .areas .trace
+  trace-of q = ap (λ (z : Areas). z .trace) (x .areas) ∙ ap (λ (z : Called RunAnswer Areas). z .areas .trace) q
 
   module _ (he : 256 ≤ length e) (hw : 4096 ≤ length w) {n : ℕ} (k : n ≡ instructionCount (parse bs)) where
     shown-refused : (r : Refusal) → parse bs ≡ rejected r → Shown n (room t) (rejected r) a t t′

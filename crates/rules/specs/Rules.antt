@@ -12,4 +12,5 @@ pub mod Calls
 pub mod Pairs
 pub mod Strike
 pub mod Demands
+pub mod Promises
 pub mod Listing

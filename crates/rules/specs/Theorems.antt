@@ -14,4 +14,5 @@ pub mod CallLaws
 pub mod FilePlain
 pub mod FileSecrecy
 pub mod PairLaws
+pub mod Promises
 pub mod SecondJobs

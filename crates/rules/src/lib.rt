@@ -94,10 +94,10 @@ pub enum RunOutcome {
     Ran(Counts, Verdict),
 }
 
-// The answer of a run: the two sets stand beside the outcome, and are empty where the job is refused.
+// The answer of a run: the two sets, D and the plain set, stand beside the outcome, and are empty where the job is refused.
 pub struct RunAnswer {
     pub outcome: RunOutcome,
-    pub depends: LocationSet,
+    pub full: LocationSet,
     pub plain: LocationSet,
 }
 

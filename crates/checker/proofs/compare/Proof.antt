@@ -1,10 +1,10 @@
--- `compare` meets its contract: the answer and the areas are the rules', and the words mean what they say of every such call.
--- Assumes nothing.
+-- `compare` meets its contract: the answer and the areas are the rules', and such a call keeps its promise. Assumes nothing.
 use mathlib.Core.Path.{sym, _∙_}
 use Rattle.rules.specs.Rules.JobFile.{trailer, parse}
 use Rattle.rules.specs.Rules.Pairs.{pairLent}
+use Rattle.rules.specs.Theorems.Promises.{pair-promise}
 use Rattle.job.specs.Answers.{read-accepted, read-refused}
-use Rattle.checker.proofs.Laws.{pair-rejected, pair-unaltered-by, pair-means}
+use Rattle.checker.proofs.Laws.{pair-rejected}
 use borrow.Author.Needs.{needs}
 use Rattle.checker.proofs.compare.Statement.{statement}
 use Rattle.checker.proofs.compare.Tie as tie
@@ -16,7 +16,11 @@ enum-known-t : tie.Need-enum-known-t
 enum-known-t c = search needs
 
 compare-accepted-requires : tie.Need-compare-accepted-requires
-compare-accepted-requires c κs = read-accepted (c .before .before .before .before .before .before .before .before .before .before .before .before .args .job .now) _ (sym (c .before .before .before .before .t .given .1) ∙ c .before .before .before .before .before .before .read-job .ensures)
+compare-accepted-requires c κs =
+    let at-arm = c .before .before .before .before in
+    let at-read = at-arm .before .before in
+    let at-entry = at-read .before .before .before .before .before .before in
+    read-accepted (at-entry .args .job .now) _ (sym (at-arm .t .given .1) ∙ at-read .read-job .ensures)
 
 enum-known-n : tie.Need-enum-known-n
 enum-known-n c = search needs
@@ -32,22 +36,23 @@ same-length-3 c = search needs
 
 returns : tie.Need-returns
 returns c =
-    let a = c .before .before .before .before .before .before .before .before .before .before .before .before .before .before .before .before .before .before .before .args in
-    let x = c .before .before .before .before .before .before .compare-accepted .ensures in
-    let f = a .job .now in
-    let s = a .second .now in
+    let at-call = c .before .before .before .before .before .before in
+    let at-entry = at-call .before .before .before .before .before .before .before .before .before .before .before .before .before in
+    let a = at-entry .args in
     let l = pairLent (a .first-trace .now) (a .second-trace .now) (a .work .now) in
-    (x, (pair-unaltered-by f s l x, pair-means f s l x))
+    pair-promise (a .job .now) (a .second .now) l (at-call .compare-accepted .ensures)
 
 returns-2 : tie.Need-returns-2
 returns-2 c =
-    let a = c .before .before .before .before .before .before .before .before .before .args in
+    let at-arm = c .before in
+    let at-read = at-arm .before .before in
+    let at-entry = at-read .before .before .before .before .before .before in
+    let a = at-entry .args in
     let f = a .job .now in
     let s = a .second .now in
     let l = pairLent (a .first-trace .now) (a .second-trace .now) (a .work .now) in
-    let p = read-refused (trailer f) _ (parse f) (sym (c .before .n .given .1) ∙ c .before .before .before .read-job .ensures) in
-    let x = pair-rejected f s _ p l in
-    (x, (pair-unaltered-by f s l x, pair-means f s l x))
+    let p = read-refused (trailer f) _ (parse f) (sym (at-arm .n .given .1) ∙ at-read .read-job .ensures) in
+    pair-promise f s l (pair-rejected f s _ p l)
 
 pub compare-spec : {M : Type 1} → statement M
 compare-spec =

@@ -1,9 +1,10 @@
--- `plain_run` meets its contract: the answer and the areas are the rules'. Assumes nothing.
+-- `plain_run` meets its contract: the answer and the areas are the rules', and such a call keeps its promise. Assumes nothing.
 use mathlib.Core.Path.{sym, _∙_}
 use Rattle.rules.specs.Rules.Calls.{lent}
 use Rattle.rules.specs.Rules.JobFile.{trailer, parse}
+use Rattle.rules.specs.Theorems.Promises.{plain-promise}
 use Rattle.job.specs.Answers.{read-accepted, read-refused}
-use Rattle.checker.proofs.Laws.{plain-exact-rejected, plain-unaltered}
+use Rattle.checker.proofs.Laws.{plain-exact-rejected}
 use borrow.Author.Needs.{needs}
 use Rattle.checker.proofs.plain_run.Statement.{statement}
 use Rattle.checker.proofs.plain_run.Tie as tie
@@ -15,7 +16,11 @@ enum-known-t : tie.Need-enum-known-t
 enum-known-t c = search needs
 
 plain-accepted-requires : tie.Need-plain-accepted-requires
-plain-accepted-requires c κs = read-accepted (c .before .before .before .before .before .before .before .before .before .before .before .args .job .now) _ (sym (c .before .before .before .before .t .given .1) ∙ c .before .before .before .before .before .before .read-job .ensures)
+plain-accepted-requires c κs =
+    let at-arm = c .before .before .before .before in
+    let at-read = at-arm .before .before in
+    let at-entry = at-read .before .before .before .before .before in
+    read-accepted (at-entry .args .job .now) _ (sym (at-arm .t .given .1) ∙ at-read .read-job .ensures)
 
 enum-known-n : tie.Need-enum-known-n
 enum-known-n c = search needs
@@ -34,18 +39,21 @@ same-length-3 c = search needs
 
 returns : tie.Need-returns
 returns c =
-    let a = c .before .before .before .before .before .before .before .before .before .before .before .before .before .before .before .before .before .before .args in
-    let x = c .before .before .before .before .before .before .plain-accepted .ensures in
-    (x, plain-unaltered (a .job .now) (lent (a .trace .now) (a .end .now) (a .work .now)) x)
+    let at-call = c .before .before .before .before .before .before in
+    let at-entry = at-call .before .before .before .before .before .before .before .before .before .before .before .before in
+    let a = at-entry .args in
+    plain-promise (a .job .now) (lent (a .trace .now) (a .end .now) (a .work .now)) (at-call .plain-accepted .ensures)
 
 returns-2 : tie.Need-returns-2
 returns-2 c =
-    let a = c .before .before .before .before .before .before .before .before .before .args in
+    let at-arm = c .before .before in
+    let at-read = at-arm .before .before in
+    let at-entry = at-read .before .before .before .before .before in
+    let a = at-entry .args in
     let f = a .job .now in
-    let l = (lent (a .trace .now) (a .end .now) (a .work .now)) in
-    let p = read-refused (trailer f) _ (parse f) (sym (c .before .before .n .given .1) ∙ c .before .before .before .before .read-job .ensures) in
-    let x = plain-exact-rejected f _ p l (c .plain-refused .ensures) in
-    (x, plain-unaltered f l x)
+    let l = lent (a .trace .now) (a .end .now) (a .work .now) in
+    let p = read-refused (trailer f) _ (parse f) (sym (at-arm .n .given .1) ∙ at-read .read-job .ensures) in
+    plain-promise f l (plain-exact-rejected f _ p l (c .plain-refused .ensures))
 
 pub plain-run-spec : {M : Type 1} → statement M
 plain-run-spec =

@@ -18,7 +18,7 @@ returns c =
     let r = c .before .before .before .before .before .args .r in
     let e = c .before .before .before .before .counts-of .ensures in
     let v = c .verdict-of .ensures ∙ ap (λ (n : Counts). judge (c .before .before .before .before .before .args .public) (n .stop) (r .progress .full) (r .progress .plain)) e in
-    λ i. record { outcome = runs.Ran (e i) (v i); depends = r .progress .full; plain = r .progress .plain }
+    λ i. record { outcome = runs.Ran (e i) (v i); full = r .progress .full; plain = r .progress .plain }
 
 pub report-spec : {M : Type 1} → statement M
 report-spec = tie.close (tie.spec counts-of-requires verdict-of-requires returns)

@@ -17,7 +17,7 @@ empty-requires-2 c κs = search needs
 returns : tie.Need-returns
 unfolding runRefused
 returns c =
-    ap₂ {C = RunAnswer} (λ (f g : LocationSet). record { outcome = runs.Refused (c .before .before .args .n); depends = f; plain = g })
+    ap₂ {C = RunAnswer} (λ (f g : LocationSet). record { outcome = runs.Refused (c .before .before .args .n); full = f; plain = g })
     (c .before .empty .ensures) (c .empty2 .ensures)
 
 pub run-refused-spec : {M : Type 1} → statement M

@@ -1,6 +1,5 @@
 -- `checker_compare` meets its contract. Assumes nothing.
-use Rattle.rules.specs.Rules.Pairs.{pairLent}
-use Rattle.checker_c.proofs.Laws.{carried-out, left-alone, pair-refused, pair-returned, pair-demand}
+use Rattle.checker_c.proofs.Laws.{pair-refused, pair-returned}
 use borrow.Author.Needs.{needs}
 use Rattle.checker_c.proofs.checker_compare.Statement.{statement}
 use Rattle.checker_c.proofs.checker_compare.Tie as tie
@@ -31,10 +30,9 @@ same-length-3 c = search needs
 
 returns : tie.Need-returns
 returns c =
-    let a = c .before .before .before .before .before .before .before .before .before .before .before .before .before .before .before .before .before .before .before .args in
-    let x = c .before .before .before .before .before .before .before .before .before .before .compare .ensures in
-    let l = pairLent (a .first-trace .now) (a .second-trace .now) (a .work .now) in
-    (pair-refused (x .0) (a .answer .now) (c .before .before .n .given .1) (c .refusal-number .ensures), (left-alone _ (a .answer .now) (x .1 .0 .refused (c .before .before .n .given .1)), pair-demand (a .job .now) (a .second .now) l (x .0) (x .1 .1)))
+    let at-arm = c .before .before in
+    let at-call = at-arm .before .before .before .before .before .before .before .before in
+    pair-refused (at-call .compare .ensures) (at-arm .n .given .1) (c .refusal-number .ensures)
 
 same-length-4 : tie.Need-same-length-4
 same-length-4 c = search needs
@@ -47,10 +45,9 @@ same-length-6 c = search needs
 
 returns-2 : tie.Need-returns-2
 returns-2 c =
-    let a = c .before .before .before .before .before .before .before .before .before .before .before .before .before .before .before .before .before .before .before .before .args in
-    let x = c .before .before .before .before .before .before .before .before .before .before .before .compare .ensures in
-    let l = pairLent (a .first-trace .now) (a .second-trace .now) (a .work .now) in
-    (pair-returned (x .0) (a .answer .now) (c .before .before .before .w .given .1) (c .write-pair .ensures), (carried-out (a .answer .now) _ l _, pair-demand (a .job .now) (a .second .now) l (x .0) (x .1 .1)))
+    let at-arm = c .before .before .before in
+    let at-call = at-arm .before .before .before .before .before .before .before .before in
+    pair-returned (at-call .compare .ensures) (at-arm .w .given .1) (c .write-pair .ensures)
 
 pub checker-compare-spec : {M : Type 1} → statement M
 checker-compare-spec =

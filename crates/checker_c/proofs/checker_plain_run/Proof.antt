@@ -1,6 +1,5 @@
 -- `checker_plain_run` meets its contract. Assumes nothing.
-use Rattle.rules.specs.Rules.Calls.{lent}
-use Rattle.checker_c.proofs.Laws.{carried-out, left-alone, plain-refused, plain-returned}
+use Rattle.checker_c.proofs.Laws.{plain-refused, plain-returned}
 use borrow.Author.Needs.{needs}
 use Rattle.checker_c.proofs.checker_plain_run.Statement.{statement}
 use Rattle.checker_c.proofs.checker_plain_run.Tie as tie
@@ -31,9 +30,9 @@ same-length-3 c = search needs
 
 returns : tie.Need-returns
 returns c =
-    let a = c .before .before .before .before .before .before .before .before .before .before .before .before .before .before .before .before .before .before .before .args in
-    let x = c .before .before .before .before .before .before .before .before .before .before .before .plain-run .ensures in
-    (plain-refused (x .0) (a .answer .now) (c .before .before .outcome .given .1) (c .refusal-number .ensures), left-alone _ (a .answer .now) (x .1 .refused (c .before .before .outcome .given .1)))
+    let at-arm = c .before .before in
+    let at-call = at-arm .before .before .before .before .before .before .before .before .before in
+    plain-refused (at-call .plain-run .ensures) (at-arm .outcome .given .1) (c .refusal-number .ensures)
 
 same-length-4 : tie.Need-same-length-4
 same-length-4 c = search needs
@@ -46,9 +45,9 @@ same-length-6 c = search needs
 
 returns-2 : tie.Need-returns-2
 returns-2 c =
-    let a = c .before .before .before .before .before .before .before .before .before .before .before .before .before .before .before .before .before .before .before .before .args in
-    let x = c .before .before .before .before .before .before .before .before .before .before .before .before .plain-run .ensures in
-    (plain-returned (x .0) (a .answer .now) (c .before .before .before .outcome2 .given .1) (c .write-plain .ensures), carried-out (a .answer .now) _ (lent (a .trace .now) (a .end .now) (a .work .now)) _)
+    let at-arm = c .before .before .before in
+    let at-call = at-arm .before .before .before .before .before .before .before .before .before in
+    plain-returned (at-call .plain-run .ensures) (at-arm .outcome2 .given .1) (c .write-plain .ensures)
 
 pub checker-plain-run-spec : {M : Type 1} → statement M
 checker-plain-run-spec =

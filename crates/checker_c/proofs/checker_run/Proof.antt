@@ -1,6 +1,5 @@
 -- `checker_run` meets its contract. Assumes nothing.
-use Rattle.rules.specs.Rules.Calls.{lent}
-use Rattle.checker_c.proofs.Laws.{carried-out, left-alone, run-refused, run-returned, run-demands}
+use Rattle.checker_c.proofs.Laws.{run-refused, run-returned}
 use borrow.Author.Needs.{needs}
 use Rattle.checker_c.proofs.checker_run.Statement.{statement}
 use Rattle.checker_c.proofs.checker_run.Tie as tie
@@ -31,11 +30,9 @@ same-length-3 c = search needs
 
 returns : tie.Need-returns
 returns c =
-    let a = c .before .before .before .before .before .before .before .before .before .before .before .before .before .before .before .before .before .before .before .before .args in
-    let x = c .before .before .before .before .before .before .before .before .before .before .before .before .run .ensures in
-    let l = lent (a .trace .now) (a .end .now) (a .work .now) in
-    let d = run-demands (a .job .now) l (x .0) (x .1 .1 .0) (x .1 .1 .1) in
-    (run-refused (x .0) (a .answer .now) (c .before .before .outcome .given .1) (c .refusal-number .ensures), (left-alone _ (a .answer .now) (x .1 .0 .refused (c .before .before .outcome .given .1)), (d .0, d .1)))
+    let at-arm = c .before .before in
+    let at-call = at-arm .before .before .before .before .before .before .before .before .before .before in
+    run-refused (at-call .run .ensures) (at-arm .outcome .given .1) (c .refusal-number .ensures)
 
 same-length-4 : tie.Need-same-length-4
 same-length-4 c = search needs
@@ -48,11 +45,9 @@ same-length-6 c = search needs
 
 returns-2 : tie.Need-returns-2
 returns-2 c =
-    let a = c .before .before .before .before .before .before .before .before .before .before .before .before .before .before .before .before .before .before .before .before .before .args in
-    let x = c .before .before .before .before .before .before .before .before .before .before .before .before .before .run .ensures in
-    let l = lent (a .trace .now) (a .end .now) (a .work .now) in
-    let d = run-demands (a .job .now) l (x .0) (x .1 .1 .0) (x .1 .1 .1) in
-    (run-returned (x .0) (a .answer .now) (c .before .before .before .outcome2 .given .1) (c .write-run .ensures), (carried-out (a .answer .now) _ l _, (d .0, d .1)))
+    let at-arm = c .before .before .before in
+    let at-call = at-arm .before .before .before .before .before .before .before .before .before .before in
+    run-returned (at-call .run .ensures) (at-arm .outcome2 .given .1) (c .write-run .ensures)
 
 pub checker-run-spec : {M : Type 1} → statement M
 checker-run-spec =

@@ -48,7 +48,7 @@ put-summary-requires c κs =
       arith,
       trace-length (a .n) (observationsIn (o .0 .observations) (a .trace .now)),
       observations-length (o .0 .observations) (a .trace .now),
-      summary-bound (o .0) (a .answer .depends) (a .answer .plain) (o .1 .0),
+      summary-bound (o .0) (a .answer .full) (a .answer .plain) (o .1 .0),
       c .before .before .before .before .before .before .before .before .before .before .before .before .good,
       c .before .before .before .put-trace .ensures .place,
     )

@@ -32,7 +32,7 @@ returns c =
     let r = w .before .before .before .before .before .before .before in
     let n = r .before .before .before .before in
     let a = n .before .before .before .before .args in (
-      prints (a .job .now) (a .trace .now) _ _ (r .run .ensures .0) (search needs) (search needs) (n .instruction-count .ensures) (w .write-answer .ensures),
+      prints (a .job .now) (a .trace .now) _ _ (r .run .ensures .exact) (search needs) (search needs) (n .instruction-count .ensures) (w .write-answer .ensures),
       omega (arith, printed-bound _ _ _ (w .write-answer .ensures), same-length c),
     )
 

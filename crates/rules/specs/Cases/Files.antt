@@ -64,9 +64,9 @@ counted stop observations steps rollbacks = record { stop = stop; observations =
 
 -- an answer by its stop, counts of observations, steps and rollbacks, the locations of D and of the plain set, and verdict
 unfoldable pub ran : Stop → ℕ → ℕ → ℕ → List ℕ → List ℕ → Verdict → RunAnswer
-ran stop observations steps rollbacks depends plain word = record {
+ran stop observations steps rollbacks full plain word = record {
   outcome = runs.Ran (counted stop observations steps rollbacks) word;
-  depends = setOf depends;
+  full = setOf full;
   plain = setOf plain;
 }
 

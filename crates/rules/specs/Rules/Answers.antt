@@ -13,6 +13,12 @@ use Rattle.rules.specs.declared.PairWord.{PairWord}
 use Rattle.rules.specs.declared.PairWord.the-variants as pairs
 use Rattle.rules.specs.declared.Refusal.{Refusal}
 use Rattle.rules.specs.declared.Refusal.the-variants as refusals
+use Rattle.rules.specs.declared.RunOutcome.the-variants as runs
+use Rattle.rules.specs.declared.RunAnswer.{RunAnswer}
+use Rattle.rules.specs.declared.PlainOutcome.the-variants as plains
+use Rattle.rules.specs.declared.PlainAnswer.{PlainAnswer}
+use Rattle.rules.specs.declared.PairAnswer.{PairAnswer}
+use Rattle.rules.specs.declared.PairAnswer.the-variants as answers
 
 -- the bytes of a text
 unfoldable pub text : String → List ℕ
@@ -60,3 +66,14 @@ refusalNumber refusals.Surplus = 7
 refusalNumber refusals.PublicList = 8
 refusalNumber refusals.SecondState = 9
 refusalNumber refusals.Areas = 10
+
+-- the refusal number of a call's answer: 0 where the call was carried out
+abbrev pub runRefusal : RunAnswer → ℕ
+runRefusal r = elim (r .outcome) [ runs.Refused n ↦ refusalNumber n | runs.Ran c v ↦ 0 ]
+
+abbrev pub plainRefusal : PlainAnswer → ℕ
+plainRefusal r = elim (r .outcome) [ plains.Refused n ↦ refusalNumber n | plains.Ran c ↦ 0 ]
+
+abbrev pub pairRefusal : PairAnswer → ℕ
+pairRefusal (answers.Refused n) = refusalNumber n
+pairRefusal (answers.Compared w c d) = 0

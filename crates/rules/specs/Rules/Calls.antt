@@ -65,10 +65,10 @@ areasAfter r a = record {
   work = written (replicate workingWords 0) (a .work);
 }
 
--- an answer with the areas after the call
-pub record Called (A : Type 0) : Type 0 where
+-- an answer with the areas after the call: of any call, by its answers and its areas
+pub record Called (A B : Type 0) : Type 0 where
   pub answer : A
-  pub areas : Areas
+  pub areas : B
 
 -- ---- a run
 unfoldable pub counts : Result → Counts
@@ -76,13 +76,13 @@ counts r = record { stop = r .stop; observations = length (r .log .trace); steps
 
 -- "A run returns its stop, observation count, steps, rollbacks, D, plain set and verdict."
 unfoldable pub runReport : Job → Result → RunAnswer
-runReport job r = record { outcome = runs.Ran (counts r) (verdict job r); depends = r .log .full; plain = r .log .plain }
+runReport job r = record { outcome = runs.Ran (counts r) (verdict job r); full = r .log .full; plain = r .log .plain }
 
 -- "number only"
 unfoldable pub runRefused : Refusal → RunAnswer
-runRefused n = record { outcome = runs.Refused n; depends = empty; plain = empty }
+runRefused n = record { outcome = runs.Refused n; full = empty; plain = empty }
 
-unfoldable pub runParsed : Parsed → Areas → Called RunAnswer
+unfoldable pub runParsed : Parsed → Areas → Called RunAnswer Areas
 runParsed (rejected n) a = record { answer = runRefused n; areas = a }
 runParsed (accepted job) a =
     let r = mispredictingRun job (room (a .trace)) in
@@ -91,7 +91,7 @@ runParsed (accepted job) a =
       | true ↦ record { answer = runReport job r; areas = areasAfter r a }
     ]
 
-unfoldable pub runCall : List ℕ → Areas → Called RunAnswer
+unfoldable pub runCall : List ℕ → Areas → Called RunAnswer Areas
 runCall file a = runParsed (parse file) a
 
 -- ---- a plain run: "lent a run's areas, counts against b and stops in the same way, and returns its stop, observation count,
@@ -105,7 +105,7 @@ plainReport r = record {
 unfoldable pub plainRefused : Refusal → PlainAnswer
 plainRefused n = record { outcome = plains.Refused n; plain = empty }
 
-unfoldable pub plainParsed : Parsed → Areas → Called PlainAnswer
+unfoldable pub plainParsed : Parsed → Areas → Called PlainAnswer Areas
 plainParsed (rejected n) a = record { answer = plainRefused n; areas = a }
 plainParsed (accepted job) a =
     let r = plainRun job (room (a .trace)) in
@@ -114,5 +114,5 @@ plainParsed (accepted job) a =
       | true ↦ record { answer = plainReport r; areas = areasAfter r a }
     ]
 
-unfoldable pub plainCall : List ℕ → Areas → Called PlainAnswer
+unfoldable pub plainCall : List ℕ → Areas → Called PlainAnswer Areas
 plainCall file a = plainParsed (parse file) a

@@ -1,18 +1,17 @@
--- The three demands, as statements about calls, and what the words on a pair of states mean. Theorems/ proves the second and third
--- demand and the words of every job file and all areas; the contracts of the calls state all of them.
+-- The three demands, as statements about calls, and what the words on a pair of states mean. Theorems/ proves them of every job file
+-- and all areas; the promises of the calls (Promises) are made of them.
 -- Assumes nothing.
 use mathlib.Core.Path.{_≡_}
 use mathlib.Core.Bool.{true}
 use Prim.{⊥}
 use mathlib.Core.List.{List}
-use Prim.Native.Nat.{ℕ, _*_, _≤_}
+use Prim.Native.Nat.{ℕ, _*_, _<_, _≤_}
 use lib.ListN.{length, getD, take, drop}
 use Rattle.location.specs.declared.LocationSet.{LocationSet}
 use Rattle.location.specs.Sets.{member}
 use Rattle.rules.specs.declared.Stop.the-variants.{Finished}
 use Rattle.rules.specs.declared.Verdict.{Verdict}
 use Rattle.rules.specs.declared.Verdict.the-variants.{Clean}
-use Rattle.rules.specs.declared.Refusal.{Refusal}
 use Rattle.rules.specs.declared.Counts.{Counts}
 use Rattle.rules.specs.declared.PlainCounts.{PlainCounts}
 use Rattle.rules.specs.declared.RunOutcome.{RunOutcome}
@@ -20,7 +19,6 @@ use Rattle.rules.specs.declared.RunOutcome.the-variants as runs
 use Rattle.rules.specs.declared.RunAnswer.{RunAnswer}
 use Rattle.rules.specs.declared.PlainOutcome.{PlainOutcome}
 use Rattle.rules.specs.declared.PlainOutcome.the-variants as plains
-use Rattle.rules.specs.declared.PlainAnswer.{PlainAnswer}
 use Rattle.rules.specs.declared.PairWord.{PairWord}
 use Rattle.rules.specs.declared.PairWord.the-variants as words
 use Rattle.rules.specs.declared.PairAnswer.{PairAnswer}
@@ -28,21 +26,18 @@ use Rattle.rules.specs.declared.PairAnswer.the-variants as pairs
 use Rattle.rules.specs.Rules.Instructions.{Observation}
 use Rattle.rules.specs.Rules.JobFile.{trailer, locations, stateOf, publicOf, wordsAt}
 use Rattle.rules.specs.Rules.Calls.{Areas, Called, traceWords, workingWords, runCall, plainCall}
-use Rattle.rules.specs.Rules.Pairs.{PairAreas, PairCalled}
+use Rattle.rules.specs.Rules.Pairs.{PairAreas}
 use Rattle.rules.specs.Rules.Strike.{strike}
 
 -- ---- demand 1, and the first half of demand 2: "a run's answer, or the refusal number that document 01 fixes"
 -- The answer and every lent word are the definition's, for every list of bytes and all areas: `called` is the definition's call.
-pub record Exact {A : Type 0} (called : Called A) (r : A) (after : Areas) : Type 0 where
+pub record Exact {A B : Type 0} (called : Called A B) (r : A) (after : B) : Type 0 where
   pub answer : r ≡ called .answer
   pub areas : after ≡ called .areas
 
--- "A refusal leaves every area unaltered."
-pub record RunUnaltered (answer : RunAnswer) (before after : Areas) : Type 0 where
-  pub refused : {n : Refusal} → answer .outcome ≡ runs.Refused n → after ≡ before
-
-pub record PlainUnaltered (answer : PlainAnswer) (before after : Areas) : Type 0 where
-  pub refused : {n : Refusal} → answer .outcome ≡ plains.Refused n → after ≡ before
+-- "A refusal leaves every area unaltered." `refusal` is the refusal number of an answer, 0 where the call was carried out.
+pub record Unaltered {A B : Type 0} (refusal : A → ℕ) (r : A) (before after : B) : Type 0 where
+  pub refused : 0 < refusal r → after ≡ before
 
 -- ---- what is compared
 -- "what the lent areas held before is free for both runs": only their lengths are the same
@@ -114,7 +109,7 @@ pub record SameCall (r : RunAnswer) (after : Areas) (g : List ℕ) (a′ : Areas
 pub record Demand3 (f : List ℕ) (a : Areas) (r : RunAnswer) (after : Areas) : Type 0 where
   pub reported : {n : Counts} {v : Verdict} → r .outcome ≡ runs.Ran n v
       → (g : List ℕ) (a′ : Areas) → SameButState f g → SameLengths a a′
-      → AlikeOn (r .depends) (stateOf (trailer f) f) (stateOf (trailer f) g)
+      → AlikeOn (r .full) (stateOf (trailer f) f) (stateOf (trailer f) g)
       → SameCall r after g a′
   pub clean : {n : Counts} → r .outcome ≡ runs.Ran n Clean
       → (g : List ℕ) (a′ : Areas) → SameButState f g → SameLengths a a′
@@ -122,14 +117,6 @@ pub record Demand3 (f : List ℕ) (a : Areas) (r : RunAnswer) (after : Areas) : 
       → SameCall r after g a′
 
 -- ---- the pair of states
--- The answer and every lent word are the definition's.
-pub record PairExact (called : PairCalled) (r : PairAnswer) (after : PairAreas) : Type 0 where
-  pub answer : r ≡ called .answer
-  pub areas : after ≡ called .areas
-
-pub record PairUnaltered (answer : PairAnswer) (before after : PairAreas) : Type 0 where
-  pub refused : {n : Refusal} → answer ≡ pairs.Refused n → after ≡ before
-
 -- "the job's state and a second one": the words of the second state's bytes
 unfoldable pub secondState : List ℕ → List ℕ → List ℕ
 secondState f second = wordsAt (locations (trailer f)) second 0

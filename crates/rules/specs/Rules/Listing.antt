@@ -79,7 +79,7 @@ outcomeLines n os full plain (runs.Ran c v) = traceLines n os ++ summary c full 
 
 -- an answer with its trace, of a program with n instructions
 unfoldable pub answerLines : ℕ → List Observation → RunAnswer → List ℕ
-answerLines n os a = outcomeLines n os (a .depends) (a .plain) (a .outcome)
+answerLines n os a = outcomeLines n os (a .full) (a .plain) (a .outcome)
 
 -- "lends 512 observations"
 abbrev pub printedRoom : ℕ

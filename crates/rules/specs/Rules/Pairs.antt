@@ -18,7 +18,7 @@ use Rattle.rules.specs.declared.PairAnswer.the-variants as answers
 use Rattle.rules.specs.Rules.Instructions.{Observation}
 use Rattle.rules.specs.Rules.Runs.{Job, Result, mispredictingRun, plainRun}
 use Rattle.rules.specs.Rules.JobFile.{Parsed, accepted, rejected, parse, wordsAt}
-use Rattle.rules.specs.Rules.Calls.{traceWords, room, workingWords, written, counts}
+use Rattle.rules.specs.Rules.Calls.{traceWords, room, workingWords, written, Called, counts}
 
 -- the job with another state
 unfoldable pub withState : Job → List ℕ → Job
@@ -75,10 +75,6 @@ pub record PairAreas : Type 0 where
 abbrev pub pairLent : List ℕ → List ℕ → List ℕ → PairAreas
 pairLent first second work = record { first = first; second = second; work = work }
 
-pub record PairCalled : Type 0 where
-  pub answer : PairAnswer
-  pub areas : PairAreas
-
 -- "Both runs are made and both traces written in every one of these cases"; "all else is left as by a run"
 unfoldable pub pairAfter : Result → Result → PairAreas → PairAreas
 pairAfter r r′ a = record {
@@ -87,7 +83,7 @@ pairAfter r r′ a = record {
   work = written (replicate workingWords 0) (a .work);
 }
 
-unfoldable pub pairRefused : Refusal → PairAreas → PairCalled
+unfoldable pub pairRefused : Refusal → PairAreas → Called PairAnswer PairAreas
 pairRefused n a = record { answer = answers.Refused n; areas = a }
 
 -- "second state not 128 + 8m bytes"
@@ -98,14 +94,14 @@ secondFits job second = eqb (length second) (8 * length (job .init))
 unfoldable pub pairFits : PairAreas → Bool
 pairFits a = leb workingWords (length (a .work)) && eqb (length (a .first)) (length (a .second))
 
-unfoldable pub pairAccepted : Job → List ℕ → PairAreas → PairCalled
+unfoldable pub pairAccepted : Job → List ℕ → PairAreas → Called PairAnswer PairAreas
 pairAccepted job vs a =
     let k = room (a .first) in
     let r = mispredictingRun job k in
     let r′ = mispredictingRun (withState job vs) k in
     record { answer = answers.Compared (pairWord job vs k) (counts r) (counts r′); areas = pairAfter r r′ a }
 
-unfoldable pub pairParsed : Parsed → List ℕ → PairAreas → PairCalled
+unfoldable pub pairParsed : Parsed → List ℕ → PairAreas → Called PairAnswer PairAreas
 pairParsed (rejected n) second a = pairRefused n a
 pairParsed (accepted job) second a =
     elim (secondFits job second) [
@@ -116,5 +112,5 @@ pairParsed (accepted job) second a =
       ]
     ]
 
-unfoldable pub pairCall : List ℕ → List ℕ → PairAreas → PairCalled
+unfoldable pub pairCall : List ℕ → List ℕ → PairAreas → Called PairAnswer PairAreas
 pairCall file second a = pairParsed (parse file) second a

@@ -13,14 +13,13 @@ use Rattle.rules.specs.declared.Refusal.the-variants as refusals
 use Rattle.rules.specs.declared.Counts.{Counts}
 use Rattle.rules.specs.declared.RunOutcome.the-variants as runs
 use Rattle.rules.specs.declared.RunAnswer.{RunAnswer}
-use Rattle.rules.specs.declared.PlainCounts.{PlainCounts}
-use Rattle.rules.specs.declared.PlainOutcome.the-variants as plains
 use Rattle.rules.specs.Rules.Instructions.{Observation, start, rollback, pc, loaded, stored}
 use Rattle.rules.specs.Rules.Runs.{Job, Result, mispredictingRun, plainRun}
+use Rattle.rules.specs.Rules.Answers.{runRefusal, plainRefusal}
 use Rattle.rules.specs.Rules.JobFile.{Parsed, accepted, rejected, parse}
 use Rattle.rules.specs.Rules.Calls.{traceWords, Areas, room, longEnough, written, areasAfter, Called, counts, runReport, runRefused, runParsed, runCall, plainReport, plainParsed, plainCall}
 use Rattle.rules.specs.Rules.Pairs.{withState}
-use Rattle.rules.specs.Rules.Demands.{SameLengths, traceIn, traceOf, plainTraceOf}
+use Rattle.rules.specs.Rules.Demands.{Exact, Unaltered, SameLengths, traceIn, traceOf, plainTraceOf}
 
 -- ---- a call that ran, and one that was refused
 pub length-traceWords : (os : List Observation) → length (traceWords os) ≡ 2 * length os
@@ -68,7 +67,7 @@ module _ {f : List ℕ} {a : Areas} (r : Runs f a) where
       rw plain-call-runs (take-at (traceWords os) _ (2 * length os) (length-traceWords os))
 
 -- "number only", and all areas left as they were
-abbrev pub refusal : Refusal → Areas → Called RunAnswer
+abbrev pub refusal : Refusal → Areas → Called RunAnswer Areas
 refusal n a = record { answer = runRefused n; areas = a }
 
 -- every call is one or the other
@@ -111,25 +110,34 @@ unfolding longEnough
 enough-same job h = rw (h .end, h .work)
 
 -- ---- a call that is refused leaves every area as it was
-pub refused-unaltered : (f : List ℕ) (a : Areas) {n : Refusal} → runCall f a .answer .outcome ≡ runs.Refused n → runCall f a .areas ≡ a
-refused-unaltered f a {n} e = go (view f a)
+-- of any call: what it leaves where it was carried out and where it was refused, and one that is exact
+module _ {A B : Type 0} (refusal : A → ℕ) (called : Called A B) (a : B) where
+  pub carried-out : refusal (called .answer) ≡ 0 → Unaltered refusal (called .answer) a (called .areas)
+  carried-out e = record { refused = λ h. absurd (omega arith) }
+
+  pub left-alone : called .areas ≡ a → Unaltered refusal (called .answer) a (called .areas)
+  left-alone e = record { refused = λ h. e }
+
+  pub exact-unaltered : {r : A} {after : B} → Exact called r after → Unaltered refusal (called .answer) a (called .areas)
+      → Unaltered refusal r a after
+  exact-unaltered x h = rw (x .answer, x .areas) h
+
+pub run-unaltered : (f : List ℕ) (a : Areas) → Unaltered runRefusal (runCall f a .answer) a (runCall f a .areas)
+run-unaltered f a = go (view f a)
   where
-    go : View f a → runCall f a .areas ≡ a
-    go (ran r) = unfold runReport in refused-ran (sym (rw (call-runs r) at e))
-    go (refused m q) = ap (λ (c : Called RunAnswer). c .areas) q
+    go : View f a → Unaltered runRefusal (runCall f a .answer) a (runCall f a .areas)
+    go (ran r) = carried-out runRefusal (runCall f a) a (unfold runReport in rw (call-runs r))
+    go (refused m q) = left-alone runRefusal (runCall f a) a (ap (λ (c : Called RunAnswer Areas). c .areas) q)
 
-plain-not-refused : {P : Type 0} {n : Refusal} {c : PlainCounts} → plains.Refused n ≡ plains.Ran c → P
-plain-not-refused {P} {n} {c} e = absurd (let z : _≡_ {A = ℕ} 0 1 = cc in omega arith)
-
-pub plain-refused-unaltered : (f : List ℕ) (a : Areas) {n : Refusal} → plainCall f a .answer .outcome ≡ plains.Refused n
-    → plainCall f a .areas ≡ a
+pub plain-unaltered : (f : List ℕ) (a : Areas) → Unaltered plainRefusal (plainCall f a .answer) a (plainCall f a .areas)
 unfolding plainCall plainParsed
-plain-refused-unaltered f a {n} e = go (parse f) refl
+plain-unaltered f a = go (parse f) refl
   where
-    fits : (job : Job) → parse f ≡ accepted job → (b : Bool) → longEnough job a ≡ b → plainParsed (parse f) a .areas ≡ a
-    fits job q true l = unfold plainReport in plain-not-refused (sym (rw (q, l, plainParsed) at e))
-    fits job q false l = rw (q, l, plainParsed)
+    fits : (job : Job) → parse f ≡ accepted job → (b : Bool) → longEnough job a ≡ b
+        → Unaltered plainRefusal (plainParsed (parse f) a .answer) a (plainParsed (parse f) a .areas)
+    fits job q true l = carried-out plainRefusal (plainParsed (parse f) a) a (unfold plainReport in rw (q, l, plainParsed))
+    fits job q false l = left-alone plainRefusal (plainParsed (parse f) a) a (rw (q, l, plainParsed))
 
-    go : (P : Parsed) → parse f ≡ P → plainParsed (parse f) a .areas ≡ a
-    go (rejected m) q = rw (q, plainParsed)
+    go : (P : Parsed) → parse f ≡ P → Unaltered plainRefusal (plainParsed (parse f) a .answer) a (plainParsed (parse f) a .areas)
+    go (rejected m) q = left-alone plainRefusal (plainParsed (parse f) a) a (rw (q, plainParsed))
     go (accepted job) q = fits job q (longEnough job a) refl

@@ -35,7 +35,7 @@ unfolding runReport counts
 same-answer x = λ i. record {
   outcome = runs.Ran
       (record { stop = x .stop i; observations = length (x .trace i); steps = x .steps i; rollbacks = x .rollbacks i }) (x .word i);
-  depends = x .full i;
+  full = x .full i;
   plain = x .plain i;
 }
 
@@ -58,11 +58,11 @@ module _ {f g : List ℕ} {a a′ : Areas} (r : Runs f a) (s : SameButState f g)
   }
 
   -- states alike in the reported set
-  same-reported : AlikeOn (runCall f a .answer .depends) (stateOf (trailer f) f) (stateOf (trailer f) g) → SameCalls f a g a′
+  same-reported : AlikeOn (runCall f a .answer .full) (stateOf (trailer f) f) (stateOf (trailer f) g) → SameCalls f a g a′
   unfolding runReport
   same-reported k =
       let p = passed f (r .job) (r .parsed) in
-      let d : result r .log .full ≡ runCall f a .answer .depends = rw (call-runs r) in
+      let d : result r .log .full ≡ runCall f a .answer .full = rw (call-runs r) in
       same-call
       (demand3 (r .job) (room (a .trace)) (stateOf (trailer f) g) (init-most p) (same-size f g (r .job) (r .parsed))
       (alike-as d (job-init p) k))

@@ -23,12 +23,13 @@ use Rattle.rules.specs.declared.Counts.{Counts}
 use Rattle.rules.specs.declared.PairAnswer.the-variants as pairs
 use Rattle.rules.specs.Rules.Instructions.{Observation}
 use Rattle.rules.specs.Rules.Runs.{Job, Result, mispredictingRun, plainRun}
+use Rattle.rules.specs.Rules.Answers.{pairRefusal}
 use Rattle.rules.specs.Rules.JobFile.{Parsed, accepted, rejected, parse, trailer, locations, wordsAt}
 use Rattle.rules.specs.Rules.Calls.{Areas, traceWords, room, workingWords, written, counts, longEnough}
 use Rattle.rules.specs.Rules.Pairs.{withState, alikeFrom, isFinished, sameWords, sameTrace, firstThatFits, pairWord, PairAreas, pairAfter, pairRefused, secondFits, pairFits, pairAccepted, pairParsed, pairCall}
-use Rattle.rules.specs.Rules.Demands.{AlikeOn, plainTraceOf, PairUnaltered, secondState, AlikePublic, SecondJob, RunAreas, SamePlain, OtherPlain, BothFinished, SameTraces, Means, PairMeaning}
+use Rattle.rules.specs.Rules.Demands.{AlikeOn, plainTraceOf, Unaltered, secondState, AlikePublic, SecondJob, RunAreas, SamePlain, OtherPlain, BothFinished, SameTraces, Means, PairMeaning}
 use Rattle.rules.specs.Theorems.JobLaws.{passed, job-init, job-public, length-wordsAt, length-stateOf, parse-other}
-use Rattle.rules.specs.Theorems.CallLaws.{length-traceWords, plain-trace-runs}
+use Rattle.rules.specs.Theorems.CallLaws.{length-traceWords, plain-trace-runs, carried-out, left-alone}
 
 -- ---- words compared
 pub same-words-equal : (a b : List ℕ) → sameWords a b ≡ true → a ≡ b
@@ -290,9 +291,10 @@ pair-meaning f second a = record { compared = λ {word} {n} {n′} e. go word n 
         rw (← q₀, ← q₁, ← q₂, pair-runs r) (word-means r)
 
 -- a refusal leaves every area as it was
-pub pair-unaltered : (f second : List ℕ) (a : PairAreas) → PairUnaltered (pairCall f second a .answer) a (pairCall f second a .areas)
-pair-unaltered f second a = record { refused = λ e. go e (pair-view f second a) }
+pub pair-unaltered : (f second : List ℕ) (a : PairAreas)
+    → Unaltered pairRefusal (pairCall f second a .answer) a (pairCall f second a .areas)
+pair-unaltered f second a = go (pair-view f second a)
   where
-    go : {n : Refusal} → pairCall f second a .answer ≡ pairs.Refused n → PairView f second a → pairCall f second a .areas ≡ a
-    go e (refused m q) = unfold pairRefused in rw q
-    go e (compared r) = unfold pairAccepted in refused-compared (sym (rw (pair-runs r) at e))
+    go : PairView f second a → Unaltered pairRefusal (pairCall f second a .answer) a (pairCall f second a .areas)
+    go (refused m q) = left-alone pairRefusal (pairCall f second a) a (unfold pairRefused in rw q)
+    go (compared r) = carried-out pairRefusal (pairCall f second a) a (unfold pairAccepted in rw (pair-runs r))

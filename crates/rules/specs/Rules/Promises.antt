@@ -1,0 +1,53 @@
+-- What each call promises, in one record. Its contract states it of the bytes and areas that the call is given, of the very answer r
+-- that it returns and of the areas as it leaves them (`after`).
+--   exact      demands 1 and 2: the answer and every word of every lent area are those of the rules, for refused jobs too;
+--   unaltered  demand 1: a refusal leaves every area as it was;
+--   plainly    demand 2: where a run finishes, its trace with each outermost wrong path struck out is the plain run's trace, and the
+--              end states are equal;
+--   secret     demand 3: a second state that is alike on the reported set (with a clean verdict: on the public list) gives the same
+--              trace, counts, stop, sets and verdict;
+--   meaning    what each word on a pair says of the two traces and of the two plain runs.
+-- Assumes nothing.
+use mathlib.Core.List.{List}
+use Prim.Native.Nat.{ℕ}
+use denote.Ref.{RefT, now}
+use denote.Triple.Both.{Both}
+use Rattle.rules.specs.declared.RunAnswer.{RunAnswer}
+use Rattle.rules.specs.declared.PlainAnswer.{PlainAnswer}
+use Rattle.rules.specs.declared.PairAnswer.{PairAnswer}
+use Rattle.rules.specs.Rules.Answers.{runRefusal, plainRefusal, pairRefusal}
+use Rattle.rules.specs.Rules.Calls.{Areas, lent, runCall, plainCall}
+use Rattle.rules.specs.Rules.Pairs.{PairAreas, pairLent, pairCall}
+use Rattle.rules.specs.Rules.Demands.{Exact, Unaltered, Demand2, Demand3, PairMeaning}
+
+pub record RunPromise (f : List ℕ) (before : Areas) (r : RunAnswer) (after : Areas) : Type 0 where
+  pub exact : Exact (runCall f before) r after
+  pub unaltered : Unaltered runRefusal r before after
+  pub plainly : Demand2 f before r after
+  pub secret : Demand3 f before r after
+
+pub record PlainPromise (f : List ℕ) (before : Areas) (r : PlainAnswer) (after : Areas) : Type 0 where
+  pub exact : Exact (plainCall f before) r after
+  pub unaltered : Unaltered plainRefusal r before after
+
+pub record PairPromise (f second : List ℕ) (before : PairAreas) (r : PairAnswer) (after : PairAreas) : Type 0 where
+  pub exact : Exact (pairCall f second before) r after
+  pub unaltered : Unaltered pairRefusal r before after
+  pub meaning : PairMeaning f second before r after
+
+-- ---- the lent areas in a contract
+-- a lent area of words as a contract names it: as it is when the call begins, and as it is when the call returns
+abbrev pub LentArea : Type 0
+LentArea = Both (RefT (List ℕ)) (RefT (List ℕ))
+
+abbrev pub areasAtEntry : LentArea → LentArea → LentArea → Areas
+areasAtEntry trace ends work = lent (now (trace .entry)) (now (ends .entry)) (now (work .entry))
+
+abbrev pub areasAtExit : LentArea → LentArea → LentArea → Areas
+areasAtExit trace ends work = lent (now (trace .exit)) (now (ends .exit)) (now (work .exit))
+
+abbrev pub pairAtEntry : LentArea → LentArea → LentArea → PairAreas
+pairAtEntry first second work = pairLent (now (first .entry)) (now (second .entry)) (now (work .entry))
+
+abbrev pub pairAtExit : LentArea → LentArea → LentArea → PairAreas
+pairAtExit first second work = pairLent (now (first .exit)) (now (second .exit)) (now (work .exit))
