@@ -14,7 +14,7 @@ use Rattle.location.specs.Sets.{limit}
 use Rattle.rules.specs.declared.Stop.{Stop}
 use Rattle.rules.specs.declared.Stop.the-variants.{Finished, Spent, TraceFull}
 use Rattle.rules.specs.declared.Trailer.{Trailer}
-use Rattle.rules.specs.Rules.Instructions.{Instr, skip, Observation, start, rollback, pc, loaded, stored}
+use Rattle.rules.specs.Rules.Instructions.{Instr, skip, Observation}
 use Rattle.rules.specs.Rules.Plain.{Code, State, endPlace, fetch}
 use Rattle.rules.specs.Rules.Mispredicting.{Branch, Machine, Step, expired, rolling, forward, ordinary, lower, stepOn, step, plainStep}
 use Rattle.rules.specs.Rules.Loop.{ended}
@@ -339,11 +339,7 @@ written-more ws vs a h =
 trace-more : (os qs : List Observation) → traceWords (os ++ qs) ≡ traceWords os ++ traceWords qs
 unfolding traceWords
 trace-more [] qs = refl
-trace-more (start i ∷ os) qs = ap (λ (ws : List ℕ). 0 ∷ i ∷ ws) (trace-more os qs)
-trace-more (rollback i ∷ os) qs = ap (λ (ws : List ℕ). 1 ∷ i ∷ ws) (trace-more os qs)
-trace-more (pc q ∷ os) qs = ap (λ (ws : List ℕ). 2 ∷ q ∷ ws) (trace-more os qs)
-trace-more (loaded l ∷ os) qs = ap (λ (ws : List ℕ). 3 ∷ l ∷ ws) (trace-more os qs)
-trace-more (stored l ∷ os) qs = ap (λ (ws : List ℕ). 4 ∷ l ∷ ws) (trace-more os qs)
+trace-more (o ∷ os) qs = ap (λ (ws : List ℕ). o .kind ∷ o .value ∷ ws) (trace-more os qs)
 
 -- an area with more observations, after those that stand there
 observed-more : (os qs : List Observation) (area area′ a₀ : List ℕ) (k : ℕ) → length os ≡ k → area ≡ written (traceWords os) a₀

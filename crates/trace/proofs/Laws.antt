@@ -12,6 +12,7 @@ use borrow.Author.Tests.{leb-true, leb-false}
 use lib.Dec.{eqb, leb}
 use lib.ListN.{length, getD, drop, length-drop, drop-of-length-le}
 use lib.Seq.{drop-cons}
+use Rattle.rules.specs.Rules.Instructions.{startKind, rollbackKind}
 use Rattle.rules.specs.Rules.Pairs.{sameWords}
 use Rattle.trace.specs.Struck.{struckWords, struckTo, from, Outside}
 
@@ -68,14 +69,14 @@ done-to t i id h = none-left-to (from t i) id (left t i h)
 -- ---- the search for a rollback
 pub closes-step : (t : List ℕ) (i id : ℕ) → 2 * i + 2 ≤ length t
     → struckTo (from t i) id
-    ≡ cond (eqb (getD t (2 * i) 0) 1 && eqb (getD t (2 * i + 1) 0) id) (struckWords (from t (i + 1))) (struckTo (from t (i + 1)) id)
+    ≡ cond (eqb (getD t (2 * i) 0) rollbackKind && eqb (getD t (2 * i + 1) 0) id) (struckWords (from t (i + 1))) (struckTo (from t (i + 1)) id)
 unfolding struckTo
 closes-step t i id h = rw (observe t i h)
 
 -- ---- the search for an observation that is not struck out
 pub start-step : (t : List ℕ) (i : ℕ) → 2 * i + 2 ≤ length t
     → struckWords (from t i)
-    ≡ cond (eqb (getD t (2 * i) 0) 0) (struckTo (from t (i + 1)) (getD t (2 * i + 1) 0))
+    ≡ cond (eqb (getD t (2 * i) 0) startKind) (struckTo (from t (i + 1)) (getD t (2 * i + 1) 0))
     (getD t (2 * i) 0 ∷ getD t (2 * i + 1) 0 ∷ struckWords (from t (i + 1)))
 unfolding struckWords
 start-step t i h = rw (observe t i h)

@@ -7,6 +7,7 @@ ghost use Prim.Native.Nat.{_+_, _*_, _≤_};
 ghost use lib.Dec.{eqb};
 ghost use mathlib.Core.Bool.{_&&_};
 ghost use lib.ListN.{length, getD};
+ghost use Rattle.rules.specs.Rules.Instructions.{rollbackKind};
 ghost use Rattle.rules.specs.Rules.Pairs.{sameWords};
 ghost use Rattle.trace.specs.Struck.{struckWords, Closed, Outside};
 
@@ -30,7 +31,7 @@ pub fn same(a: &[u64], b: &[u64]) -> bool
 // Whether an observation is a rollback of the branch.
 fn closes(t: &[u64], i: usize, id: u64) -> bool
     requires { ⌜ 2 * i + 2 ≤ length (now t) ⌝ }
-    ensures { λ r. ⌜ r ≡ (eqb (getD (now (t .entry)) (2 * i) 0) 1 && eqb (getD (now (t .entry)) (2 * i + 1) 0) id) ⌝ }
+    ensures { λ r. ⌜ r ≡ (eqb (getD (now (t .entry)) (2 * i) 0) rollbackKind && eqb (getD (now (t .entry)) (2 * i + 1) 0) id) ⌝ }
 {
     if t[2 * i] != ROLLBACK {
         return false;

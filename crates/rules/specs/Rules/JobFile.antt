@@ -13,7 +13,7 @@ use Rattle.rules.specs.declared.Refusal.{Refusal}
 use Rattle.rules.specs.declared.Refusal.the-variants as refusals
 use Rattle.rules.specs.Rules.Operators.{Op1, neg, inv, Op2, add, sub, mul, and, or, xor, shl, shr, eq, ult}
 use Rattle.rules.specs.Rules.Expressions.{Token, reg, const, op1, op2, Expr, sound}
-use Rattle.rules.specs.Rules.Instructions.{Instr, skip, assign, load, store, jmp, beqz, cassign, spbarr, windowCosts}
+use Rattle.rules.specs.Rules.Instructions.{Instr, skip, assign, load, store, jmp, beqz, cassign, spbarr, windowCosts, branching, other, branchView}
 use Rattle.rules.specs.Rules.Runs.{Job}
 
 -- "Little-endian.": the number in the k bytes at an offset
@@ -146,14 +146,7 @@ postfix spbarr = true
 
 -- "beqz label over n, or the next label", of the instruction with label i
 abbrev pub branchLabelHolds : ℕ → ℕ → Instr → Bool
-branchLabelHolds n i skip = true
-branchLabelHolds n i (assign r e) = true
-branchLabelHolds n i (load r e) = true
-branchLabelHolds n i (store r e) = true
-branchLabelHolds n i (jmp e) = true
-branchLabelHolds n i (beqz r l) = leb l n && not (eqb l (i + 1))
-branchLabelHolds n i (cassign r c e) = true
-branchLabelHolds n i spbarr = true
+branchLabelHolds n i x = elim (branchView x) [ branching r l ↦ leb l n && not (eqb l (i + 1)) | other ↦ true ]
 
 -- ---- the program
 -- "4, 5, 6 are tried on one instruction before the next is read": 4 on the whole instruction, then 5, then 6

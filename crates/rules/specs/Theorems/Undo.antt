@@ -7,13 +7,13 @@ use mathlib.Core.List.{List, [], _∷_, _++_}
 use mathlib.Core.Logic.{_≢_}
 use Prim.Native.Nat.{ℕ, zero, suc, _+_, _-_, _≤_}
 use native.Mathlib.Omega.{arith}
-use lib.Dec.{eqb, ltb}
+use lib.Dec.{ltb}
 use lib.ListN.{length, getD, length-append}
 use lib.Seq.{set-set, set-getD}
 use Rattle.location.specs.Sets.{registerLocation, cellLocation}
 use Rattle.rules.specs.declared.Tagged.{Tagged}
 use Rattle.rules.specs.Rules.Expressions.{eval}
-use Rattle.rules.specs.Rules.Instructions.{Instr, skip, assign, load, store, jmp, beqz, cassign, spbarr, kind, windowCosts}
+use Rattle.rules.specs.Rules.Instructions.{Instr, skip, assign, load, store, jmp, beqz, cassign, spbarr, kind, isBarrier, branching, other, branchView, windowCosts}
 use Rattle.rules.specs.Rules.Plain.{State, at, put, Code, fetch, joined, storedTo, branchTo, exec}
 use Rattle.rules.specs.Rules.Mispredicting.{Branch, Machine, Step, remaining, lowered, lower, ordinary, newWindow, opening, forward, rolling, step}
 use Rattle.rules.specs.Rules.Loop.{ended}
@@ -119,7 +119,7 @@ dropped (u ∷ us) = us
 
 -- a branch opens a part; any other instruction adds its change to the newest
 unfoldable pub logForward : Code → State → Instr → UndoLog → UndoLog
-logForward code σ i us = cond (eqb (kind i) 5) ([] ∷ us) (added (changes code σ i) us)
+logForward code σ i us = elim (branchView i) [ branching r l ↦ [] ∷ us | other ↦ added (changes code σ i) us ]
 
 -- The log after a step that makes so many rollbacks, 0 or 1: "Rollback restores sets too", and drops the newest part.
 unfoldable pub logBy : ℕ → Code → Machine → UndoLog → UndoLog
@@ -156,7 +156,7 @@ windowCosts-positive = record { each = one }
 -- so a window that is lowered falls
 pub remaining-less : (code : Code) → PositiveCosts (code .costs) → (i : Instr) (v : ℕ) → v ≢ 0 → remaining code i v + 1 ≤ v
 unfolding remaining
-remaining-less code h i v ne = go (eqb (kind i) 7)
+remaining-less code h i v ne = go (isBarrier i)
   where
     go : (x : Bool) → cond x 0 (v - getD (code .costs) (kind i) 0) + 1 ≤ v
     go true = omega (arith, ne)
@@ -199,9 +199,9 @@ KeepsOn code M i s =
 
 module _ (code : Code) (positive : PositiveCosts (code .costs)) (σ : State) (p n : ℕ) where
   -- ---- with nothing open
-  empty-ordinary : (i : Instr) → eqb (kind i) 5 ≡ false → (let M = machineWith σ p [] n in KeepsOn code M i (ordinary code M i))
+  empty-ordinary : (i : Instr) → branchView i ≡ other → (let M = machineWith σ p [] n in KeepsOn code M i (ordinary code M i))
   unfolding ordinary lower logForward added
-  empty-ordinary i e us none = rw e none
+  empty-ordinary i e us none = rw (logForward, e) none
 
   empty-opening : (r l : ℕ) → (let M = machineWith σ p [] n in KeepsOn code M (beqz r l) (opening code M r l))
   unfolding opening lower newWindow logForward size
@@ -209,13 +209,13 @@ module _ (code : Code) (positive : PositiveCosts (code .costs)) (σ : State) (p 
 
   -- ---- with branch b on top, whose window is left
   module _ (b : Branch) (bs : List Branch) (ne : b .window ≢ 0) where
-    open-ordinary : (i : Instr) → eqb (kind i) 5 ≡ false
+    open-ordinary : (i : Instr) → branchView i ≡ other
         → (let M = machineWith σ p (b ∷ bs) n in KeepsOn code M i (ordinary code M i))
     unfolding ordinary lower logForward added size
     open-ordinary i e us (more u vs s h r) =
         let one = changes-one code σ i in
         let less = remaining-less code positive i (b .window) ne in
-        rw e (more {σ = exec code σ p i .state} {b = lowered code i b} {bs = bs} (changes code σ i ++ u) vs
+        rw (logForward, e) (more {σ = exec code σ p i .state} {b = lowered code i b} {bs = bs} (changes code σ i ++ u) vs
         (rw (restore-exec code σ p i u) s) (simp length-append (omega arith)) r)
 
     open-opening : (r l : ℕ) → (let M = machineWith σ p (b ∷ bs) n in KeepsOn code M (beqz r l) (opening code M r l))
