@@ -24,7 +24,7 @@ use Rattle.rules.specs.Rules.Calls.{written, traceWords}
 use Rattle.rules.specs.Theorems.RunLaws.{run-over, run-spent, run-full, run-step}
 use Rattle.rules.specs.Theorems.JobLaws.{Limits, length-program}
 use Rattle.rules.specs.Theorems.CallLaws.{length-traceWords}
-use Rattle.rules.specs.Theorems.Undo.{Change}
+use Rattle.rules.specs.Rules.Changes.{Change}
 use Rattle.token.specs.Meaning.{valueOr}
 use Rattle.descriptor.specs.declared.Descriptor.{Descriptor}
 use Rattle.descriptor.specs.Descriptors.{descriptorIn, Described}

@@ -4,6 +4,7 @@ pub mod Expressions
 pub mod Instructions
 pub mod Plain
 pub mod Mispredicting
+pub mod Changes
 pub mod Loop
 pub mod Runs
 pub mod Answers

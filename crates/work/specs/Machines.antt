@@ -8,7 +8,7 @@ use lib.ListN.{length}
 use Rattle.rules.specs.Rules.Calls.{workingWords}
 use Rattle.rules.specs.Rules.Plain.{State}
 use Rattle.rules.specs.Rules.Mispredicting.{Branch, Machine}
-use Rattle.rules.specs.Theorems.Undo.{Change, restore}
+use Rattle.rules.specs.Rules.Changes.{Change, restore}
 use Rattle.work.specs.declared.BranchEntry.{BranchEntry}
 use Rattle.work.specs.declared.machine.Control.{Control}
 use Rattle.work.specs.Words.{taggedAt, changeAt, entryAt}
