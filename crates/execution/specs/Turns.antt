@@ -13,6 +13,7 @@ use Rattle.rules.specs.declared.Stop.{Stop}
 use Rattle.rules.specs.declared.Stop.the-variants.{Finished, Spent, TraceFull}
 use Rattle.rules.specs.declared.Trailer.{Trailer}
 use Rattle.rules.specs.declared.Tagged.{Tagged}
+use Rattle.rules.specs.Rules.Limits.{maxInstructions}
 use Rattle.rules.specs.Rules.Expressions.{eval}
 use Rattle.rules.specs.Rules.Instructions.{Instr, beqz, Observation, pc, windowCosts}
 use Rattle.rules.specs.Rules.Plain.{State, Code, endPlace}
@@ -98,7 +99,7 @@ pub record RollBackTried (w w′ area area′ : List ℕ) (c : Progress) (x : Ne
 pub record CanStep (w area : List ℕ) (c : Progress) : Type 0 where
   pub live : Live w c
   pub counted : Counted c area
-  pub place : c .control .place < 512
+  pub place : c .control .place < maxInstructions
 
 -- rule 2 for beqz r, l
 pub record OpeningTried (w w′ area area′ : List ℕ) (r l window : ℕ) (c : Progress) (x : Next) (c′ : Progress) : Type 0 where

@@ -1,4 +1,5 @@
 -- Document 01 as definitions: what a reader has to believe. Each file uses only those above it.
+pub mod Limits
 pub mod Operators
 pub mod Expressions
 pub mod Instructions

@@ -7,6 +7,7 @@ use lib.ListN.{length, drop}
 use lib.Seq.{sets}
 use Rattle.location.specs.declared.LocationSet.{LocationSet}
 use Rattle.location.specs.Sets.{registers, limit}
+use Rattle.rules.specs.Rules.Limits.{maxBudget}
 use Rattle.rules.specs.Rules.Instructions.{Instr, Observation, windowCosts}
 use Rattle.rules.specs.Rules.Plain.{State, Code}
 use Rattle.rules.specs.Rules.Plain as plain
@@ -28,7 +29,7 @@ use Rattle.stepping.specs.Progress.{logOf, progressAfter}
 pub record Counted (c : Progress) (t : List ℕ) : Type 0 where
   pub opened : c .control .opened ≤ c .steps
   pub depth : c .control .depth ≤ c .control .opened
-  pub steps : c .steps ≤ 1000000
+  pub steps : c .steps ≤ maxBudget
   pub room : 2 * c .observations ≤ length t
 
 -- The words w, the trace area t and the progress c become those after the rules' step s of a machine with n locations.
