@@ -27,6 +27,21 @@ unfoldable mutual
 abbrev pub from : List ℕ → ℕ → List ℕ
 from t i = drop (2 * i) t
 
+-- the kind and the value of observation i
+abbrev pub kindAt : List ℕ → ℕ → ℕ
+kindAt t i = getD t (2 * i) 0
+
+abbrev pub valueAt : List ℕ → ℕ → ℕ
+valueAt t i = getD t (2 * i + 1) 0
+
+-- observation i is a rollback of branch id
+abbrev pub closesAt : List ℕ → ℕ → ℕ → Bool
+closesAt t i id = eqb (kindAt t i) rollbackKind && eqb (valueAt t i) id
+
+-- observation i of one trace is observation j of the other
+abbrev pub sameAt : List ℕ → ℕ → List ℕ → ℕ → Bool
+sameAt a i b j = eqb (kindAt a i) (kindAt b j) && eqb (valueAt a i) (valueAt b j)
+
 -- Observation r is the one after the rollback of branch id, from observation i on.
 pub record Closed (t : List ℕ) (i id r : ℕ) : Type 0 where
   pub later : i ≤ r
@@ -38,7 +53,7 @@ pub record Outside (t : List ℕ) (i r : ℕ) : Type 0 where
   pub later : i ≤ r
   pub room : 2 * r ≤ length t
   pub same : struckWords (from t i) ≡ struckWords (from t r)
-  pub kept : 2 * r + 2 ≤ length t → struckWords (from t r) ≡ getD t (2 * r) 0 ∷ getD t (2 * r + 1) 0 ∷ struckWords (from t (r + 1))
+  pub kept : 2 * r + 2 ≤ length t → struckWords (from t r) ≡ kindAt t r ∷ valueAt t r ∷ struckWords (from t (r + 1))
 
 -- ---- laws
 -- one of two traces

@@ -13,7 +13,9 @@ use Rattle.listing.proofs.put_trace.Statement.{statement}
 use Rattle.listing.proofs.put_trace.Tie as tie
 
 abbrev Inv-loop : tie.InvT-loop
-Inv-loop out₀ at n count trace next₀ left₀ i₀ out next left i = Left out₀ at (traceLines n (observationsIn count trace)) out next (traceLines n (observationsIn left (drop i trace))) × (i ≤ length trace)
+Inv-loop out₀ at n count trace next₀ left₀ i₀ out next left i =
+    Left out₀ at (traceLines n (observationsIn count trace)) out next (traceLines n (observationsIn left (drop i trace)))
+    × (i ≤ length trace)
 
 abbrev μ-loop : tie.MeasureT-loop
 μ-loop out₀ at n count trace next₀ left₀ i₀ out next left i = left
