@@ -12,7 +12,7 @@ use Rattle.rules.specs.Rules.Instructions.{Instr, skip, assign, load, store, jm
 use Rattle.rules.specs.Rules.Plain.{Code, State, endPlace, fetch, exec}
 use Rattle.rules.specs.Rules.Mispredicting.{Branch, Machine, Step, expired, rolling, opening, forward, ordinary, lower, stepOn, step, plainStep}
 use Rattle.rules.specs.Rules.Runs.{overOn, over}
-use Rattle.rules.specs.Theorems.Undo.{Change}
+use Rattle.rules.specs.Rules.Changes.{Change}
 use Rattle.work.specs.declared.BranchEntry.{BranchEntry}
 use Rattle.work.specs.declared.machine.Control.{Control}
 use Rattle.work.specs.Words.{changeAt, entryAt}

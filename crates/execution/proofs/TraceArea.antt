@@ -6,7 +6,7 @@ use Prim.Native.Nat.{ℕ, _+_, _*_, _≤_}
 use native.Mathlib.Omega.{arith}
 use lib.ListN.{length, drop, length-append, length-drop}
 use lib.Seq.{sets, sets-eq, take-at, drop-at, drop-drop}
-use Rattle.rules.specs.Rules.Instructions.{Observation, start, rollback, pc, loaded, stored}
+use Rattle.rules.specs.Rules.Instructions.{Observation}
 use Rattle.rules.specs.Rules.Calls.{written, traceWords}
 use Rattle.rules.specs.Theorems.CallLaws.{length-traceWords}
 
@@ -24,11 +24,7 @@ written-more ws vs a h =
 trace-more : (os qs : List Observation) → traceWords (os ++ qs) ≡ traceWords os ++ traceWords qs
 unfolding traceWords
 trace-more [] qs = refl
-trace-more (start i ∷ os) qs = ap (λ (ws : List ℕ). 0 ∷ i ∷ ws) (trace-more os qs)
-trace-more (rollback i ∷ os) qs = ap (λ (ws : List ℕ). 1 ∷ i ∷ ws) (trace-more os qs)
-trace-more (pc q ∷ os) qs = ap (λ (ws : List ℕ). 2 ∷ q ∷ ws) (trace-more os qs)
-trace-more (loaded l ∷ os) qs = ap (λ (ws : List ℕ). 3 ∷ l ∷ ws) (trace-more os qs)
-trace-more (stored l ∷ os) qs = ap (λ (ws : List ℕ). 4 ∷ l ∷ ws) (trace-more os qs)
+trace-more (o ∷ os) qs = ap (λ (ws : List ℕ). o .kind ∷ o .value ∷ ws) (trace-more os qs)
 
 -- an area with more observations, after those that stand there
 pub observed-more : (os qs : List Observation) (area area′ a₀ : List ℕ) (k : ℕ) → length os ≡ k → area ≡ written (traceWords os) a₀

@@ -9,6 +9,7 @@ use Rattle.location.specs.Sets.{registers}
 use Rattle.rules.specs.declared.Stop.{Stop}
 use Rattle.rules.specs.declared.Tagged.{Tagged}
 use Rattle.rules.specs.declared.Trailer.{Trailer}
+use Rattle.rules.specs.Rules.Limits.{maxInstructions}
 use Rattle.rules.specs.Rules.Expressions.{eval}
 use Rattle.rules.specs.Rules.Instructions.{Observation, windowCosts}
 use Rattle.rules.specs.Rules.Plain.{Code, endPlace}
@@ -108,7 +109,7 @@ pub record FreeUntil (budget until : ℕ) (x : Standing) : Type 0 where
 pub record Executing (p : List ℕ) (t : Trailer) (i : Instruction) (a : Tagged) (x : Standing) : Type 0 where
   pub unexpired : Unexpired (x .work) (x .progress)
   pub counted : Counted x
-  pub place : x .progress .control .place < 512
+  pub place : x .progress .control .place < maxInstructions
   pub limits : Limits t
   pub room : (code : Code) → 2 * (x .progress .observations + length (ordinary code (machineAt x (locations t)) (meaning p i) .obs)) ≤ length (x .trace)
   pub sound : postfix (meaning p i) ≡ true

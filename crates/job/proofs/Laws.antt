@@ -17,6 +17,7 @@ use Rattle.rules.specs.declared.Refusal.{Refusal}
 use Rattle.rules.specs.declared.Refusal.the-variants as refusals
 use Rattle.rules.specs.Rules.Instructions.{Instr}
 use Rattle.rules.specs.Rules.Runs.{Job}
+use Rattle.rules.specs.Rules.Limits.{maxBytes, trailerSize}
 use Rattle.rules.specs.Rules.JobFile.{Read, got, refused, sized, noneFrom, listed, accepted, rejected, program, jobOf, programOf, finish}
 use Rattle.program.specs.declared.Checked.{Checked}
 use Rattle.program.specs.declared.Checked.the-variants as check
@@ -25,9 +26,9 @@ use Rattle.job.specs.declared.JobRead.the-variants as job-read
 use Rattle.job.specs.Answers.{jobReadOf}
 
 -- a length that is allowed
-pub sized-true : {len : ℕ} → 16 ≤ len → len ≤ 16384 → sized len ≡ true
+pub sized-true : {len : ℕ} → trailerSize ≤ len → len ≤ maxBytes → sized len ≡ true
 unfolding sized
-sized-true {len} h g = rw (le-leb 16 len h, le-leb len 16384 g)
+sized-true {len} h g = rw (le-leb trailerSize len h, le-leb len maxBytes g)
 
 -- ---- the locations from l on, up to the limit of the set
 abbrev pub noneOn : LocationSet → ℕ → Bool

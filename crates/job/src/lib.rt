@@ -5,10 +5,13 @@ use location::LocationSet;
 use program::Checked;
 use rules::Refusal;
 use rules::Trailer;
+use rules::limits::MAX_BYTES;
+use rules::limits::TRAILER_SIZE;
 ghost use mathlib.Core.Path.{_≡_};
 ghost use Prim.Native.Nat.{_+_, _-_, _/_, _%_, _^_, _<_, _≤_};
 ghost use lib.ListN.{length, getD};
 ghost use Rattle.location.specs.Sets.{registers, limit};
+ghost use Rattle.rules.specs.Rules.Limits.{maxCells, listSize};
 ghost use Rattle.rules.specs.Rules.JobFile.{trailer, publicOf, noneFrom, programOf, finish, parse};
 ghost use Rattle.job.specs.Answers.{jobReadOf};
 
@@ -17,7 +20,7 @@ const REGISTERS: usize = Location::REGISTERS as usize;
 
 // The public list of a job file with these offsets.
 pub fn public_list(job: &[u8], t: Trailer) -> LocationSet
-    requires { ⌜ t .list + 32 ≤ length (now job) ⌝ }
+    requires { ⌜ t .list + listSize ≤ length (now job) ⌝ }
     ensures { λ r. ⌜ r ≡ publicOf t (now (job .entry)) ⌝ }
 {
     let at = t.list;
@@ -42,7 +45,7 @@ fn rest_of_word(set: LocationSet, l: usize) -> u64
 
 // Whether no cell from a first one on is in the set. What is left of a word that is 0 is passed at once.
 fn no_cell_from(set: LocationSet, first: usize) -> bool
-    requires { ⌜ first ≤ 240 ⌝ }
+    requires { ⌜ first ≤ maxCells ⌝ }
     ensures { λ r. ⌜ r ≡ noneFrom set (registers + first) (limit - (registers + first)) ⌝ }
 {
     let mut l = REGISTERS + first;
@@ -68,7 +71,7 @@ pub enum JobRead {
 
 // The program's tests, then that of the public list.
 fn check_parts(job: &[u8], t: Trailer) -> JobRead
-    requires { ⌜ (t .cells ≤ 240) × (t .state ≤ length (now job)) × (t .list + 32 ≤ length (now job)) ⌝ }
+    requires { ⌜ (t .cells ≤ maxCells) × (t .state ≤ length (now job)) × (t .list + listSize ≤ length (now job)) ⌝ }
     ensures { λ r. ⌜ r ≡ jobReadOf t (finish (now (job .entry)) t (programOf (now (job .entry)) t)) ⌝ }
 {
     let s = t.state;
@@ -90,13 +93,13 @@ pub fn read_job(job: &[u8]) -> JobRead
     ensures { λ r. ⌜ r ≡ jobReadOf (trailer (now (job .entry))) (parse (now (job .entry))) ⌝ }
 {
     let len = job.len();
-    if len < 16 {
+    if len < TRAILER_SIZE {
         return JobRead::Refused(Refusal::Length);
     }
-    if 16384 < len {
+    if MAX_BYTES < len {
         return JobRead::Refused(Refusal::Length);
     }
-    let t = trailer::trailer_at(job, len - 16);
+    let t = trailer::trailer_at(job, len - TRAILER_SIZE);
     if trailer::limits_hold(t) {
         if trailer::offsets_hold(t, len) {
             check_parts(job, t)

@@ -7,16 +7,21 @@ use Prim.Native.Nat.{ℕ}
 use Rattle.location.specs.declared.LocationSet.{LocationSet}
 use Rattle.location.specs.Sets.{union, subset}
 use Rattle.rules.specs.declared.Stop.{Stop}
-use Rattle.rules.specs.declared.Stop.the-variants.{Finished}
-use Rattle.rules.specs.declared.Verdict.the-variants.{Clean, Plain, Speculative}
+use Rattle.rules.specs.declared.Verdict.the-variants.{Undecided, Clean, Plain, Speculative}
 use Rattle.rules.specs.declared.PairWord.the-variants as words
-use Rattle.rules.specs.Rules.Runs.{judge}
-use Rattle.rules.specs.Rules.Pairs.{isFinished, sameWords}
+use Rattle.rules.specs.Rules.Runs.{isFinished, judge}
+use Rattle.rules.specs.Rules.Pairs.{sameWords}
 use Rattle.trace.specs.Struck.{struckWords}
 use Rattle.judgement.specs.Words.{pairWordOf}
 
 -- ---- the verdict
-module _ (public full plain : LocationSet) {stop : Stop} {b : Bool} (f : stop ≡ Finished) (e : b ≡ subset full public) where
+pub judged-undecided : (public : LocationSet) (stop : Stop) (full plain : LocationSet) → isFinished stop ≡ false
+    → Undecided ≡ judge public stop full plain
+unfolding judge
+judged-undecided public stop full plain f = rw f
+
+module _ (public : LocationSet) (stop : Stop) (full plain : LocationSet) {b : Bool} (f : isFinished stop ≡ true)
+    (e : b ≡ subset full public) where
   pub judged-clean : b ≡ true → Clean ≡ judge public stop full plain
   unfolding judge
   judged-clean t = rw (f, ← e, t)

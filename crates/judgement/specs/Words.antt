@@ -8,9 +8,9 @@ use Rattle.location.specs.SetLaws.{and-left, and-right}
 use Rattle.rules.specs.declared.Stop.{Stop}
 use Rattle.rules.specs.declared.Stop.the-variants.{Finished}
 use Rattle.rules.specs.declared.PairWord.{PairWord}
-use Rattle.rules.specs.Rules.Runs.{Job, mispredictingRun, plainRun}
+use Rattle.rules.specs.Rules.Runs.{Job, mispredictingRun, plainRun, isFinished}
 use Rattle.rules.specs.Rules.Calls.{traceWords}
-use Rattle.rules.specs.Rules.Pairs.{withState, alikeFrom, isFinished, sameWords, sameTrace, firstThatFits, pairWord}
+use Rattle.rules.specs.Rules.Pairs.{withState, alikeFrom, sameWords, sameTrace, firstThatFits, pairWord}
 use Rattle.rules.specs.Theorems.PlainRun.{demand2}
 use Rattle.rules.specs.Theorems.PairLaws.{finished-stop}
 use Rattle.trace.specs.Struck.{struckWords, struck-trace}

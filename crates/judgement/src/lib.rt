@@ -5,28 +5,8 @@ use rules::PairWord;
 use rules::Stop;
 use rules::Verdict;
 ghost use mathlib.Core.Path.{_≡_};
-ghost use Rattle.rules.specs.Rules.Runs.{judge};
-ghost use Rattle.rules.specs.Rules.Pairs.{isFinished};
+ghost use Rattle.rules.specs.Rules.Runs.{isFinished, judge};
 ghost use Rattle.judgement.specs.Words.{pairWordOf};
-
-// The verdict on a run, by its stop, D and the plain set.
-pub fn verdict_of(public: LocationSet, stop: Stop, full: LocationSet, plain: LocationSet) -> Verdict
-    ensures { λ r. ⌜ r ≡ judge public stop full plain ⌝ }
-{
-    match stop {
-        Stop::Spent => Verdict::Undecided,
-        Stop::TraceFull => Verdict::Undecided,
-        Stop::Finished => {
-            if full.subset(public) {
-                return Verdict::Clean;
-            }
-            if full.subset(public.union(plain)) {
-                return Verdict::Plain;
-            }
-            Verdict::Speculative
-        }
-    }
-}
 
 fn finished(stop: Stop) -> bool
     ensures { λ r. ⌜ r ≡ isFinished stop ⌝ }
@@ -36,6 +16,22 @@ fn finished(stop: Stop) -> bool
         Stop::Spent => false,
         Stop::TraceFull => false,
     }
+}
+
+// The verdict on a run, by its stop, D and the plain set.
+pub fn verdict_of(public: LocationSet, stop: Stop, full: LocationSet, plain: LocationSet) -> Verdict
+    ensures { λ r. ⌜ r ≡ judge public stop full plain ⌝ }
+{
+    if !finished(stop) {
+        return Verdict::Undecided;
+    }
+    if full.subset(public) {
+        return Verdict::Clean;
+    }
+    if full.subset(public.union(plain)) {
+        return Verdict::Plain;
+    }
+    Verdict::Speculative
 }
 
 // The first word that fits, of two stops and two traces.

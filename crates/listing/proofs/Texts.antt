@@ -16,47 +16,48 @@ use Rattle.rules.specs.declared.Refusal.{Refusal}
 use Rattle.rules.specs.declared.RunOutcome.{RunOutcome}
 use Rattle.rules.specs.declared.RunOutcome.the-variants as runs
 use Rattle.rules.specs.declared.RunAnswer.{RunAnswer}
-use Rattle.rules.specs.Rules.Instructions.{start, rollback, pc, loaded, stored}
+use Rattle.rules.specs.Rules.Instructions.{observed, startKind, rollbackKind, pcKind, loadKind, storeKind, pc}
 use Rattle.rules.specs.Rules.Answers.{text, refusalNumber}
 use Rattle.rules.specs.Rules.Demands.{observationCount}
-use Rattle.rules.specs.Rules.Listing.{decimal, line, numberLine, placeText, observationLine, traceLines, locationText, members, summary, outcomeLines, answerLines}
-use Rattle.listing.specs.Lines.{observationOf, observationsIn, memberText, printed}
+use Rattle.rules.specs.Rules.Listing.{decimal, line, numberLine, kindWord, valueText, observationLine, traceLines, locationText, members, summary, outcomeLines, answerLines}
+use Rattle.listing.specs.Lines.{observationsIn, memberText, printed}
 
 -- ---- places
 pub place-end : (n p : ℕ) → p ≡ n → observationLine n (pc p) ≡ text "pc end\n"
-unfolding observationLine placeText line text
+unfolding observationLine kindWord valueText line text
 place-end n p e = rw (eq-eqb p n e)
 
 pub place-number : (n p : ℕ) → (p ≡ n → ⊥) → observationLine n (pc p) ≡ numberLine (text "pc") p
-unfolding observationLine placeText numberLine
+unfolding observationLine kindWord valueText numberLine
 place-number n p e = rw (ne-eqb p n e)
 
 -- ---- observations by the kind of their words
 module _ (n k v : ℕ) where
-  pub start-line : k ≡ 0 → observationLine n (observationOf k v) ≡ numberLine (text "start") v
-  unfolding observationLine observationOf
+  pub start-line : k ≡ startKind → observationLine n (observed k v) ≡ numberLine (text "start") v
+  unfolding observationLine kindWord valueText numberLine
   start-line e = rw e
 
-  pub rollback-line : k ≡ 1 → observationLine n (observationOf k v) ≡ numberLine (text "rollback") v
-  unfolding observationLine observationOf
+  pub rollback-line : k ≡ rollbackKind → observationLine n (observed k v) ≡ numberLine (text "rollback") v
+  unfolding observationLine kindWord valueText numberLine
   rollback-line e = rw e
 
-  pub pc-line : k ≡ 2 → observationLine n (observationOf k v) ≡ observationLine n (pc v)
-  unfolding observationOf
+  pub pc-line : k ≡ pcKind → observationLine n (observed k v) ≡ observationLine n (pc v)
   pc-line e = rw e
 
-  pub load-line : k ≡ 3 → observationLine n (observationOf k v) ≡ numberLine (text "load") v
-  unfolding observationLine observationOf
+  pub load-line : k ≡ loadKind → observationLine n (observed k v) ≡ numberLine (text "load") v
+  unfolding observationLine kindWord valueText numberLine
   load-line e = rw e
 
-  pub store-line : 4 ≤ k → observationLine n (observationOf k v) ≡ numberLine (text "store") v
-  unfolding observationLine observationOf
-  store-line h = rw (List·getD-eq-default (start ∷ rollback ∷ pc ∷ loaded ∷ []) stored)
+  pub store-line : storeKind ≤ k → observationLine n (observed k v) ≡ numberLine (text "store") v
+  unfolding observationLine kindWord valueText numberLine
+  store-line h =
+      let other : k ≡ pcKind → ⊥ = λ e. omega arith in
+      rw (ne-eqb k pcKind other, List·getD-eq-default (text "start" ∷ text "rollback" ∷ text "pc" ∷ text "load" ∷ []) (text "store") h)
 
 -- ---- a trace observation by observation
 pub trace-next : (n left : ℕ) (ws : List ℕ) (i : ℕ) → 0 < left → i + 1 < length ws
     → traceLines n (observationsIn left (drop i ws))
-    ≡ observationLine n (observationOf (getD ws i 0) (getD ws (i + 1) 0)) ++ traceLines n (observationsIn (left - 1) (drop (i + 2) ws))
+    ≡ observationLine n (observed (getD ws i 0) (getD ws (i + 1) 0)) ++ traceLines n (observationsIn (left - 1) (drop (i + 2) ws))
 unfolding traceLines observationsIn
 trace-next n zero ws i h r = absurd (omega arith)
 trace-next n (suc k) ws i h r =

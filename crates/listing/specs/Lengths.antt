@@ -1,7 +1,7 @@
 -- How long a printed run can be: at most 30 bytes a line of the trace, and 11,372 bytes after them.
 -- Assumes nothing.
 use mathlib.Core.Path.{_≡_}
-use mathlib.Core.Bool.{Bool, true, false, cond}
+use mathlib.Core.Bool.{Bool, true, false, _&&_, cond}
 use mathlib.Core.List.{List, [], _∷_, _++_}
 use Prim.Native.Nat.{ℕ, zero, suc, _+_, _-_, _*_, _/_, _%_, _≤_}
 use native.Mathlib.Omega.{arith}
@@ -17,9 +17,9 @@ use Rattle.rules.specs.declared.Counts.{Counts}
 use Rattle.rules.specs.declared.RunOutcome.{RunOutcome}
 use Rattle.rules.specs.declared.RunOutcome.the-variants as runs
 use Rattle.rules.specs.declared.RunAnswer.{RunAnswer}
-use Rattle.rules.specs.Rules.Instructions.{Observation, start, rollback, pc, loaded, stored}
+use Rattle.rules.specs.Rules.Instructions.{Observation, pcKind}
 use Rattle.rules.specs.Rules.Answers.{text, stopWord, verdictWord, refusalNumber}
-use Rattle.rules.specs.Rules.Listing.{digits, decimal, line, numberLine, placeText, observationLine, traceLines, locationText, members, setLine, summary, outcomeLines, answerLines}
+use Rattle.rules.specs.Rules.Listing.{digits, decimal, line, numberLine, kindWord, valueText, observationLine, traceLines, locationText, members, setLine, summary, outcomeLines, answerLines}
 use Rattle.listing.specs.Lines.{observationsIn}
 
 -- one of two texts
@@ -50,14 +50,22 @@ pub number-line-bound : (word : List ℕ) (n : ℕ) → length (numberLine word 
 number-line-bound word n = omega (arith, number-line-length word n, decimal-length n)
 
 -- ---- the trace
+kind-length : (k : ℕ) → length (kindWord k) ≤ 8
+unfolding kindWord text
+kind-length zero = omega arith
+kind-length (suc zero) = omega arith
+kind-length (suc (suc zero)) = omega arith
+kind-length (suc (suc (suc zero))) = omega arith
+kind-length (suc (suc (suc (suc k)))) = omega arith
+
+value-length : (n : ℕ) (o : Observation) → length (valueText n o) ≤ 20
+unfolding valueText text
+value-length n o =
+    cond-length (eqb (o .kind) pcKind && eqb (o .value) n) (text "end") (decimal (o .value)) 20 (omega arith) (decimal-length (o .value))
+
 observation-length : (n : ℕ) (o : Observation) → length (observationLine n o) ≤ 30
-unfolding observationLine text placeText
-observation-length n (start i) = omega (arith, number-line-bound (text "start") i)
-observation-length n (rollback i) = omega (arith, number-line-bound (text "rollback") i)
-observation-length n (pc p) =
-    omega (arith, line-length (text "pc") (32 ∷ placeText n p), cond-length (eqb p n) (text "end") (decimal p) 20 (omega arith) (decimal-length p))
-observation-length n (loaded a) = omega (arith, number-line-bound (text "load") a)
-observation-length n (stored a) = omega (arith, number-line-bound (text "store") a)
+unfolding observationLine
+observation-length n o = omega (arith, line-length (kindWord (o .kind)) (32 ∷ valueText n o), kind-length (o .kind), value-length n o)
 
 pub trace-length : (n : ℕ) (os : List Observation) → length (traceLines n os) ≤ 30 * length os
 unfolding traceLines

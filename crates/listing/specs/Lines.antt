@@ -4,12 +4,12 @@ use mathlib.Core.Path.{_≡_}
 use mathlib.Core.Bool.{cond}
 use mathlib.Core.List.{List, [], _∷_}
 use Prim.Native.Nat.{ℕ, zero, suc, _+_}
-use lib.ListN.{length, getD}
+use lib.ListN.{length}
 use lib.Seq.{sets}
 use Rattle.location.specs.declared.LocationSet.{LocationSet}
 use Rattle.location.specs.Sets.{member}
 use Rattle.rules.specs.declared.RunAnswer.{RunAnswer}
-use Rattle.rules.specs.Rules.Instructions.{Observation, start, rollback, pc, loaded, stored}
+use Rattle.rules.specs.Rules.Instructions.{Observation, observed}
 use Rattle.rules.specs.Rules.Demands.{observationCount}
 use Rattle.rules.specs.Rules.Listing.{locationText, answerLines}
 
@@ -19,16 +19,12 @@ pub record Put (before : List ℕ) (at : ℕ) (bytes after : List ℕ) (next : �
   pub area : after ≡ sets before at bytes
   pub place : next ≡ at + length bytes
 
--- an observation by its two words; a kind over 4 stands in no trace
-unfoldable pub observationOf : ℕ → ℕ → Observation
-observationOf k v = getD (start ∷ rollback ∷ pc ∷ loaded ∷ []) k stored v
-
 -- the first k observations of these words, or as many as there are
 unfoldable pub observationsIn : ℕ → List ℕ → List Observation
 observationsIn zero ws = []
 observationsIn (suc k) [] = []
 observationsIn (suc k) (x ∷ []) = []
-observationsIn (suc k) (x ∷ v ∷ ws) = observationOf x v ∷ observationsIn k ws
+observationsIn (suc k) (x ∷ v ∷ ws) = observed x v ∷ observationsIn k ws
 
 -- what is printed of a location in the line of a set
 abbrev pub memberText : LocationSet → ℕ → List ℕ

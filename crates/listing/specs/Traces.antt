@@ -6,22 +6,18 @@ use Prim.Native.Nat.{ℕ}
 use lib.ListN.{length, drop}
 use Rattle.rules.specs.declared.Refusal.{Refusal}
 use Rattle.rules.specs.declared.RunAnswer.{RunAnswer}
-use Rattle.rules.specs.Rules.Instructions.{Observation, start, rollback, pc, loaded, stored}
+use Rattle.rules.specs.Rules.Instructions.{Observation}
 use Rattle.rules.specs.Rules.Runs.{Job, Result}
 use Rattle.rules.specs.Rules.Calls.{traceWords, written, counts, runReport, runRefused}
 use Rattle.rules.specs.Rules.Demands.{observationCount}
 use Rattle.rules.specs.Rules.Listing.{answerLines}
-use Rattle.listing.specs.Lines.{observationOf, observationsIn, printed}
+use Rattle.listing.specs.Lines.{observationsIn, printed}
 
 -- the words of a trace stand for the trace
 pub observations-words : (os : List Observation) (rest : List ℕ) → observationsIn (length os) (traceWords os ++ rest) ≡ os
-unfolding observationOf observationsIn traceWords
+unfolding observationsIn traceWords
 observations-words [] rest = refl
-observations-words (start i ∷ os) rest = ap (λ (later : List Observation). start i ∷ later) (observations-words os rest)
-observations-words (rollback i ∷ os) rest = ap (λ (later : List Observation). rollback i ∷ later) (observations-words os rest)
-observations-words (pc p ∷ os) rest = ap (λ (later : List Observation). pc p ∷ later) (observations-words os rest)
-observations-words (loaded a ∷ os) rest = ap (λ (later : List Observation). loaded a ∷ later) (observations-words os rest)
-observations-words (stored a ∷ os) rest = ap (λ (later : List Observation). stored a ∷ later) (observations-words os rest)
+observations-words (o ∷ os) rest = ap (λ (later : List Observation). o ∷ later) (observations-words os rest)
 
 -- an answer that counts the observations whose words stand at the front
 pub printed-words : (n : ℕ) (os : List Observation) (rest : List ℕ) (a : RunAnswer) → observationCount (a .outcome) ≡ length os

@@ -18,9 +18,9 @@ ghost use Prim.Native.Nat.{_+_, _^_, _<_};
 ghost use lib.ListN.{length, drop};
 ghost use Rattle.location.specs.Sets.{limit};
 ghost use Rattle.rules.specs.Rules.Answers.{text, stopWord, verdictWord};
-ghost use Rattle.rules.specs.Rules.Instructions.{pc};
+ghost use Rattle.rules.specs.Rules.Instructions.{observed, pc};
 ghost use Rattle.rules.specs.Rules.Listing.{decimal, line, numberLine, observationLine, traceLines, locationText, members, setLine, summary};
-ghost use Rattle.listing.specs.Lines.{Put, observationOf, observationsIn, memberText, printed};
+ghost use Rattle.listing.specs.Lines.{Put, observationsIn, memberText, printed};
 
 // A number of 64 bits has at most 20 decimal digits; this is the place of the last.
 const LAST: usize = 19;
@@ -98,8 +98,8 @@ fn put_place_line(out: &mut [u8], at: usize, n: u64, place: u64) -> usize
 }
 
 fn put_observation(out: &mut [u8], at: usize, n: u64, kind: u64, value: u64) -> usize
-    requires { ⌜ at + length (observationLine n (observationOf kind value)) < 2 ^ 64 ⌝ }
-    ensures { λ r. ⌜ Put (now (out .entry)) at (observationLine n (observationOf kind value)) (now (out .exit)) r ⌝ }
+    requires { ⌜ at + length (observationLine n (observed kind value)) < 2 ^ 64 ⌝ }
+    ensures { λ r. ⌜ Put (now (out .entry)) at (observationLine n (observed kind value)) (now (out .exit)) r ⌝ }
 {
     match kind {
         START => put_number_line(out, at, b"start", value),

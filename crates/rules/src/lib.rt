@@ -1,10 +1,11 @@
-// The types that the contracts of the checker show, and the kinds of observation. What they mean is said in specs/Rules.
+// The types that the contracts of the checker show, the kinds of observation and the limits. What they mean is said in specs/Rules.
 use location::Location;
 use location::LocationSet;
 ghost use mathlib.Core.Path.{_≡_};
 ghost use Prim.Native.Nat.{_^_, _<_};
 ghost use Rattle.rules.specs.Rules.JobFile.{locations};
 
+pub mod limits;
 pub mod observation;
 
 const REGISTERS: usize = Location::REGISTERS as usize;

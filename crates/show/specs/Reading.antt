@@ -9,6 +9,7 @@ use lib.Dec.{leb}
 use lib.ListN.{length, take}
 use lib.Seq.{take-length}
 use borrow.Author.Tests.{lt-leb, le-leb}
+use Rattle.rules.specs.Rules.Limits.{maxBytes, trailerSize}
 use Rattle.rules.specs.Rules.Answers.{text}
 use Rattle.rules.specs.Rules.JobFile.{sized, parse}
 use Rattle.rules.specs.Rules.Calls.{runRefused}
@@ -31,13 +32,13 @@ unfolding sized parse listing listingOf answerLines runRefused
 empty-refused = refl
 
 -- more than 16,384 bytes
-pub long-refused : (bs : List ℕ) → 16384 < length bs → listing bs ≡ numberLine (text "refused") 1
+pub long-refused : (bs : List ℕ) → maxBytes < length bs → listing bs ≡ numberLine (text "refused") 1
 unfolding sized parse listing listingOf answerLines runRefused
 long-refused bs h =
-    let a : leb 16 (length bs) ≡ true = le-leb 16 (length bs) (omega arith) in
-    let b : leb (length bs) 16384 ≡ false = lt-leb (length bs) 16384 h in
+    let a : leb trailerSize (length bs) ≡ true = le-leb trailerSize (length bs) (omega arith) in
+    let b : leb (length bs) maxBytes ≡ false = lt-leb (length bs) maxBytes h in
     rw (a, b)
 
-pub full-refused : (r : Reading) (buffer : List ℕ) → 16384 < length buffer → FullRefused r buffer
+pub full-refused : (r : Reading) (buffer : List ℕ) → maxBytes < length buffer → FullRefused r buffer
 full-refused (readings.Bytes n) buffer h = λ e. rw (e, take-length buffer) (long-refused buffer h)
 full-refused readings.Failed buffer h = tt

@@ -2,11 +2,12 @@
 // Where the file cannot be read, or the listing cannot be written, it says why on standard error: a program has no exit status.
 // Assumed of the system: what the toolchain's libraries say of open, read and write.
 use libc::STDOUT_FILENO;
+use rules::limits::MAX_BYTES;
 ghost use lib.ListN.{length};
 ghost use Rattle.show.specs.Reading.{InBuffer, FullRefused};
 
 // One byte more than a job may have: a longer file is seen to be too long, and is read no further.
-const MOST: usize = 16385;
+const MOST: usize = MAX_BYTES + 1;
 
 // How many bytes of the file stand at the front of the buffer, or that it could not be read.
 enum Reading {

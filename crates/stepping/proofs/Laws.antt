@@ -12,7 +12,8 @@ use Rattle.rules.specs.Rules.Instructions.{Instr, windowCosts}
 use Rattle.rules.specs.Rules.Plain.{State, Code}
 use Rattle.rules.specs.Rules.Mispredicting.{Branch, remaining, lower, newWindow}
 use Rattle.rules.specs.Rules.Runs.{gather}
-use Rattle.rules.specs.Theorems.Undo.{Change, remaining-less, windowCosts-positive}
+use Rattle.rules.specs.Rules.Changes.{Change}
+use Rattle.rules.specs.Theorems.Undo.{remaining-less, windowCosts-positive}
 use Rattle.instruction.specs.declared.Instruction.{Instruction}
 use Rattle.instruction.specs.Meaning.{meaning}
 use Rattle.work.specs.declared.BranchEntry.{BranchEntry}

@@ -7,6 +7,7 @@ use lib.ListN.{length, drop}
 use lib.Seq.{sets}
 use Rattle.location.specs.declared.LocationSet.{LocationSet}
 use Rattle.location.specs.Sets.{registers, limit}
+use Rattle.rules.specs.Rules.Limits.{maxInstructions, maxBudget}
 use Rattle.rules.specs.Rules.Instructions.{Instr, Observation, windowCosts}
 use Rattle.rules.specs.Rules.Plain.{State, Code}
 use Rattle.rules.specs.Rules.Plain as plain
@@ -26,7 +27,7 @@ use Rattle.stepping.specs.Progress.{Standing, machineAt, logOf, progress
 -- The counts stay far below 2 ^ 64: no more branches were opened than steps made, and the trace area has the observations made.
 pub record Counted (x : Standing) : Type 0 where
   pub opened : x .progress .control .opened ≤ x .progress .steps
-  pub steps : x .progress .steps ≤ 1000000
+  pub steps : x .progress .steps ≤ maxBudget
   pub room : 2 * x .progress .observations ≤ length (x .trace)
 
 -- From x the run has come to y by the rules' step s of a machine with n locations.
@@ -75,7 +76,7 @@ pub record Steppable (observations : ℕ) (x : Standing) : Type 0 where
   pub unexpired : Unexpired (x .work) (x .progress)
   pub counted : Counted x
   pub more : 2 * (x .progress .observations + observations) ≤ length (x .trace)
-  pub place : x .progress .control .place < 512
+  pub place : x .progress .control .place < maxInstructions
 
 -- What instruction i leaves of the window: with a branch open less than there was, and with none not 0, if there was any.
 pub record Leaves (c : Control) (i : Instruction) (v : ℕ) : Type 0 where

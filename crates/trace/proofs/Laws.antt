@@ -12,8 +12,9 @@ use borrow.Author.Tests.{leb-true, leb-false}
 use lib.Dec.{eqb, leb}
 use lib.ListN.{length, getD, drop, length-drop, drop-of-length-le}
 use lib.Seq.{drop-cons}
+use Rattle.rules.specs.Rules.Instructions.{startKind}
 use Rattle.rules.specs.Rules.Pairs.{sameWords}
-use Rattle.trace.specs.Struck.{struckWords, struckTo, from, Outside}
+use Rattle.trace.specs.Struck.{struckWords, struckTo, from, kindAt, valueAt, closesAt, sameAt, Outside}
 
 -- ---- two lists of words compared
 pub same-step : (a b : List ℕ) (i : ℕ) → i < length a → i < length b
@@ -38,10 +39,10 @@ unfolding sameWords
 both-done a b i h e = rw (drop-of-length-le a {i = i} h, drop-of-length-le b {i = i} (omega arith))
 
 -- ---- one observation more
-pub observe : (t : List ℕ) (i : ℕ) → 2 * i + 2 ≤ length t → from t i ≡ getD t (2 * i) 0 ∷ getD t (2 * i + 1) 0 ∷ from t (i + 1)
+pub observe : (t : List ℕ) (i : ℕ) → 2 * i + 2 ≤ length t → from t i ≡ kindAt t i ∷ valueAt t i ∷ from t (i + 1)
 observe t i h =
     let e : 2 * (i + 1) ≡ suc (suc (2 * i)) = omega arith in
-    rw (e, add-one) (drop-cons t (2 * i) 0 (omega arith) ∙ ap (λ (ws : List ℕ). getD t (2 * i) 0 ∷ ws) (drop-cons t (suc (2 * i)) 0 (omega arith)))
+    rw (e, add-one) (drop-cons t (2 * i) 0 (omega arith) ∙ ap (λ (ws : List ℕ). kindAt t i ∷ ws) (drop-cons t (suc (2 * i)) 0 (omega arith)))
 
 -- less than an observation is left
 pub none-left : (ws : List ℕ) → length ws < 2 → struckWords ws ≡ []
@@ -68,15 +69,15 @@ done-to t i id h = none-left-to (from t i) id (left t i h)
 -- ---- the search for a rollback
 pub closes-step : (t : List ℕ) (i id : ℕ) → 2 * i + 2 ≤ length t
     → struckTo (from t i) id
-    ≡ cond (eqb (getD t (2 * i) 0) 1 && eqb (getD t (2 * i + 1) 0) id) (struckWords (from t (i + 1))) (struckTo (from t (i + 1)) id)
+    ≡ cond (closesAt t i id) (struckWords (from t (i + 1))) (struckTo (from t (i + 1)) id)
 unfolding struckTo
 closes-step t i id h = rw (observe t i h)
 
 -- ---- the search for an observation that is not struck out
 pub start-step : (t : List ℕ) (i : ℕ) → 2 * i + 2 ≤ length t
     → struckWords (from t i)
-    ≡ cond (eqb (getD t (2 * i) 0) 0) (struckTo (from t (i + 1)) (getD t (2 * i + 1) 0))
-    (getD t (2 * i) 0 ∷ getD t (2 * i + 1) 0 ∷ struckWords (from t (i + 1)))
+    ≡ cond (eqb (kindAt t i) startKind) (struckTo (from t (i + 1)) (valueAt t i))
+    (kindAt t i ∷ valueAt t i ∷ struckWords (from t (i + 1)))
 unfolding struckWords
 start-step t i h = rw (observe t i h)
 
@@ -96,11 +97,11 @@ module _ (a b : List ℕ) (i j : ℕ) where
   -- both go on
   pub struck-step : Outside a i i → Outside b j j → 2 * i + 2 ≤ length a → 2 * j + 2 ≤ length b
       → rest i j
-      ≡ ((eqb (getD a (2 * i) 0) (getD b (2 * j) 0) && eqb (getD a (2 * i + 1) 0) (getD b (2 * j + 1) 0)) && rest (i + 1) (j + 1))
+      ≡ (sameAt a i b j && rest (i + 1) (j + 1))
   unfolding sameWords
   struck-step x y h k =
       rw (x .kept h, y .kept k)
-      (joined (eqb (getD a (2 * i) 0) (getD b (2 * j) 0)) (eqb (getD a (2 * i + 1) 0) (getD b (2 * j + 1) 0)) (rest (i + 1) (j + 1)))
+      (joined (eqb (kindAt a i) (kindAt b j)) (eqb (valueAt a i) (valueAt b j)) (rest (i + 1) (j + 1)))
 
   -- the second has ended, the first goes on
   pub second-ended : Outside a i i → 2 * i + 2 ≤ length a → length b < 2 * j + 2 → rest i j ≡ false

@@ -6,7 +6,7 @@ use mathlib.Core.List.{List, [], _∷_}
 use Prim.Native.Nat.{ℕ, _+_, _*_, _≤_}
 use lib.Dec.{eqb}
 use lib.ListN.{length, getD, drop}
-use Rattle.rules.specs.Rules.Instructions.{Observation, start, rollback, pc, loaded, stored}
+use Rattle.rules.specs.Rules.Instructions.{Observation, startKind, rollbackKind}
 use Rattle.rules.specs.Rules.Calls.{traceWords}
 use Rattle.rules.specs.Rules.Strike.{strike, strikeTo}
 
@@ -15,17 +15,32 @@ unfoldable mutual
   pub struckWords : List ℕ → List ℕ
   struckWords [] = []
   struckWords (k ∷ []) = []
-  struckWords (k ∷ v ∷ ws) = cond (eqb k 0) (struckTo ws v) (k ∷ v ∷ struckWords ws)
+  struckWords (k ∷ v ∷ ws) = cond (eqb k startKind) (struckTo ws v) (k ∷ v ∷ struckWords ws)
 
   -- what follows the rollback of branch i, struck in its turn
   pub struckTo : List ℕ → ℕ → List ℕ
   struckTo [] i = []
   struckTo (k ∷ []) i = []
-  struckTo (k ∷ v ∷ ws) i = cond (eqb k 1 && eqb v i) (struckWords ws) (struckTo ws i)
+  struckTo (k ∷ v ∷ ws) i = cond (eqb k rollbackKind && eqb v i) (struckWords ws) (struckTo ws i)
 
 -- the words from observation i on
 abbrev pub from : List ℕ → ℕ → List ℕ
 from t i = drop (2 * i) t
+
+-- the kind and the value of observation i
+abbrev pub kindAt : List ℕ → ℕ → ℕ
+kindAt t i = getD t (2 * i) 0
+
+abbrev pub valueAt : List ℕ → ℕ → ℕ
+valueAt t i = getD t (2 * i + 1) 0
+
+-- observation i is a rollback of branch id
+abbrev pub closesAt : List ℕ → ℕ → ℕ → Bool
+closesAt t i id = eqb (kindAt t i) rollbackKind && eqb (valueAt t i) id
+
+-- observation i of one trace is observation j of the other
+abbrev pub sameAt : List ℕ → ℕ → List ℕ → ℕ → Bool
+sameAt a i b j = eqb (kindAt a i) (kindAt b j) && eqb (valueAt a i) (valueAt b j)
 
 -- Observation r is the one after the rollback of branch id, from observation i on.
 pub record Closed (t : List ℕ) (i id r : ℕ) : Type 0 where
@@ -38,14 +53,14 @@ pub record Outside (t : List ℕ) (i r : ℕ) : Type 0 where
   pub later : i ≤ r
   pub room : 2 * r ≤ length t
   pub same : struckWords (from t i) ≡ struckWords (from t r)
-  pub kept : 2 * r + 2 ≤ length t → struckWords (from t r) ≡ getD t (2 * r) 0 ∷ getD t (2 * r + 1) 0 ∷ struckWords (from t (r + 1))
+  pub kept : 2 * r + 2 ≤ length t → struckWords (from t r) ≡ kindAt t r ∷ valueAt t r ∷ struckWords (from t (r + 1))
 
 -- ---- laws
--- after a rollback: of this branch, or not
-closed-or-not : {ws vs : List ℕ} (b : Bool) (os ps : List Observation) → ws ≡ traceWords os → vs ≡ traceWords ps
+-- one of two traces
+one-of-two : {ws vs : List ℕ} (b : Bool) (os ps : List Observation) → ws ≡ traceWords os → vs ≡ traceWords ps
     → cond b ws vs ≡ traceWords (cond b os ps)
-closed-or-not true os ps e f = e
-closed-or-not false os ps e f = f
+one-of-two true os ps e f = e
+one-of-two false os ps e f = f
 
 -- on the words of observations it is the rules' striking out
 mutual
@@ -53,16 +68,11 @@ mutual
 
   pub struck-trace : (os : List Observation) → struckWords (traceWords os) ≡ traceWords (strike os)
   struck-trace [] = refl
-  struck-trace (start i ∷ os) = struck-trace-to os i
-  struck-trace (rollback i ∷ os) = ap (λ (ws : List ℕ). 1 ∷ i ∷ ws) (struck-trace os)
-  struck-trace (pc p ∷ os) = ap (λ (ws : List ℕ). 2 ∷ p ∷ ws) (struck-trace os)
-  struck-trace (loaded a ∷ os) = ap (λ (ws : List ℕ). 3 ∷ a ∷ ws) (struck-trace os)
-  struck-trace (stored a ∷ os) = ap (λ (ws : List ℕ). 4 ∷ a ∷ ws) (struck-trace os)
+  struck-trace (o ∷ os) =
+      one-of-two (eqb (o .kind) startKind) (strikeTo os (o .value)) (o ∷ strike os) (struck-trace-to os (o .value))
+      (ap (λ (ws : List ℕ). o .kind ∷ o .value ∷ ws) (struck-trace os))
 
   struck-trace-to : (os : List Observation) (i : ℕ) → struckTo (traceWords os) i ≡ traceWords (strikeTo os i)
   struck-trace-to [] i = refl
-  struck-trace-to (start j ∷ os) i = struck-trace-to os i
-  struck-trace-to (rollback j ∷ os) i = closed-or-not (eqb j i) (strike os) (strikeTo os i) (struck-trace os) (struck-trace-to os i)
-  struck-trace-to (pc p ∷ os) i = struck-trace-to os i
-  struck-trace-to (loaded a ∷ os) i = struck-trace-to os i
-  struck-trace-to (stored a ∷ os) i = struck-trace-to os i
+  struck-trace-to (o ∷ os) i =
+      one-of-two (eqb (o .kind) rollbackKind && eqb (o .value) i) (strike os) (strikeTo os i) (struck-trace os) (struck-trace-to os i)

@@ -4,11 +4,9 @@ use rules::observation::ROLLBACK;
 use rules::observation::START;
 ghost use mathlib.Core.Path.{_≡_};
 ghost use Prim.Native.Nat.{_+_, _*_, _≤_};
-ghost use lib.Dec.{eqb};
-ghost use mathlib.Core.Bool.{_&&_};
-ghost use lib.ListN.{length, getD};
+ghost use lib.ListN.{length};
 ghost use Rattle.rules.specs.Rules.Pairs.{sameWords};
-ghost use Rattle.trace.specs.Struck.{struckWords, Closed, Outside};
+ghost use Rattle.trace.specs.Struck.{struckWords, closesAt, sameAt, Closed, Outside};
 
 // Whether two traces are the same.
 pub fn same(a: &[u64], b: &[u64]) -> bool
@@ -30,7 +28,7 @@ pub fn same(a: &[u64], b: &[u64]) -> bool
 // Whether an observation is a rollback of the branch.
 fn closes(t: &[u64], i: usize, id: u64) -> bool
     requires { ⌜ 2 * i + 2 ≤ length (now t) ⌝ }
-    ensures { λ r. ⌜ r ≡ (eqb (getD (now (t .entry)) (2 * i) 0) 1 && eqb (getD (now (t .entry)) (2 * i + 1) 0) id) ⌝ }
+    ensures { λ r. ⌜ r ≡ closesAt (now (t .entry)) i id ⌝ }
 {
     if t[2 * i] != ROLLBACK {
         return false;
@@ -73,7 +71,7 @@ fn outside(t: &[u64], from: usize) -> usize
 // Whether an observation of one trace and one of another are the same.
 fn same_observation(a: &[u64], i: usize, b: &[u64], j: usize) -> bool
     requires { ⌜ (2 * i + 2 ≤ length (now a)) × (2 * j + 2 ≤ length (now b)) ⌝ }
-    ensures { λ r. ⌜ r ≡ (eqb (getD (now (a .entry)) (2 * i) 0) (getD (now (b .entry)) (2 * j) 0) && eqb (getD (now (a .entry)) (2 * i + 1) 0) (getD (now (b .entry)) (2 * j + 1) 0)) ⌝ }
+    ensures { λ r. ⌜ r ≡ sameAt (now (a .entry)) i (now (b .entry)) j ⌝ }
 {
     if a[2 * i] != b[2 * j] {
         return false;

@@ -1,9 +1,20 @@
 // The trailer of a job file: its numbers, their limits (refusal 2) and the offsets (refusal 3).
 use rules::Trailer;
+use rules::limits::LIST_SIZE;
+use rules::limits::MAX_BUDGET;
+use rules::limits::MAX_CELLS;
+use rules::limits::MAX_INSTRUCTIONS;
+use rules::limits::MAX_WINDOW;
+use rules::limits::REGISTERS_SIZE;
+use rules::limits::TRAILER_SIZE;
 ghost use mathlib.Core.Path.{_≡_};
 ghost use Prim.Native.Nat.{_+_, _≤_};
 ghost use lib.ListN.{length};
+ghost use Rattle.rules.specs.Rules.Limits.{maxCells, trailerSize};
 ghost use Rattle.rules.specs.Rules.JobFile.{little, trailerAt, limits, offsets};
+
+// The bytes after the state: the public list and the trailer.
+const TAIL: usize = LIST_SIZE + TRAILER_SIZE;
 
 fn field(s: &[u8], at: usize, k: usize) -> usize
     requires { ⌜ (k ≤ 8) × (at + k ≤ length (now s)) ⌝ }
@@ -14,7 +25,7 @@ fn field(s: &[u8], at: usize, k: usize) -> usize
 
 // The numbers of the trailer, in the 16 bytes at an offset.
 pub fn trailer_at(s: &[u8], at: usize) -> Trailer
-    requires { ⌜ at + 16 ≤ length (now s) ⌝ }
+    requires { ⌜ at + trailerSize ≤ length (now s) ⌝ }
     ensures { λ r. ⌜ r ≡ trailerAt (now (s .entry)) at ⌝ }
 {
     let state = field(s, at, 2);
@@ -42,36 +53,36 @@ pub fn limits_hold(t: Trailer) -> bool
     if t.count < 1 {
         return false;
     }
-    if 512 < t.count {
+    if MAX_INSTRUCTIONS < t.count {
         return false;
     }
-    if 240 < t.cells {
+    if MAX_CELLS < t.cells {
         return false;
     }
-    if 200 < t.window {
+    if MAX_WINDOW < t.window {
         return false;
     }
     if t.zero != 0 {
         return false;
     }
-    t.budget <= 1000000
+    t.budget <= MAX_BUDGET
 }
 
 // Whether the offsets of the state and of the list fit each other, the cells and the file's length.
 pub fn offsets_hold(t: Trailer, len: usize) -> bool
-    requires { ⌜ t .cells ≤ 240 ⌝ }
+    requires { ⌜ t .cells ≤ maxCells ⌝ }
     ensures { λ r. ⌜ r ≡ offsets t len ⌝ }
 {
     if t.list < t.state {
         return false;
     }
-    if t.list - t.state != 128 + 8 * t.cells {
+    if t.list - t.state != REGISTERS_SIZE + 8 * t.cells {
         return false;
     }
-    if len < 48 {
+    if len < TAIL {
         return false;
     }
-    if t.list == len - 48 {
+    if t.list == len - TAIL {
         return true;
     }
     false

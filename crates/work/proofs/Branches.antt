@@ -10,7 +10,7 @@ use Rattle.location.specs.Sets.{limit}
 use Rattle.rules.specs.declared.Tagged.{Tagged}
 use Rattle.rules.specs.Rules.Calls.{workingWords}
 use Rattle.rules.specs.Rules.Plain.{State}
-use Rattle.rules.specs.Theorems.Undo.{Change, restore}
+use Rattle.rules.specs.Rules.Changes.{Change, restore}
 use Rattle.work.specs.declared.BranchEntry.{BranchEntry}
 use Rattle.work.specs.Layout.{changeBase, branchBase, firstBranch}
 use Rattle.work.specs.Words.{changeAt, changed, entryAt, entryStored}

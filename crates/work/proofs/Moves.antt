@@ -12,7 +12,7 @@ use Rattle.location.specs.Sets.{limit}
 use Rattle.rules.specs.declared.Tagged.{Tagged}
 use Rattle.rules.specs.Rules.Plain.{State, put}
 use Rattle.rules.specs.Rules.Mispredicting.{Branch, Machine, rolling}
-use Rattle.rules.specs.Theorems.Undo.{Change}
+use Rattle.rules.specs.Rules.Changes.{Change}
 use Rattle.work.specs.declared.BranchEntry.{BranchEntry}
 use Rattle.work.specs.declared.machine.Control.{Control}
 use Rattle.work.specs.declared.machine.RolledBack.{RolledBack}

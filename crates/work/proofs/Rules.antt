@@ -7,7 +7,7 @@ use native.Mathlib.Omega.{arith}
 use lib.Dec.{eqb, leb}
 use borrow.Author.Tests.{le-leb, lt-leb, eq-eqb, ne-eqb}
 use Rattle.rules.specs.Rules.Plain.{State}
-use Rattle.rules.specs.Theorems.Undo.{Change}
+use Rattle.rules.specs.Rules.Changes.{Change}
 use Rattle.work.specs.declared.BranchEntry.{BranchEntry}
 use Rattle.work.specs.Machines.{branchesOf}
 use Rattle.work.specs.Moves.{expiredOn}

@@ -12,7 +12,7 @@ use Rattle.location.specs.Sets.{limit, empty}
 use Rattle.rules.specs.declared.Tagged.{Tagged}
 use Rattle.rules.specs.Rules.Expressions.{tagged}
 use Rattle.rules.specs.Rules.Plain.{State, at, put}
-use Rattle.rules.specs.Theorems.Undo.{Change, restore}
+use Rattle.rules.specs.Rules.Changes.{Change, restore}
 use Rattle.work.specs.Layout.{operandBase, changeBase, branchBase, logBase}
 use Rattle.work.specs.Words.{taggedAt, stored, changeAt, changed, undone, entryAt, taggedWords}
 use Rattle.work.specs.Machines.{stateFrom, stateIn, lastChanges, savedAt}

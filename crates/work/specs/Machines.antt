@@ -5,10 +5,11 @@ use mathlib.Core.Path.{_≡_, refl, ap}
 use mathlib.Core.List.{List, [], _∷_}
 use Prim.Native.Nat.{ℕ, zero, suc, _+_, _-_, _<_, _≤_}
 use lib.ListN.{length}
+pub use Rattle.rules.specs.Rules.Limits.{maxWindow}
 use Rattle.rules.specs.Rules.Calls.{workingWords}
 use Rattle.rules.specs.Rules.Plain.{State}
 use Rattle.rules.specs.Rules.Mispredicting.{Branch, Machine}
-use Rattle.rules.specs.Theorems.Undo.{Change, restore}
+use Rattle.rules.specs.Rules.Changes.{Change, restore}
 use Rattle.work.specs.declared.BranchEntry.{BranchEntry}
 use Rattle.work.specs.declared.machine.Control.{Control}
 use Rattle.work.specs.Words.{taggedAt, changeAt, entryAt}
@@ -51,10 +52,6 @@ machineOf w c n = record {
   branches = branchesOf (entryAt w) (changeAt w) (stateIn w n) (c .window) (c .log) (c .depth);
   opened = c .opened;
 }
-
--- "w 0 to 200"
-abbrev pub maxWindow : ℕ
-maxWindow = 200
 
 -- Of d open branches, the last one with the window v, and a log of k changes: the marks rise with the branches; with nothing open
 -- the log is empty and the window is not 0. A change or a branch costs the top at least 1 of its window, so that there are at most

@@ -7,7 +7,7 @@ use lib.ListN.{getD}
 use lib.Seq.{sets}
 use Rattle.location.specs.Sets.{limit}
 use Rattle.rules.specs.declared.Tagged.{Tagged}
-use Rattle.rules.specs.Theorems.Undo.{Change}
+use Rattle.rules.specs.Rules.Changes.{Change}
 use Rattle.work.specs.declared.BranchEntry.{BranchEntry}
 use Rattle.work.specs.Layout.{operandBase, changeBase, branchBase}
 

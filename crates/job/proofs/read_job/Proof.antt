@@ -3,6 +3,7 @@
 use mathlib.Core.Path.{sym, _∙_}
 use borrow.Author.Tests.{le-leb, lt-leb}
 use native.Mathlib.Omega.{arith}
+use Rattle.rules.specs.Rules.Limits.{maxBytes, trailerSize}
 use Rattle.rules.specs.Rules.JobFile.{parse, trailer, sized}
 use Rattle.rules.specs.Theorems.JobLaws.{limits-hold, offsets-state, offsets-list}
 use Rattle.job.proofs.Laws.{sized-true}
@@ -13,13 +14,13 @@ use Rattle.job.proofs.read_job.Tie as tie
 
 returns : tie.Need-returns
 unfolding parse sized
-returns c = let a = c .before .before .args in rw (lt-leb 16 (length (a .job .now)) (c .if1 .taken))
+returns c = let a = c .before .before .args in rw (lt-leb trailerSize (length (a .job .now)) (c .if1 .taken))
 
 returns-2 : tie.Need-returns-2
 unfolding parse sized
 returns-2 c =
     let a = c .before .before .before .args in
-    rw (le-leb 16 (length (a .job .now)) (c .before .if1 .left), lt-leb (length (a .job .now)) 16384 (c .if2 .taken))
+    rw (le-leb trailerSize (length (a .job .now)) (c .before .if1 .left), lt-leb (length (a .job .now)) maxBytes (c .if2 .taken))
 
 trailer-at-requires : tie.Need-trailer-at-requires
 trailer-at-requires c κs = search needs

@@ -1,26 +1,31 @@
 -- `verdict_of` meets its contract: undecided unless finished, else by the two inclusions. Assumes nothing.
-use Rattle.rules.specs.Rules.Runs.{judge}
-use Rattle.judgement.proofs.Laws.{judged-clean, judged-plain, judged-speculative}
+use mathlib.Core.Path.{sym, _∙_}
+use borrow.Author.Tests.{not-true, not-false}
 use borrow.Author.Needs.{needs}
+use Rattle.judgement.proofs.Laws.{judged-undecided, judged-clean, judged-plain, judged-speculative}
 use Rattle.judgement.proofs.verdict_of.Statement.{statement}
 use Rattle.judgement.proofs.verdict_of.Tie as tie
 
-enum-told : tie.Need-enum-told
-enum-told c = search needs
+finished-requires : tie.Need-finished-requires
+finished-requires c κs = search needs
 
-enum-told-2 : tie.Need-enum-told-2
-enum-told-2 c = search needs
-
-enum-told-3 : tie.Need-enum-told-3
-enum-told-3 c = search needs
+returns : tie.Need-returns
+returns c =
+    let at-finished = c .before in
+    let a = at-finished .before .args in
+    judged-undecided (a .public) (a .stop) (a .full) (a .plain) (sym (at-finished .finished .ensures) ∙ not-true _ (c .if1 .taken))
 
 subset-requires : tie.Need-subset-requires
 subset-requires c κs = search needs
 
-returns : tie.Need-returns
-returns c =
-    let a = c .before .before .before .before .args in
-    judged-clean (a .public) (a .full) (a .plain) (c .before .before .enum-told3 .given .1) (c .before .subset .ensures) (c .if1 .taken)
+returns-2 : tie.Need-returns-2
+returns-2 c =
+    let at-subset = c .before in
+    let at-if1 = at-subset .before in
+    let at-finished = at-if1 .before in
+    let a = at-finished .before .args in
+    let finished = sym (at-finished .finished .ensures) ∙ not-false _ (at-if1 .if1 .left) in
+    judged-clean (a .public) (a .stop) (a .full) (a .plain) finished (at-subset .subset .ensures) (c .if2 .taken)
 
 union-requires : tie.Need-union-requires
 union-requires c κs = search needs
@@ -28,36 +33,41 @@ union-requires c κs = search needs
 subset-requires-2 : tie.Need-subset-requires-2
 subset-requires-2 c κs = search needs
 
-returns-2 : tie.Need-returns-2
-returns-2 c =
-    let a = c .before .before .before .before .before .before .before .args in
-    judged-plain (a .public) (a .full) (a .plain) (c .before .before .before .before .before .enum-told3 .given .1) (c .before .before .before .before .subset .ensures) (c .before .before .before .if1 .left) (c .before .before .union .ensures) (c .before .subset2 .ensures) (c .if2 .taken)
-
 returns-3 : tie.Need-returns-3
-unfolding judge
-returns-3 c = rw (c .enum-told .given .1)
+returns-3 c =
+    let at-subset2 = c .before in
+    let at-union = at-subset2 .before in
+    let at-if2 = at-union .before in
+    let at-subset = at-if2 .before in
+    let at-if1 = at-subset .before in
+    let at-finished = at-if1 .before in
+    let a = at-finished .before .args in
+    let finished = sym (at-finished .finished .ensures) ∙ not-false _ (at-if1 .if1 .left) in
+    judged-plain (a .public) (a .stop) (a .full) (a .plain) finished (at-subset .subset .ensures) (at-if2 .if2 .left) (at-union .union .ensures)
+    (at-subset2 .subset2 .ensures) (c .if3 .taken)
 
 returns-4 : tie.Need-returns-4
-unfolding judge
-returns-4 c = rw (c .enum-told2 .given .1)
-
-returns-5 : tie.Need-returns-5
-returns-5 c =
-    let a = c .before .before .before .before .before .before .before .args in
-    judged-speculative (a .public) (a .full) (a .plain) (c .before .before .before .before .before .enum-told3 .given .1) (c .before .before .before .before .subset .ensures) (c .before .before .before .if1 .left) (c .before .before .union .ensures) (c .before .subset2 .ensures) (c .if2 .left)
+returns-4 c =
+    let at-subset2 = c .before in
+    let at-union = at-subset2 .before in
+    let at-if2 = at-union .before in
+    let at-subset = at-if2 .before in
+    let at-if1 = at-subset .before in
+    let at-finished = at-if1 .before in
+    let a = at-finished .before .args in
+    let finished = sym (at-finished .finished .ensures) ∙ not-false _ (at-if1 .if1 .left) in
+    judged-speculative (a .public) (a .stop) (a .full) (a .plain) finished (at-subset .subset .ensures) (at-if2 .if2 .left)
+    (at-union .union .ensures) (at-subset2 .subset2 .ensures) (c .if3 .left)
 
 pub verdict-of-spec : {M : Type 1} → statement M
 verdict-of-spec =
     tie.close
     (tie.spec
-    enum-told
-    enum-told-2
-    enum-told-3
-    subset-requires
+    finished-requires
     returns
+    subset-requires
+    returns-2
     union-requires
     subset-requires-2
-    returns-2
     returns-3
-    returns-4
-    returns-5)
+    returns-4)

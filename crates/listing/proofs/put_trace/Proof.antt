@@ -4,15 +4,18 @@ use Prim.Native.Nat.{_+_, _-_, _^_, _≤_}
 use native.Mathlib.Omega.{arith}
 use borrow.Author.Tests.{ltb-true, ltb-false}
 use lib.ListN.{length, getD, drop}
+use Rattle.rules.specs.Rules.Instructions.{observed}
 use Rattle.rules.specs.Rules.Listing.{observationLine, traceLines}
-use Rattle.listing.specs.Lines.{observationOf, observationsIn}
+use Rattle.listing.specs.Lines.{observationsIn}
 use Rattle.listing.proofs.Laws.{Left, left-done, left-length, left-room, left-next}
 use Rattle.listing.proofs.Texts.{trace-next, trace-counted, trace-over}
 use Rattle.listing.proofs.put_trace.Statement.{statement}
 use Rattle.listing.proofs.put_trace.Tie as tie
 
 abbrev Inv-loop : tie.InvT-loop
-Inv-loop out₀ at n count trace next₀ left₀ i₀ out next left i = Left out₀ at (traceLines n (observationsIn count trace)) out next (traceLines n (observationsIn left (drop i trace))) × (i ≤ length trace)
+Inv-loop out₀ at n count trace next₀ left₀ i₀ out next left i =
+    Left out₀ at (traceLines n (observationsIn count trace)) out next (traceLines n (observationsIn left (drop i trace)))
+    × (i ≤ length trace)
 
 abbrev μ-loop : tie.MeasureT-loop
 μ-loop out₀ at n count trace next₀ left₀ i₀ out next left i = left
@@ -43,7 +46,7 @@ put-observation-requires c κs =
     let a = c .before .before .before .before .before .before .before .before .args in
     let v = c .before .before .before .before .before .loop in
     let ws = a .trace .now in
-    let x = observationLine (a .n) (observationOf (getD ws (v .i) 0) (getD ws (v .i + 1) 0)) in
+    let x = observationLine (a .n) (observed (getD ws (v .i) 0) (getD ws (v .i + 1) 0)) in
     let later = traceLines (a .n) (observationsIn (v .left - 1) (drop (v .i + 2) ws)) in
     let split = trace-next (a .n) (v .left) ws (v .i) (omega arith) (omega (arith, ltb-true)) in
     left-room x later (v .inv .0) split (2 ^ 64) (omega arith)
@@ -62,7 +65,7 @@ loop-again c =
     let a = c .before .before .before .before .before .before .before .before .before .before .before .args in
     let v = c .before .before .before .before .before .before .before .before .loop in
     let ws = a .trace .now in
-    let x = observationLine (a .n) (observationOf (getD ws (v .i) 0) (getD ws (v .i + 1) 0)) in
+    let x = observationLine (a .n) (observed (getD ws (v .i) 0) (getD ws (v .i + 1) 0)) in
     let later = traceLines (a .n) (observationsIn (v .left - 1) (drop (v .i + 2) ws)) in
     let split = trace-next (a .n) (v .left) ws (v .i) (omega arith) (omega (arith, ltb-true)) in
     (left-next x later (v .inv .0) split (c .before .before .put-observation .ensures), omega (arith, ltb-true))

@@ -13,7 +13,7 @@ use Rattle.rules.specs.Rules.Answers.{text}
 use Rattle.rules.specs.Rules.JobFile.{little, wordOf, byte, register, unary, binary, constant, tokenOf, token, tokens, expr, withRegister, jump, branch, conditional, fields, instr, instruction, nothingLeft, program, trailerAt, trailer, sized, limits, offsets, wordsAt, stateOf, publicOf, noneFrom, listed, jobOf, programOf, finish, parse}
 use Rattle.rules.specs.Rules.Calls.{traceWords, room, longEnough, written, areasAfter, counts, runReport, runRefused, runParsed, runCall, plainReport, plainRefused, plainParsed, plainCall}
 use Rattle.rules.specs.Rules.Pairs.{withState, alikeFrom, sameWords, sameTrace, pairWord, pairAfter, pairRefused, secondFits, pairFits, pairAccepted, pairParsed, pairCall}
-use Rattle.rules.specs.Rules.Listing.{digits, decimal, line, numberLine, placeText, observationLine, traceLines, locationText, members, setLine, summary, answerLines, listingOf, listing}
+use Rattle.rules.specs.Rules.Listing.{digits, decimal, line, numberLine, kindWord, valueText, observationLine, traceLines, locationText, members, setLine, summary, answerLines, listingOf, listing}
 use Rattle.rules.specs.Cases.Files.{bytesOf, wordBytes, trailerBytes, file, lines, setOf, ran, plainRan, areas, pairAreas, front, lastAt, given, wanted, allGiven, allWanted}
 use Rattle.rules.specs.Cases.Document01.{printedProgram, barrierProgram, nestedProgram, state, public, job, wholeTrace, r01, r01m1, listing01, document01}
 use Rattle.rules.specs.Cases.Readings.{secretJob, zero17, deep, inner, restoring, conditionally, twice, mixed, ending, operations, costing, filled, readings, details, areasLeft, listings}
@@ -40,28 +40,45 @@ pub record TablesHold : Type 0 where
   pub cases-of-listings : allGiven listings ≡ allWanted listings
   pub cases-of-refusals : readNumbers refusals ≡ wantedNumbers refusals
 
+-- every definition that the tables compute with: a proof that unfolds this unfolds them all
+unfoldable computing : Type 0
+unfolding bit has none only either inside empty single union subset member after held sound pushed evalOn top eval windowCosts
+    at put ownFrom values endPlace fetch loadedFrom storedTo chosen branchTo exec remaining lower ordinary newWindow opening
+    forward rolling expired stepOn step plainStep ended loop gather note overOn over fits halt run first blank mispredictingRun
+    plainRun judge verdict text little wordOf byte register unary binary constant tokenOf token tokens expr withRegister jump
+    branch conditional fields instr instruction nothingLeft program trailerAt trailer sized limits offsets wordsAt stateOf
+    publicOf noneFrom listed jobOf programOf finish parse traceWords room longEnough written areasAfter counts runReport
+    runRefused runParsed runCall plainReport plainRefused plainParsed plainCall withState alikeFrom sameWords sameTrace pairWord
+    pairAfter pairRefused secondFits pairFits pairAccepted pairParsed pairCall digits decimal line numberLine kindWord valueText
+    observationLine traceLines locationText members setLine summary answerLines listingOf listing bytesOf wordBytes trailerBytes
+    file lines setOf ran plainRan areas pairAreas front lastAt given wanted allGiven allWanted printedProgram barrierProgram
+    nestedProgram state public job wholeTrace r01 r01m1 listing01 document01 secretJob zero17 deep inner restoring conditionally
+    twice mixed ending operations costing filled readings details areasLeft listings reads numberOf readNumbers wantedNumbers
+    skips offsetsAt listBit refusals refusal.program
+computing = Unit {0}
+
 document01-hold : allGiven document01 ≡ allWanted document01
-unfolding bit has none only either inside empty single union subset member after held sound pushed evalOn top eval windowCosts at put ownFrom values endPlace fetch loadedFrom storedTo chosen branchTo exec remaining lower ordinary newWindow opening forward rolling expired stepOn step plainStep ended loop gather note overOn over fits halt run first blank mispredictingRun plainRun judge verdict text little wordOf byte register unary binary constant tokenOf token tokens expr withRegister jump branch conditional fields instr instruction nothingLeft program trailerAt trailer sized limits offsets wordsAt stateOf publicOf noneFrom listed jobOf programOf finish parse traceWords room longEnough written areasAfter counts runReport runRefused runParsed runCall plainReport plainRefused plainParsed plainCall withState alikeFrom sameWords sameTrace pairWord pairAfter pairRefused secondFits pairFits pairAccepted pairParsed pairCall digits decimal line numberLine placeText observationLine traceLines locationText members setLine summary answerLines listingOf listing bytesOf wordBytes trailerBytes file lines setOf ran plainRan areas pairAreas front lastAt given wanted allGiven allWanted printedProgram barrierProgram nestedProgram state public job wholeTrace r01 r01m1 listing01 document01 secretJob zero17 deep inner restoring conditionally twice mixed ending operations costing filled readings details areasLeft listings reads numberOf readNumbers wantedNumbers skips offsetsAt listBit refusals refusal.program
+unfolding computing
 document01-hold = refl
 
 readings-hold : allGiven readings ≡ allWanted readings
-unfolding bit has none only either inside empty single union subset member after held sound pushed evalOn top eval windowCosts at put ownFrom values endPlace fetch loadedFrom storedTo chosen branchTo exec remaining lower ordinary newWindow opening forward rolling expired stepOn step plainStep ended loop gather note overOn over fits halt run first blank mispredictingRun plainRun judge verdict text little wordOf byte register unary binary constant tokenOf token tokens expr withRegister jump branch conditional fields instr instruction nothingLeft program trailerAt trailer sized limits offsets wordsAt stateOf publicOf noneFrom listed jobOf programOf finish parse traceWords room longEnough written areasAfter counts runReport runRefused runParsed runCall plainReport plainRefused plainParsed plainCall withState alikeFrom sameWords sameTrace pairWord pairAfter pairRefused secondFits pairFits pairAccepted pairParsed pairCall digits decimal line numberLine placeText observationLine traceLines locationText members setLine summary answerLines listingOf listing bytesOf wordBytes trailerBytes file lines setOf ran plainRan areas pairAreas front lastAt given wanted allGiven allWanted printedProgram barrierProgram nestedProgram state public job wholeTrace r01 r01m1 listing01 document01 secretJob zero17 deep inner restoring conditionally twice mixed ending operations costing filled readings details areasLeft listings reads numberOf readNumbers wantedNumbers skips offsetsAt listBit refusals refusal.program
+unfolding computing
 readings-hold = refl
 
 details-hold : allGiven details ≡ allWanted details
-unfolding bit has none only either inside empty single union subset member after held sound pushed evalOn top eval windowCosts at put ownFrom values endPlace fetch loadedFrom storedTo chosen branchTo exec remaining lower ordinary newWindow opening forward rolling expired stepOn step plainStep ended loop gather note overOn over fits halt run first blank mispredictingRun plainRun judge verdict text little wordOf byte register unary binary constant tokenOf token tokens expr withRegister jump branch conditional fields instr instruction nothingLeft program trailerAt trailer sized limits offsets wordsAt stateOf publicOf noneFrom listed jobOf programOf finish parse traceWords room longEnough written areasAfter counts runReport runRefused runParsed runCall plainReport plainRefused plainParsed plainCall withState alikeFrom sameWords sameTrace pairWord pairAfter pairRefused secondFits pairFits pairAccepted pairParsed pairCall digits decimal line numberLine placeText observationLine traceLines locationText members setLine summary answerLines listingOf listing bytesOf wordBytes trailerBytes file lines setOf ran plainRan areas pairAreas front lastAt given wanted allGiven allWanted printedProgram barrierProgram nestedProgram state public job wholeTrace r01 r01m1 listing01 document01 secretJob zero17 deep inner restoring conditionally twice mixed ending operations costing filled readings details areasLeft listings reads numberOf readNumbers wantedNumbers skips offsetsAt listBit refusals refusal.program
+unfolding computing
 details-hold = refl
 
 areas-left-hold : allGiven areasLeft ≡ allWanted areasLeft
-unfolding bit has none only either inside empty single union subset member after held sound pushed evalOn top eval windowCosts at put ownFrom values endPlace fetch loadedFrom storedTo chosen branchTo exec remaining lower ordinary newWindow opening forward rolling expired stepOn step plainStep ended loop gather note overOn over fits halt run first blank mispredictingRun plainRun judge verdict text little wordOf byte register unary binary constant tokenOf token tokens expr withRegister jump branch conditional fields instr instruction nothingLeft program trailerAt trailer sized limits offsets wordsAt stateOf publicOf noneFrom listed jobOf programOf finish parse traceWords room longEnough written areasAfter counts runReport runRefused runParsed runCall plainReport plainRefused plainParsed plainCall withState alikeFrom sameWords sameTrace pairWord pairAfter pairRefused secondFits pairFits pairAccepted pairParsed pairCall digits decimal line numberLine placeText observationLine traceLines locationText members setLine summary answerLines listingOf listing bytesOf wordBytes trailerBytes file lines setOf ran plainRan areas pairAreas front lastAt given wanted allGiven allWanted printedProgram barrierProgram nestedProgram state public job wholeTrace r01 r01m1 listing01 document01 secretJob zero17 deep inner restoring conditionally twice mixed ending operations costing filled readings details areasLeft listings reads numberOf readNumbers wantedNumbers skips offsetsAt listBit refusals refusal.program
+unfolding computing
 areas-left-hold = refl
 
 listings-hold : allGiven listings ≡ allWanted listings
-unfolding bit has none only either inside empty single union subset member after held sound pushed evalOn top eval windowCosts at put ownFrom values endPlace fetch loadedFrom storedTo chosen branchTo exec remaining lower ordinary newWindow opening forward rolling expired stepOn step plainStep ended loop gather note overOn over fits halt run first blank mispredictingRun plainRun judge verdict text little wordOf byte register unary binary constant tokenOf token tokens expr withRegister jump branch conditional fields instr instruction nothingLeft program trailerAt trailer sized limits offsets wordsAt stateOf publicOf noneFrom listed jobOf programOf finish parse traceWords room longEnough written areasAfter counts runReport runRefused runParsed runCall plainReport plainRefused plainParsed plainCall withState alikeFrom sameWords sameTrace pairWord pairAfter pairRefused secondFits pairFits pairAccepted pairParsed pairCall digits decimal line numberLine placeText observationLine traceLines locationText members setLine summary answerLines listingOf listing bytesOf wordBytes trailerBytes file lines setOf ran plainRan areas pairAreas front lastAt given wanted allGiven allWanted printedProgram barrierProgram nestedProgram state public job wholeTrace r01 r01m1 listing01 document01 secretJob zero17 deep inner restoring conditionally twice mixed ending operations costing filled readings details areasLeft listings reads numberOf readNumbers wantedNumbers skips offsetsAt listBit refusals refusal.program
+unfolding computing
 listings-hold = refl
 
 refusals-hold : readNumbers refusals ≡ wantedNumbers refusals
-unfolding bit has none only either inside empty single union subset member after held sound pushed evalOn top eval windowCosts at put ownFrom values endPlace fetch loadedFrom storedTo chosen branchTo exec remaining lower ordinary newWindow opening forward rolling expired stepOn step plainStep ended loop gather note overOn over fits halt run first blank mispredictingRun plainRun judge verdict text little wordOf byte register unary binary constant tokenOf token tokens expr withRegister jump branch conditional fields instr instruction nothingLeft program trailerAt trailer sized limits offsets wordsAt stateOf publicOf noneFrom listed jobOf programOf finish parse traceWords room longEnough written areasAfter counts runReport runRefused runParsed runCall plainReport plainRefused plainParsed plainCall withState alikeFrom sameWords sameTrace pairWord pairAfter pairRefused secondFits pairFits pairAccepted pairParsed pairCall digits decimal line numberLine placeText observationLine traceLines locationText members setLine summary answerLines listingOf listing bytesOf wordBytes trailerBytes file lines setOf ran plainRan areas pairAreas front lastAt given wanted allGiven allWanted printedProgram barrierProgram nestedProgram state public job wholeTrace r01 r01m1 listing01 document01 secretJob zero17 deep inner restoring conditionally twice mixed ending operations costing filled readings details areasLeft listings reads numberOf readNumbers wantedNumbers skips offsetsAt listBit refusals refusal.program
+unfolding computing
 refusals-hold = refl
 
 pub tables-hold : TablesHold

@@ -13,18 +13,14 @@ use Rattle.rules.specs.declared.RunOutcome.the-variants as runs
 use Rattle.rules.specs.declared.RunAnswer.{RunAnswer}
 use Rattle.rules.specs.declared.PlainOutcome.the-variants as plains
 use Rattle.rules.specs.declared.PlainAnswer.{PlainAnswer}
-use Rattle.rules.specs.Rules.Instructions.{Observation, start, rollback, pc, loaded, stored}
+use Rattle.rules.specs.Rules.Instructions.{Observation}
 use Rattle.rules.specs.Rules.Plain.{values}
 use Rattle.rules.specs.Rules.Runs.{Job, Result, mispredictingRun, plainRun, verdict}
 use Rattle.rules.specs.Rules.JobFile.{Parsed, accepted, rejected, parse}
 
--- "two an observation (0 start, 1 rollback, 2 pc, 3 load, 4 store; then the value)"
+-- "two an observation": its kind, "then the value"
 abbrev pub observationWords : Observation → List ℕ
-observationWords (start i) = 0 ∷ i ∷ []
-observationWords (rollback i) = 1 ∷ i ∷ []
-observationWords (pc p) = 2 ∷ p ∷ []
-observationWords (loaded a) = 3 ∷ a ∷ []
-observationWords (stored a) = 4 ∷ a ∷ []
+observationWords o = o .kind ∷ o .value ∷ []
 
 unfoldable pub traceWords : List Observation → List ℕ
 traceWords [] = []

@@ -11,9 +11,10 @@ use Rattle.location.specs.Sets.{registers, limit, member}
 use Rattle.rules.specs.declared.Trailer.{Trailer}
 use Rattle.rules.specs.declared.Refusal.{Refusal}
 use Rattle.rules.specs.declared.Refusal.the-variants as refusals
+use Rattle.rules.specs.Rules.Limits.{maxBytes, maxInstructions, maxCells, maxWindow, maxBudget, registersSize, listSize, trailerSize}
 use Rattle.rules.specs.Rules.Operators.{Op1, neg, inv, Op2, add, sub, mul, and, or, xor, shl, shr, eq, ult}
 use Rattle.rules.specs.Rules.Expressions.{Token, reg, const, op1, op2, Expr, sound}
-use Rattle.rules.specs.Rules.Instructions.{Instr, skip, assign, load, store, jmp, beqz, cassign, spbarr, windowCosts}
+use Rattle.rules.specs.Rules.Instructions.{Instr, skip, assign, load, store, jmp, beqz, cassign, spbarr, windowCosts, branching, other, branchView}
 use Rattle.rules.specs.Rules.Runs.{Job}
 
 -- "Little-endian.": the number in the k bytes at an offset
@@ -146,14 +147,7 @@ postfix spbarr = true
 
 -- "beqz label over n, or the next label", of the instruction with label i
 abbrev pub branchLabelHolds : ℕ → ℕ → Instr → Bool
-branchLabelHolds n i skip = true
-branchLabelHolds n i (assign r e) = true
-branchLabelHolds n i (load r e) = true
-branchLabelHolds n i (store r e) = true
-branchLabelHolds n i (jmp e) = true
-branchLabelHolds n i (beqz r l) = leb l n && not (eqb l (i + 1))
-branchLabelHolds n i (cassign r c e) = true
-branchLabelHolds n i spbarr = true
+branchLabelHolds n i x = elim (branchView x) [ branching r l ↦ leb l n && not (eqb l (i + 1)) | other ↦ true ]
 
 -- ---- the program
 -- "4, 5, 6 are tried on one instruction before the next is read": 4 on the whole instruction, then 5, then 6
@@ -189,20 +183,24 @@ trailerAt bs at = record {
 
 -- "then a trailer of 16 bytes that points back"
 unfoldable pub trailer : List ℕ → Trailer
-trailer bs = trailerAt bs (length bs - 16)
+trailer bs = trailerAt bs (length bs - trailerSize)
 
 -- "length under 16 or over 16,384"
 unfoldable pub sized : ℕ → Bool
-sized len = leb 16 len && leb len 16384
+sized len = leb trailerSize len && leb len maxBytes
 
 -- "n 1 to 512, m 0 to 240, w 0 to 200, b 0 to 1,000,000", and the zero is 0
 unfoldable pub limits : Trailer → Bool
 limits t =
-    leb 1 (t .count) && (leb (t .count) 512 && (leb (t .cells) 240 && (leb (t .window) 200 && (eqb (t .zero) 0 && leb (t .budget) 1000000))))
+    leb 1 (t .count)
+    && (leb (t .count) maxInstructions
+    && (leb (t .cells) maxCells && (leb (t .window) maxWindow && (eqb (t .zero) 0 && leb (t .budget) maxBudget))))
 
 -- "S > Q, Q − S not 128 + 8m, or Q + 48 not the length"
 unfoldable pub offsets : Trailer → ℕ → Bool
-offsets t len = leb (t .state) (t .list) && (eqb (t .list - t .state) (128 + 8 * t .cells) && eqb (t .list + 48) len)
+offsets t len =
+    leb (t .state) (t .list)
+    && (eqb (t .list - t .state) (registersSize + 8 * t .cells) && eqb (t .list + (listSize + trailerSize)) len)
 
 -- ---- the state and the public list
 -- "16 registers and m cells"

@@ -1,9 +1,10 @@
 -- The printed run, as bytes.
 -- Assumes nothing.
-use mathlib.Core.Bool.{cond}
+use mathlib.Core.Bool.{_&&_, cond}
 use mathlib.Core.List.{List, [], _∷_, _++_}
 use Prim.Native.Nat.{ℕ, zero, suc, _+_, _-_, _/_, _%_}
 use lib.Dec.{eqb, ltb}
+use lib.ListN.{getD}
 use Rattle.location.specs.declared.LocationSet.{LocationSet}
 use Rattle.location.specs.Sets.{registers, limit, member}
 use Rattle.rules.specs.declared.Verdict.{Verdict}
@@ -11,7 +12,7 @@ use Rattle.rules.specs.declared.Counts.{Counts}
 use Rattle.rules.specs.declared.RunOutcome.{RunOutcome}
 use Rattle.rules.specs.declared.RunOutcome.the-variants as runs
 use Rattle.rules.specs.declared.RunAnswer.{RunAnswer}
-use Rattle.rules.specs.Rules.Instructions.{Observation, start, rollback, pc, loaded, stored}
+use Rattle.rules.specs.Rules.Instructions.{Observation, pcKind}
 use Rattle.rules.specs.Rules.Plain.{endPlace}
 use Rattle.rules.specs.Rules.Runs.{mispredictingRun}
 use Rattle.rules.specs.Rules.Answers.{text, stopWord, verdictWord, refusalNumber}
@@ -33,17 +34,17 @@ line word rest = word ++ rest ++ (10 ∷ [])
 unfoldable pub numberLine : List ℕ → ℕ → List ℕ
 numberLine word n = line word (32 ∷ decimal n)
 
--- "END as "end"": only a place is END
-unfoldable pub placeText : ℕ → ℕ → List ℕ
-placeText n p = cond (eqb p n) (text "end") (decimal p)
+-- the words of the kinds of observation, by their numbers; the last stands for every other number, which is in no trace
+unfoldable pub kindWord : ℕ → List ℕ
+kindWord k = getD (text "start" ∷ text "rollback" ∷ text "pc" ∷ text "load" ∷ []) k (text "store")
 
--- "Observations first, decimal": of a program with n instructions
+-- "decimal, END as "end"": only a place is END
+unfoldable pub valueText : ℕ → Observation → List ℕ
+valueText n o = cond (eqb (o .kind) pcKind && eqb (o .value) n) (text "end") (decimal (o .value))
+
+-- "Observations first": of a program with n instructions
 unfoldable pub observationLine : ℕ → Observation → List ℕ
-observationLine n (start i) = numberLine (text "start") i
-observationLine n (rollback i) = numberLine (text "rollback") i
-observationLine n (pc p) = line (text "pc") (32 ∷ placeText n p)
-observationLine n (loaded a) = numberLine (text "load") a
-observationLine n (stored a) = numberLine (text "store") a
+observationLine n o = line (kindWord (o .kind)) (32 ∷ valueText n o)
 
 unfoldable pub traceLines : ℕ → List Observation → List ℕ
 traceLines n [] = []

@@ -7,7 +7,7 @@ use lib.Dec.{eqb, leb}
 use lib.ListN.{getD}
 use Rattle.location.specs.declared.LocationSet.{LocationSet}
 use Rattle.location.specs.Sets.{registerLocation, empty}
-use Rattle.rules.specs.Rules.Instructions.{Instr, skip, assign, load, store, jmp, beqz, cassign, spbarr, kind, Observation, start, rollback, pc}
+use Rattle.rules.specs.Rules.Instructions.{Instr, beqz, kind, isBarrier, branching, other, branchView, Observation, start, rollback, pc}
 use Rattle.rules.specs.Rules.Plain.{State, at, Code, endPlace, fetch, Effect, exec, branchTo}
 
 -- "a stack of open branches, each with its id, saved registers and memory, true target and remaining window"
@@ -34,7 +34,7 @@ pub record Step : Type 0 where
 -- "Lowering takes the kind's entry in a constant table of eight window costs, down to 0 at least"; "spbarr sets it to 0".
 -- This is the one place where a window is lowered.
 unfoldable pub remaining : Code → Instr → ℕ → ℕ
-remaining code i v = cond (eqb (kind i) 7) 0 (v - getD (code .costs) (kind i) 0)
+remaining code i v = cond (isBarrier i) 0 (v - getD (code .costs) (kind i) 0)
 
 abbrev pub lowered : Code → Instr → Branch → Branch
 lowered code i b = record { id = b .id; saved = b .saved; target = b .target; window = remaining code i (b .window) }
@@ -76,16 +76,9 @@ opening code M r l =
       back = 0;
     }
 
--- rules 2 and 3
+-- rules 2 and 3: "beqz", and "any other instruction"
 unfoldable pub forward : Code → Machine → Instr → Step
-forward code M skip = ordinary code M skip
-forward code M (assign r e) = ordinary code M (assign r e)
-forward code M (load r e) = ordinary code M (load r e)
-forward code M (store r e) = ordinary code M (store r e)
-forward code M (jmp e) = ordinary code M (jmp e)
-forward code M (beqz r l) = opening code M r l
-forward code M (cassign r c e) = ordinary code M (cassign r c e)
-forward code M spbarr = ordinary code M spbarr
+forward code M i = elim (branchView i) [ branching r l ↦ opening code M r l | other ↦ ordinary code M i ]
 
 -- Rule 1: "restore the top's registers and memory, go to its true target, drop it." "Rollback restores sets too."
 unfoldable pub rolling : Machine → Branch → List Branch → Step

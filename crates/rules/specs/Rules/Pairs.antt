@@ -7,8 +7,6 @@ use lib.Dec.{eqb, leb}
 use lib.ListN.{length, replicate}
 use Rattle.location.specs.declared.LocationSet.{LocationSet}
 use Rattle.location.specs.Sets.{member}
-use Rattle.rules.specs.declared.Stop.{Stop}
-use Rattle.rules.specs.declared.Stop.the-variants.{Finished, Spent, TraceFull}
 use Rattle.rules.specs.declared.PairWord.{PairWord}
 use Rattle.rules.specs.declared.PairWord.the-variants as pairs
 use Rattle.rules.specs.declared.Refusal.{Refusal}
@@ -16,7 +14,7 @@ use Rattle.rules.specs.declared.Refusal.the-variants as refusals
 use Rattle.rules.specs.declared.PairAnswer.{PairAnswer}
 use Rattle.rules.specs.declared.PairAnswer.the-variants as answers
 use Rattle.rules.specs.Rules.Instructions.{Observation}
-use Rattle.rules.specs.Rules.Runs.{Job, Result, mispredictingRun, plainRun}
+use Rattle.rules.specs.Rules.Runs.{Job, Result, mispredictingRun, plainRun, isFinished}
 use Rattle.rules.specs.Rules.JobFile.{Parsed, accepted, rejected, parse, wordsAt}
 use Rattle.rules.specs.Rules.Calls.{traceWords, room, workingWords, written, Called, counts}
 
@@ -29,11 +27,6 @@ unfoldable pub alikeFrom : LocationSet → ℕ → List ℕ → List ℕ → Boo
 alikeFrom public l [] ys = true
 alikeFrom public l (x ∷ xs) [] = true
 alikeFrom public l (x ∷ xs) (y ∷ ys) = (not (member public l) || eqb x y) && alikeFrom public (suc l) xs ys
-
-abbrev pub isFinished : Stop → Bool
-isFinished Finished = true
-isFinished Spent = false
-isFinished TraceFull = false
 
 unfoldable pub sameWords : List ℕ → List ℕ → Bool
 sameWords [] [] = true

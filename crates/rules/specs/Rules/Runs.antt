@@ -1,6 +1,6 @@
 -- The plain run and the mispredicting run of a job, and the verdict.
 -- Assumes nothing.
-use mathlib.Core.Bool.{Bool, false, cond}
+use mathlib.Core.Bool.{Bool, true, false, not, cond}
 use mathlib.Core.List.{List, [], _∷_, _++_}
 use Prim.Native.Nat.{ℕ, suc, _+_}
 use lib.Dec.{leb}
@@ -84,13 +84,17 @@ mispredictingRun job room = run (step (job .code)) (job .code) room (job .budget
 unfoldable pub plainRun : Job → ℕ → Result
 plainRun job room = run (plainStep (job .code)) (job .code) room (job .budget) (first job) blank
 
+abbrev pub isFinished : Stop → Bool
+isFinished Finished = true
+isFinished Spent = false
+isFinished TraceFull = false
+
 -- "undecided if not finished; else clean if D lies within the public list; speculative if some location is in D but neither
 -- public nor in the plain set; else plain"
 unfoldable pub judge : LocationSet → Stop → LocationSet → LocationSet → Verdict
-judge public Spent full plain = verdicts.Undecided
-judge public TraceFull full plain = verdicts.Undecided
-judge public Finished full plain =
-    cond (subset full public) verdicts.Clean (cond (subset full (union public plain)) verdicts.Plain verdicts.Speculative)
+judge public stop full plain =
+    cond (not (isFinished stop)) verdicts.Undecided
+    (cond (subset full public) verdicts.Clean (cond (subset full (union public plain)) verdicts.Plain verdicts.Speculative))
 
 unfoldable pub verdict : Job → Result → Verdict
 verdict job r = judge (job .public) (r .stop) (r .log .full) (r .log .plain)

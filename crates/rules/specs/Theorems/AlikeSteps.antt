@@ -15,6 +15,7 @@ use Rattle.rules.specs.Rules.Instructions.{Instr, skip, assign, load, st
 use Rattle.rules.specs.Rules.Plain.{State, at, Code, endPlace, fetch, branchTo, Effect, exec}
 use Rattle.rules.specs.Rules.Mispredicting.{Branch, Machine, Step, remaining, lower, ordinary, newWindow, opening, forward, rolling, expired, stepOn, step}
 use Rattle.rules.specs.Rules.Runs.{gather, overOn, over}
+use Rattle.rules.specs.Theorems.StepLaws.{forward-both}
 use Rattle.rules.specs.Theorems.Alike.{Alike, agree-eval, agree-loadedFrom, agree-chosen, alike-put, alike-storedTo}
 
 -- ---- one instruction: "D gathers the set of every observed address, jump value and branch register", so what is observed is
@@ -164,30 +165,15 @@ module _ (code : Code) {D : LocationSet} where
         }
 
     same-forward : (i : Instr) → Within (forward code M i .seen) D → SameStep D (forward code M i) (forward code N i)
-    unfolding forward
-    same-forward skip w = same-ordinary skip w
-    same-forward (assign r e) w = same-ordinary (assign r e) w
-    same-forward (load r e) w = same-ordinary (load r e) w
-    same-forward (store r e) w = same-ordinary (store r e) w
-    same-forward (jmp e) w = same-ordinary (jmp e) w
-    same-forward (beqz r l) w = same-opening r l w
-    same-forward (cassign r c e) w = same-ordinary (cassign r c e) w
-    same-forward spbarr w = same-ordinary spbarr w
+    same-forward = forward-both code M N (λ s t. Within (s .seen) D → SameStep D s t) same-ordinary same-opening
 
     count-ordinary : (i : Instr) → length (ordinary code M i .obs) ≡ length (ordinary code N i .obs)
     unfolding ordinary
     count-ordinary i = count-exec code (M .state) (N .state) (M .place) (N .place) i
 
     count-forward : (i : Instr) → length (forward code M i .obs) ≡ length (forward code N i .obs)
-    unfolding forward
-    count-forward skip = count-ordinary skip
-    count-forward (assign r e) = count-ordinary (assign r e)
-    count-forward (load r e) = count-ordinary (load r e)
-    count-forward (store r e) = count-ordinary (store r e)
-    count-forward (jmp e) = count-ordinary (jmp e)
-    count-forward (beqz r l) = unfold opening in refl
-    count-forward (cassign r c e) = count-ordinary (cassign r c e)
-    count-forward spbarr = count-ordinary spbarr
+    unfolding opening
+    count-forward = forward-both code M N (λ s t. length (s .obs) ≡ length (t .obs)) count-ordinary (λ r l. refl)
 
     same-rolling : {a b : Branch} {xs ys : List Branch} → SameBranch D a b → SameBranches D xs ys
         → SameStep D (rolling M a xs) (rolling N b ys)

@@ -13,7 +13,7 @@ use Rattle.rules.specs.declared.Refusal.the-variants as refusals
 use Rattle.rules.specs.declared.Counts.{Counts}
 use Rattle.rules.specs.declared.RunOutcome.the-variants as runs
 use Rattle.rules.specs.declared.RunAnswer.{RunAnswer}
-use Rattle.rules.specs.Rules.Instructions.{Observation, start, rollback, pc, loaded, stored}
+use Rattle.rules.specs.Rules.Instructions.{Observation}
 use Rattle.rules.specs.Rules.Runs.{Job, Result, mispredictingRun, plainRun}
 use Rattle.rules.specs.Rules.Answers.{runRefusal, plainRefusal}
 use Rattle.rules.specs.Rules.JobFile.{Parsed, accepted, rejected, parse}
@@ -25,11 +25,7 @@ use Rattle.rules.specs.Rules.Demands.{Exact, Unaltered, SameLengths, tra
 pub length-traceWords : (os : List Observation) → length (traceWords os) ≡ 2 * length os
 unfolding traceWords
 length-traceWords [] = refl
-length-traceWords (start i ∷ os) = let h = length-traceWords os in omega arith
-length-traceWords (rollback i ∷ os) = let h = length-traceWords os in omega arith
-length-traceWords (pc p ∷ os) = let h = length-traceWords os in omega arith
-length-traceWords (loaded l ∷ os) = let h = length-traceWords os in omega arith
-length-traceWords (stored l ∷ os) = let h = length-traceWords os in omega arith
+length-traceWords (o ∷ os) = let h = length-traceWords os in omega arith
 
 -- an accepted job, in areas that are long enough
 pub record Runs (f : List ℕ) (a : Areas) : Type 0 where

@@ -6,7 +6,8 @@ use Prim.Native.Nat.{ℕ}
 use Rattle.rules.specs.Rules.Mispredicting.{Machine}
 use Rattle.rules.specs.Rules.Runs.{Job}
 use Rattle.rules.specs.Rules.JobFile.{accepted, parse}
-use Rattle.rules.specs.Theorems.Undo.{UndoLog, Bounded, Reached, reached-bounded}
+use Rattle.rules.specs.Rules.Changes.{UndoLog}
+use Rattle.rules.specs.Theorems.Undo.{Bounded, Reached, reached-bounded}
 use Rattle.rules.specs.Theorems.JobLaws.{passed, job-costs}
 
 -- "At most w + 1 branches are open, and a live wrong path holds at most w changes of a place."

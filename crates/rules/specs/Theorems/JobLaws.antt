@@ -15,6 +15,7 @@ use Rattle.location.specs.SetLaws.{and-left, and-right}
 use Rattle.rules.specs.declared.Trailer.{Trailer}
 use Rattle.rules.specs.declared.Refusal.{Refusal}
 use Rattle.rules.specs.declared.Refusal.the-variants as refusals
+use Rattle.rules.specs.Rules.Limits.{maxInstructions, maxCells, maxWindow, maxBudget, registersSize, listSize, trailerSize}
 use Rattle.rules.specs.Rules.Instructions.{Instr, windowCosts}
 use Rattle.rules.specs.Rules.Runs.{Job}
 use Rattle.rules.specs.Rules.JobFile.{little, Read, got, refused, andThen, instruction, nothingLeft, program, trailerAt, trailer, sized, limits, offsets, wordsAt, stateOf, publicOf, listed, Parsed, accepted, rejected, jobOf, programOf, finish, parse}
@@ -108,39 +109,39 @@ length-program n (suc k) i p at xs q e = go (instruction n i p at) (λ ys r. len
 
 -- ---- the offsets, where "S > Q, Q − S not 128 + 8m, or Q + 48 not the length" was not found
 module _ (t : Trailer) (len : ℕ) (h : offsets t len ≡ true) where
-  pub offsets-state : t .state + 128 + 8 * t .cells ≡ t .list
+  pub offsets-state : t .state + registersSize + 8 * t .cells ≡ t .list
   unfolding offsets
   offsets-state =
       let r = and-right (leb (t .state) (t .list)) _ h in
       let le = leb-true (t .state) (t .list) (and-left (leb (t .state) (t .list)) _ h) in
-      let eq = eqb-true (t .list - t .state) (128 + 8 * t .cells) (and-left (eqb (t .list - t .state) (128 + 8 * t .cells)) _ r) in
+      let eq = eqb-true (t .list - t .state) (registersSize + 8 * t .cells) (and-left (eqb (t .list - t .state) (registersSize + 8 * t .cells)) _ r) in
       omega arith
 
-  pub offsets-list : t .list + 48 ≡ len
+  pub offsets-list : t .list + (listSize + trailerSize) ≡ len
   unfolding offsets
   offsets-list =
       let r = and-right (leb (t .state) (t .list)) _ h in
-      eqb-true (t .list + 48) len (and-right (eqb (t .list - t .state) (128 + 8 * t .cells)) _ r)
+      eqb-true (t .list + (listSize + trailerSize)) len (and-right (eqb (t .list - t .state) (registersSize + 8 * t .cells)) _ r)
 
 -- ---- "n 1 to 512, m 0 to 240, w 0 to 200, b 0 to 1,000,000"
 pub record Limits (t : Trailer) : Type 0 where
-  pub count-most : t .count ≤ 512
-  pub cells : t .cells ≤ 240
-  pub window : t .window ≤ 200
-  pub budget : t .budget ≤ 1000000
+  pub count-most : t .count ≤ maxInstructions
+  pub cells : t .cells ≤ maxCells
+  pub window : t .window ≤ maxWindow
+  pub budget : t .budget ≤ maxBudget
 
 pub limits-hold : (t : Trailer) → limits t ≡ true → Limits t
 unfolding limits
 limits-hold t h =
     let h1 = and-right (leb 1 (t .count)) _ h in
-    let h2 = and-right (leb (t .count) 512) _ h1 in
-    let h3 = and-right (leb (t .cells) 240) _ h2 in
-    let h4 = and-right (leb (t .window) 200) _ h3 in
+    let h2 = and-right (leb (t .count) maxInstructions) _ h1 in
+    let h3 = and-right (leb (t .cells) maxCells) _ h2 in
+    let h4 = and-right (leb (t .window) maxWindow) _ h3 in
     record {
-      count-most = leb-true (t .count) 512 (and-left (leb (t .count) 512) _ h1);
-      cells = leb-true (t .cells) 240 (and-left (leb (t .cells) 240) _ h2);
-      window = leb-true (t .window) 200 (and-left (leb (t .window) 200) _ h3);
-      budget = leb-true (t .budget) 1000000 (and-right (eqb (t .zero) 0) _ h4);
+      count-most = leb-true (t .count) maxInstructions (and-left (leb (t .count) maxInstructions) _ h1);
+      cells = leb-true (t .cells) maxCells (and-left (leb (t .cells) maxCells) _ h2);
+      window = leb-true (t .window) maxWindow (and-left (leb (t .window) maxWindow) _ h3);
+      budget = leb-true (t .budget) maxBudget (and-right (eqb (t .zero) 0) _ h4);
     }
 
 -- ---- the numbers of an accepted job, and where they stand in its file
@@ -170,7 +171,7 @@ module _ {bs : List ℕ} {job : Job} (p : Passed bs job) where
   unfolding jobOf
   job-budget = ap (λ (j : Job). j .budget) (p .made)
 
-  pub cells-most : job .code .cells ≤ 240
+  pub cells-most : job .code .cells ≤ maxCells
   cells-most = rw job-cells (limits-hold (trailer bs) (p .limits) .cells)
 
   -- "16 registers and m cells"
@@ -181,10 +182,10 @@ module _ {bs : List ℕ} {job : Job} (p : Passed bs job) where
   init-most = rw init-length (let h = cells-most in omega arith)
 
   -- "then the state; then 32 bytes of public list; then a trailer of 16 bytes"
-  pub state-list : trailer bs .state + 128 + 8 * trailer bs .cells ≡ trailer bs .list
+  pub state-list : trailer bs .state + registersSize + 8 * trailer bs .cells ≡ trailer bs .list
   state-list = offsets-state (trailer bs) (length bs) (p .offsets)
 
-  pub list-length : trailer bs .list + 48 ≡ length bs
+  pub list-length : trailer bs .list + (listSize + trailerSize) ≡ length bs
   list-length = offsets-list (trailer bs) (length bs) (p .offsets)
 
 -- ---- another state in the same file: "The second state stands in a job that is the same but for the state's bytes"
@@ -224,8 +225,8 @@ pub trailer-same : {f g : List ℕ} → offsets (trailer f) (length f) ≡ true 
 unfolding trailer
 trailer-same {f} {g} o s =
     let e = offsets-list (trailer f) (length f) o in
-    ap (λ (n : ℕ). trailerAt g (n - 16)) (sym (s .size))
-    ∙ trailerAt-same f g (trailer f .list) (s .after) (length f - 16) (omega arith)
+    ap (λ (n : ℕ). trailerAt g (n - trailerSize)) (sym (s .size))
+    ∙ trailerAt-same f g (trailer f .list) (s .after) (length f - trailerSize) (omega arith)
 
 -- a file with other words of the state
 abbrev pub parsedWith : List ℕ → Parsed → Parsed

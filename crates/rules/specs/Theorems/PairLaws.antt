@@ -22,11 +22,11 @@ use Rattle.rules.specs.declared.Refusal.the-variants as refusals
 use Rattle.rules.specs.declared.Counts.{Counts}
 use Rattle.rules.specs.declared.PairAnswer.the-variants as pairs
 use Rattle.rules.specs.Rules.Instructions.{Observation}
-use Rattle.rules.specs.Rules.Runs.{Job, Result, mispredictingRun, plainRun}
+use Rattle.rules.specs.Rules.Runs.{Job, Result, mispredictingRun, plainRun, isFinished}
 use Rattle.rules.specs.Rules.Answers.{pairRefusal}
 use Rattle.rules.specs.Rules.JobFile.{Parsed, accepted, rejected, parse, trailer, locations, wordsAt}
 use Rattle.rules.specs.Rules.Calls.{Areas, traceWords, room, workingWords, written, counts, longEnough}
-use Rattle.rules.specs.Rules.Pairs.{withState, alikeFrom, isFinished, sameWords, sameTrace, firstThatFits, pairWord, PairAreas, pairAfter, pairRefused, secondFits, pairFits, pairAccepted, pairParsed, pairCall}
+use Rattle.rules.specs.Rules.Pairs.{withState, alikeFrom, sameWords, sameTrace, firstThatFits, pairWord, PairAreas, pairAfter, pairRefused, secondFits, pairFits, pairAccepted, pairParsed, pairCall}
 use Rattle.rules.specs.Rules.Demands.{AlikeOn, plainTraceOf, Unaltered, secondState, AlikePublic, SecondJob, RunAreas, SamePlain, OtherPlain, BothFinished, SameTraces, Means, PairMeaning}
 use Rattle.rules.specs.Theorems.JobLaws.{passed, job-init, job-public, length-wordsAt, length-stateOf, parse-other}
 use Rattle.rules.specs.Theorems.CallLaws.{length-traceWords, plain-trace-runs, carried-out, left-alone}

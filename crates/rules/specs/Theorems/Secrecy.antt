@@ -2,7 +2,7 @@
 -- trace, steps, rollbacks, stop, sets and verdict, finished or not.
 -- Assumes nothing.
 use mathlib.Core.Path.{_≡_, refl, sym, ap, ap₂, _∙_}
-use mathlib.Core.Bool.{Bool, true, false, cond}
+use mathlib.Core.Bool.{Bool, true, false, not, cond}
 use mathlib.Core.List.{List, [], _∷_}
 use mathlib.Core.Logic.{_≢_}
 use Prim.Native.Nat.{ℕ, zero, suc, _+_, _<_, _≤_}
@@ -21,7 +21,7 @@ use Rattle.rules.specs.Rules.Expressions.{tagged}
 use Rattle.rules.specs.Rules.Plain.{at, ownFrom, Code}
 use Rattle.rules.specs.Rules.Mispredicting.{Machine, Step, step}
 use Rattle.rules.specs.Rules.Loop.{ended}
-use Rattle.rules.specs.Rules.Runs.{Log, Result, note, fits, run, Job, first, blank, mispredictingRun, judge, verdict}
+use Rattle.rules.specs.Rules.Runs.{Log, Result, note, fits, run, Job, first, blank, mispredictingRun, isFinished, judge, verdict}
 use Rattle.rules.specs.Rules.Pairs.{withState}
 use Rattle.rules.specs.Rules.Demands.{AlikeOn}
 use Rattle.rules.specs.Theorems.RunLaws.{run-over, run-spent, run-full, run-step, run-ind, full-grows}
@@ -128,15 +128,15 @@ not-clean false e = let z : _≡_ {A = ℕ} 0 1 = cc in omega arith
 pub clean-within : (public : LocationSet) (stop : Stop) (full plain : LocationSet) → judge public stop full plain ≡ verdicts.Clean
     → Within full public
 unfolding judge
-clean-within public Spent full plain e = absurd (undecided≢clean e)
-clean-within public TraceFull full plain e = absurd (undecided≢clean e)
-clean-within public Finished full plain e = go (subset full public) refl e
+clean-within public stop full plain = go (isFinished stop) (subset full public) refl
   where
-    go : (b : Bool) → subset full public ≡ b
-        → cond b verdicts.Clean (cond (subset full (union public plain)) verdicts.Plain verdicts.Speculative) ≡ verdicts.Clean
+    go : (f b : Bool) → subset full public ≡ b
+        → cond (not f) verdicts.Undecided (cond b verdicts.Clean (cond (subset full (union public plain)) verdicts.Plain verdicts.Speculative))
+        ≡ verdicts.Clean
         → Within full public
-    go true q r = subset-within full public q
-    go false q r = absurd (not-clean (subset full (union public plain)) r)
+    go false b q r = absurd (undecided≢clean r)
+    go true true q r = subset-within full public q
+    go true false q r = absurd (not-clean (subset full (union public plain)) r)
 
 -- "The second state stands in a job that is the same but for the state's bytes": vs are its words.
 module _ (job : Job) (room : ℕ) (vs : List ℕ) (bound : length (job .init) ≤ 256) (size : length (job .init) ≡ length vs) where

@@ -7,7 +7,7 @@ use mathlib.Core.Logic.{_≢_}
 use Prim.Native.Nat.{ℕ, _<_}
 use lib.Dec.{eqb, leb}
 use borrow.Author.Tests.{eqb-false, leb-false}
-use Rattle.rules.specs.Rules.Instructions.{Instr, skip, assign, load, store, jmp, beqz, cassign, spbarr, kind}
+use Rattle.rules.specs.Rules.Instructions.{Instr, skip, assign, load, store, jmp, beqz, cassign, spbarr, other, branchView}
 use Rattle.rules.specs.Rules.Plain.{State, Code, endPlace, fetch}
 use Rattle.rules.specs.Rules.Mispredicting.{Branch, Machine, Step, ordinary, opening, forward, rolling, expired, stepOn, step}
 
@@ -18,19 +18,40 @@ machineWith σ p bs n = record { state = σ; place = p; branches = bs; opened = 
 abbrev pub branchWith : ℕ → State → ℕ → ℕ → Branch
 branchWith i σ p v = record { id = i; saved = σ; target = p; window = v }
 
--- an instruction carried out is rule 2 for beqz, else rule 3
-pub forward-cases : (code : Code) (M : Machine) (P : Instr → Step → Type 0)
-    → ((i : Instr) → eqb (kind i) 5 ≡ false → P i (ordinary code M i))
-    → ((r l : ℕ) → P (beqz r l) (opening code M r l)) → (i : Instr) → P i (forward code M i)
+-- an instruction is a branch, or another
+pub branch-or-other : (P : Instr → Type 0) → ((r l : ℕ) → P (beqz r l)) → ((i : Instr) → branchView i ≡ other → P i) → (i : Instr) → P i
+branch-or-other P b o skip = o skip refl
+branch-or-other P b o (assign r e) = o (assign r e) refl
+branch-or-other P b o (load r e) = o (load r e) refl
+branch-or-other P b o (store r e) = o (store r e) refl
+branch-or-other P b o (jmp e) = o (jmp e) refl
+branch-or-other P b o (beqz r l) = b r l
+branch-or-other P b o (cassign r c e) = o (cassign r c e) refl
+branch-or-other P b o spbarr = o spbarr refl
+
+-- what is carried out is rule 2 for a branch, else rule 3
+pub forward-branch : (code : Code) (M : Machine) (r l : ℕ) → forward code M (beqz r l) ≡ opening code M r l
 unfolding forward
-forward-cases code M P o b skip = o skip refl
-forward-cases code M P o b (assign r e) = o (assign r e) refl
-forward-cases code M P o b (load r e) = o (load r e) refl
-forward-cases code M P o b (store r e) = o (store r e) refl
-forward-cases code M P o b (jmp e) = o (jmp e) refl
-forward-cases code M P o b (beqz r l) = b r l
-forward-cases code M P o b (cassign r c e) = o (cassign r c e) refl
-forward-cases code M P o b spbarr = o spbarr refl
+forward-branch code M r l = refl
+
+pub forward-other : (code : Code) (M : Machine) (i : Instr) → branchView i ≡ other → forward code M i ≡ ordinary code M i
+unfolding forward
+forward-other code M i e = rw (forward, e)
+
+pub forward-cases : (code : Code) (M : Machine) (P : Instr → Step → Type 0)
+    → ((i : Instr) → branchView i ≡ other → P i (ordinary code M i))
+    → ((r l : ℕ) → P (beqz r l) (opening code M r l)) → (i : Instr) → P i (forward code M i)
+forward-cases code M P o b =
+    branch-or-other (λ i. P i (forward code M i)) (λ r l. rw (forward-branch code M r l) (b r l))
+    (λ i e. rw (forward-other code M i e) (o i e))
+
+-- the same for two machines side by side
+pub forward-both : (code : Code) (M N : Machine) (P : Step → Step → Type 0)
+    → ((i : Instr) → P (ordinary code M i) (ordinary code N i))
+    → ((r l : ℕ) → P (opening code M r l) (opening code N r l)) → (i : Instr) → P (forward code M i) (forward code N i)
+forward-both code M N P o b =
+    branch-or-other (λ i. P (forward code M i) (forward code N i)) (λ r l. rw (forward-branch code M r l, forward-branch code N r l) (b r l))
+    (λ i e. rw (forward-other code M i e, forward-other code N i e) (o i))
 
 -- and is no rollback
 pub forward-back : (code : Code) (M : Machine) (i : Instr) → forward code M i .back ≡ 0

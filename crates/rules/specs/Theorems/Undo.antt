@@ -5,17 +5,18 @@ use mathlib.Core.Path.{_≡_, refl}
 use mathlib.Core.Bool.{Bool, true, false, cond}
 use mathlib.Core.List.{List, [], _∷_, _++_}
 use mathlib.Core.Logic.{_≢_}
-use Prim.Native.Nat.{ℕ, zero, suc, _+_, _-_, _≤_}
+use Prim.Native.Nat.{ℕ, suc, _+_, _-_, _≤_}
 use native.Mathlib.Omega.{arith}
-use lib.Dec.{eqb, ltb}
+use lib.Dec.{ltb}
 use lib.ListN.{length, getD, length-append}
 use lib.Seq.{set-set, set-getD}
 use Rattle.location.specs.Sets.{registerLocation, cellLocation}
 use Rattle.rules.specs.declared.Tagged.{Tagged}
 use Rattle.rules.specs.Rules.Expressions.{eval}
-use Rattle.rules.specs.Rules.Instructions.{Instr, skip, assign, load, store, jmp, beqz, cassign, spbarr, kind, windowCosts}
+use Rattle.rules.specs.Rules.Instructions.{Instr, skip, assign, load, store, jmp, beqz, cassign, spbarr, kind, isBarrier, other, branchView, windowCosts}
 use Rattle.rules.specs.Rules.Plain.{State, at, put, Code, fetch, joined, storedTo, branchTo, exec}
 use Rattle.rules.specs.Rules.Mispredicting.{Branch, Machine, Step, remaining, lowered, lower, ordinary, newWindow, opening, forward, rolling, step}
+use Rattle.rules.specs.Rules.Changes.{Change, changeOf, changes, restore, UndoLog, size, added, dropped, logForward, logBy, logAfter}
 use Rattle.rules.specs.Rules.Loop.{ended}
 use Rattle.rules.specs.Rules.Runs.{over, Job, first, blank, mispredictingRun}
 use Rattle.rules.specs.Theorems.RunLaws.{run-ind}
@@ -34,34 +35,7 @@ last-reached job room =
     run-ind (step (job .code)) (job .code) room (λ k M g r. Reached job M → Reached job (r .last)) (λ k M g e x. x) (λ M g e x. x)
     (λ k M g e h x. x) (λ k M g e h p x. p (at-next e x)) (job .budget) (first job) blank at-first
 
--- ---- changes of a place, and undoing them
--- a location with what it held before
-pub record Change : Type 0 where
-  pub location : ℕ
-  pub before : Tagged
-
-abbrev changeOf : State → ℕ → Change
-changeOf σ l = record { location = l; before = at σ l }
-
--- The change of a place that an instruction makes, if it makes one: "a store there changes nothing"; a conditional assignment not
--- taken changes the register's set.
-unfoldable pub changes : Code → State → Instr → List Change
-changes code σ skip = []
-changes code σ (assign r e) = changeOf σ (registerLocation r) ∷ []
-changes code σ (load r e) = changeOf σ (registerLocation r) ∷ []
-changes code σ (store r e) =
-    let a = eval (at σ) e in
-    cond (ltb (a .value) (code .cells)) (changeOf σ (cellLocation (a .value)) ∷ []) []
-changes code σ (jmp e) = []
-changes code σ (beqz r l) = []
-changes code σ (cassign r c e) = changeOf σ (registerLocation r) ∷ []
-changes code σ spbarr = []
-
--- the state before some changes, the newest first
-abbrev pub restore : List Change → State → State
-restore [] σ = σ
-restore (u ∷ us) σ = restore us (put σ (u .location) (u .before))
-
+-- ---- undoing
 pub put-back : (σ : State) (l : ℕ) (t : Tagged) → put (put σ l t) l (at σ l) ≡ σ
 unfolding put at
 put-back σ l t = simp (set-set, set-getD)
@@ -101,34 +75,6 @@ changes-one code σ (cassign r c e) = omega arith
 changes-one code σ spbarr = omega arith
 
 -- ---- the changes that are live
--- The undo log, in parts: for each open branch, the top first, the changes made while it was the top, the newest first.
-abbrev pub UndoLog : Type 0
-UndoLog = List (List Change)
-
-unfoldable pub size : UndoLog → ℕ
-size [] = 0
-size (u ∷ us) = length u + size us
-
-unfoldable pub added : List Change → UndoLog → UndoLog
-added c [] = []
-added c (u ∷ us) = (c ++ u) ∷ us
-
-unfoldable pub dropped : UndoLog → UndoLog
-dropped [] = []
-dropped (u ∷ us) = us
-
--- a branch opens a part; any other instruction adds its change to the newest
-unfoldable pub logForward : Code → State → Instr → UndoLog → UndoLog
-logForward code σ i us = cond (eqb (kind i) 5) ([] ∷ us) (added (changes code σ i) us)
-
--- The log after a step that makes so many rollbacks, 0 or 1: "Rollback restores sets too", and drops the newest part.
-unfoldable pub logBy : ℕ → Code → Machine → UndoLog → UndoLog
-logBy zero code M us = logForward code (M .state) (fetch code (M .place)) us
-logBy (suc k) code M us = dropped us
-
-unfoldable pub logAfter : Code → Machine → UndoLog → UndoLog
-logAfter code M us = logBy (step code M .back) code M us
-
 -- the machines that a mispredicting run comes to, with the changes that are live there
 pub data Live (job : Job) : Machine → UndoLog → Type 0 where
   live-first : Live job (first job) []
@@ -156,7 +102,7 @@ windowCosts-positive = record { each = one }
 -- so a window that is lowered falls
 pub remaining-less : (code : Code) → PositiveCosts (code .costs) → (i : Instr) (v : ℕ) → v ≢ 0 → remaining code i v + 1 ≤ v
 unfolding remaining
-remaining-less code h i v ne = go (eqb (kind i) 7)
+remaining-less code h i v ne = go (isBarrier i)
   where
     go : (x : Bool) → cond x 0 (v - getD (code .costs) (kind i) 0) + 1 ≤ v
     go true = omega (arith, ne)
@@ -199,9 +145,9 @@ KeepsOn code M i s =
 
 module _ (code : Code) (positive : PositiveCosts (code .costs)) (σ : State) (p n : ℕ) where
   -- ---- with nothing open
-  empty-ordinary : (i : Instr) → eqb (kind i) 5 ≡ false → (let M = machineWith σ p [] n in KeepsOn code M i (ordinary code M i))
+  empty-ordinary : (i : Instr) → branchView i ≡ other → (let M = machineWith σ p [] n in KeepsOn code M i (ordinary code M i))
   unfolding ordinary lower logForward added
-  empty-ordinary i e us none = rw e none
+  empty-ordinary i e us none = rw (logForward, e) none
 
   empty-opening : (r l : ℕ) → (let M = machineWith σ p [] n in KeepsOn code M (beqz r l) (opening code M r l))
   unfolding opening lower newWindow logForward size
@@ -209,13 +155,13 @@ module _ (code : Code) (positive : PositiveCosts (code .costs)) (σ : State) (p 
 
   -- ---- with branch b on top, whose window is left
   module _ (b : Branch) (bs : List Branch) (ne : b .window ≢ 0) where
-    open-ordinary : (i : Instr) → eqb (kind i) 5 ≡ false
+    open-ordinary : (i : Instr) → branchView i ≡ other
         → (let M = machineWith σ p (b ∷ bs) n in KeepsOn code M i (ordinary code M i))
     unfolding ordinary lower logForward added size
     open-ordinary i e us (more u vs s h r) =
         let one = changes-one code σ i in
         let less = remaining-less code positive i (b .window) ne in
-        rw e (more {σ = exec code σ p i .state} {b = lowered code i b} {bs = bs} (changes code σ i ++ u) vs
+        rw (logForward, e) (more {σ = exec code σ p i .state} {b = lowered code i b} {bs = bs} (changes code σ i ++ u) vs
         (rw (restore-exec code σ p i u) s) (simp length-append (omega arith)) r)
 
     open-opening : (r l : ℕ) → (let M = machineWith σ p (b ∷ bs) n in KeepsOn code M (beqz r l) (opening code M r l))

@@ -1,5 +1,6 @@
 -- `trailer::limits_hold` meets its contract, by its tests in their order. Assumes nothing.
 use borrow.Author.Tests.{le-leb, lt-leb, eq-eqb, ne-eqb}
+use Rattle.rules.specs.Rules.Limits.{maxInstructions, maxCells, maxWindow}
 use Rattle.rules.specs.Rules.JobFile.{limits}
 use Rattle.trailer.proofs.limits_hold.Statement.{statement}
 use Rattle.trailer.proofs.limits_hold.Tie as tie
@@ -10,46 +11,51 @@ returns c = simp (lt-leb 1 _ (c .if1 .taken))
 
 returns-2 : tie.Need-returns-2
 unfolding limits
-returns-2 c = simp (le-leb 1 _ (c .before .before .if1 .left), lt-leb _ 512 (c .if2 .taken))
+returns-2 c = simp (le-leb 1 _ (c .before .before .if1 .left), lt-leb _ maxInstructions (c .if2 .taken))
 
 returns-3 : tie.Need-returns-3
 unfolding limits
 returns-3 c =
-    let b = c .before .before in
-    simp (le-leb 1 _ (b .before .before .if1 .left), le-leb _ 512 (b .if2 .left), lt-leb _ 240 (c .if3 .taken))
+    let at-if2 = c .before .before in
+    simp (le-leb 1 _ (at-if2 .before .before .if1 .left), le-leb _ maxInstructions (at-if2 .if2 .left), lt-leb _ maxCells (c .if3 .taken))
 
 returns-4 : tie.Need-returns-4
 unfolding limits
 returns-4 c =
-    let d = c .before .before in
-    let b = d .before .before in
-    simp (le-leb 1 _ (b .before .before .if1 .left), le-leb _ 512 (b .if2 .left), le-leb _ 240 (d .if3 .left), lt-leb _ 200 (c .if4 .taken))
+    let at-if3 = c .before .before in
+    let at-if2 = at-if3 .before .before in
+    simp (
+      le-leb 1 _ (at-if2 .before .before .if1 .left),
+      le-leb _ maxInstructions (at-if2 .if2 .left),
+      le-leb _ maxCells (at-if3 .if3 .left),
+      lt-leb _ maxWindow (c .if4 .taken),
+    )
 
 returns-5 : tie.Need-returns-5
 unfolding limits
 returns-5 c =
-    let e = c .before .before in
-    let d = e .before .before in
-    let b = d .before .before in
+    let at-if4 = c .before .before in
+    let at-if3 = at-if4 .before .before in
+    let at-if2 = at-if3 .before .before in
     simp (
-      le-leb 1 _ (b .before .before .if1 .left),
-      le-leb _ 512 (b .if2 .left),
-      le-leb _ 240 (d .if3 .left),
-      le-leb _ 200 (e .if4 .left),
+      le-leb 1 _ (at-if2 .before .before .if1 .left),
+      le-leb _ maxInstructions (at-if2 .if2 .left),
+      le-leb _ maxCells (at-if3 .if3 .left),
+      le-leb _ maxWindow (at-if4 .if4 .left),
       ne-eqb _ 0 (c .if5 .taken),
     )
 
 returns-6 : tie.Need-returns-6
 unfolding limits
 returns-6 c =
-    let e = c .before .before .before in
-    let d = e .before .before in
-    let b = d .before .before in
+    let at-if4 = c .before .before .before in
+    let at-if3 = at-if4 .before .before in
+    let at-if2 = at-if3 .before .before in
     rw (
-      le-leb 1 _ (b .before .before .if1 .left),
-      le-leb _ 512 (b .if2 .left),
-      le-leb _ 240 (d .if3 .left),
-      le-leb _ 200 (e .if4 .left),
+      le-leb 1 _ (at-if2 .before .before .if1 .left),
+      le-leb _ maxInstructions (at-if2 .if2 .left),
+      le-leb _ maxCells (at-if3 .if3 .left),
+      le-leb _ maxWindow (at-if4 .if4 .left),
       eq-eqb _ 0 (c .before .if5 .left),
     )
 

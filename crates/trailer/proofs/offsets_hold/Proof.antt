@@ -2,6 +2,7 @@
 use borrow.Author.Tests.{le-leb, lt-leb, eq-eqb, ne-eqb}
 use native.Mathlib.Omega.{arith}
 use Prim.Native.Nat.{_+_}
+use Rattle.rules.specs.Rules.Limits.{listSize, trailerSize}
 use Rattle.rules.specs.Rules.JobFile.{offsets}
 use borrow.Author.Needs.{needs}
 use Rattle.trailer.proofs.offsets_hold.Statement.{statement}
@@ -26,21 +27,21 @@ unfolding offsets
 returns-3 c =
     let b = c .before .before .before .before in
     let a = b .before .before .args in
-    simp (le-leb _ _ (b .if1 .left), eq-eqb _ _ (c .before .if2 .left), ne-eqb (a .t .list + 48) (a .len) (omega arith))
+    simp (le-leb _ _ (b .if1 .left), eq-eqb _ _ (c .before .if2 .left), ne-eqb (a .t .list + (listSize + trailerSize)) (a .len) (omega arith))
 
 returns-4 : tie.Need-returns-4
 unfolding offsets
 returns-4 c =
     let b = c .before .before .before .before .before .before in
     let a = b .before .before .args in
-    simp (le-leb _ _ (b .if1 .left), eq-eqb _ _ (c .before .before .before .if2 .left), eq-eqb (a .t .list + 48) (a .len) (omega arith))
+    simp (le-leb _ _ (b .if1 .left), eq-eqb _ _ (c .before .before .before .if2 .left), eq-eqb (a .t .list + (listSize + trailerSize)) (a .len) (omega arith))
 
 returns-5 : tie.Need-returns-5
 unfolding offsets
 returns-5 c =
     let b = c .before .before .before .before .before .before in
     let a = b .before .before .args in
-    simp (le-leb _ _ (b .if1 .left), eq-eqb _ _ (c .before .before .before .if2 .left), ne-eqb (a .t .list + 48) (a .len) (omega arith))
+    simp (le-leb _ _ (b .if1 .left), eq-eqb _ _ (c .before .before .before .if2 .left), ne-eqb (a .t .list + (listSize + trailerSize)) (a .len) (omega arith))
 
 pub offsets-hold-spec : {M : Type 1} → statement M
 offsets-hold-spec =

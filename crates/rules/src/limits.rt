@@ -1,0 +1,17 @@
+// The limits of a job file, and the bytes of its parts.
+pub const MAX_BYTES: usize = 16384;
+
+pub const MAX_INSTRUCTIONS: usize = 512;
+
+pub const MAX_CELLS: usize = 240;
+
+pub const MAX_WINDOW: usize = 200;
+
+pub const MAX_BUDGET: usize = 1000000;
+
+// The registers, without the cells.
+pub const REGISTERS_SIZE: usize = 128;
+
+pub const LIST_SIZE: usize = 32;
+
+pub const TRAILER_SIZE: usize = 16;
