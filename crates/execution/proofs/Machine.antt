@@ -8,10 +8,11 @@ use native.Mathlib.Omega.{arith}
 use lib.Dec.{eqb, leb}
 use lib.ListN.{length}
 use borrow.Author.Tests.{leb-true, leb-false, le-leb, lt-leb, eq-eqb, ne-eqb}
-use Rattle.rules.specs.Rules.Instructions.{Instr, skip, assign, load, store, jmp, beqz, cassign, spbarr}
+use Rattle.rules.specs.Rules.Instructions.{Instr, skip, assign, load, store, jmp, beqz, cassign, spbarr, branching, other, branchView}
 use Rattle.rules.specs.Rules.Plain.{Code, State, endPlace, fetch, exec}
 use Rattle.rules.specs.Rules.Mispredicting.{Branch, Machine, Step, expired, rolling, opening, forward, ordinary, lower, stepOn, step, plainStep}
 use Rattle.rules.specs.Rules.Runs.{overOn, over}
+use Rattle.rules.specs.Theorems.StepLaws.{branch-or-other, forward-other}
 use Rattle.rules.specs.Rules.Changes.{Change}
 use Rattle.work.specs.declared.BranchEntry.{BranchEntry}
 use Rattle.work.specs.declared.machine.Control.{Control}
@@ -224,86 +225,83 @@ plain-closed code w w′ c c′ n d e =
 
 -- ---- what an instruction opens: one that is no branch is rule 3's
 pub never-opens : (mode : Mode) (i : Instr) → ((r l : ℕ) → i ≡ beqz r l → ⊥) → Opens mode i openings.Nothing
-unfolding forward
 never-opens modes.Plain i n = λ code M. refl
-never-opens modes.Mispredicting skip n = λ code M. refl
-never-opens modes.Mispredicting (assign r e) n = λ code M. refl
-never-opens modes.Mispredicting (load r e) n = λ code M. refl
-never-opens modes.Mispredicting (store r e) n = λ code M. refl
-never-opens modes.Mispredicting (jmp e) n = λ code M. refl
-never-opens modes.Mispredicting (beqz r l) n = absurd (n r l refl)
-never-opens modes.Mispredicting (cassign r b e) n = λ code M. refl
-never-opens modes.Mispredicting spbarr n = λ code M. refl
+never-opens modes.Mispredicting i n =
+    branch-or-other (λ (j : Instr). ((r l : ℕ) → j ≡ beqz r l → ⊥) → Opens modes.Mispredicting j openings.Nothing)
+    (λ r l n. absurd (n r l refl)) (λ j e n code M. forward-other code M j e) i n
 
--- ---- how many observations an instruction makes
-abbrev observations : Mode → Instr → ℕ
-observations mode skip = 0
-observations mode (assign r e) = 0
-observations mode (load r e) = 1
-observations mode (store r e) = 1
-observations mode (jmp e) = 1
-observations modes.Plain (beqz r l) = 1
-observations modes.Mispredicting (beqz r l) = 2
-observations mode (cassign r b e) = 0
-observations mode spbarr = 0
+-- ---- how many observations an instruction makes: by rule 3
+abbrev shown : Instr → ℕ
+shown skip = 0
+shown (assign r e) = 0
+shown (load r e) = 1
+shown (store r e) = 1
+shown (jmp e) = 1
+shown (beqz r l) = 1
+shown (cassign r b e) = 0
+shown spbarr = 0
 
-pub observed-kind : (mode : Mode) (i : Instr) (code : Code) (M : Machine) → observations mode i ≡ length (forwardBy mode code M i .obs)
-unfolding forward opening ordinary exec
-observed-kind modes.Plain skip code M = refl
-observed-kind modes.Plain (assign r e) code M = refl
-observed-kind modes.Plain (load r e) code M = refl
-observed-kind modes.Plain (store r e) code M = refl
-observed-kind modes.Plain (jmp e) code M = refl
-observed-kind modes.Plain (beqz r l) code M = refl
-observed-kind modes.Plain (cassign r b e) code M = refl
-observed-kind modes.Plain spbarr code M = refl
-observed-kind modes.Mispredicting skip code M = refl
-observed-kind modes.Mispredicting (assign r e) code M = refl
-observed-kind modes.Mispredicting (load r e) code M = refl
-observed-kind modes.Mispredicting (store r e) code M = refl
-observed-kind modes.Mispredicting (jmp e) code M = refl
-observed-kind modes.Mispredicting (beqz r l) code M = refl
-observed-kind modes.Mispredicting (cassign r b e) code M = refl
-observed-kind modes.Mispredicting spbarr code M = refl
+shown-ordinary : (code : Code) (M : Machine) (i : Instr) → shown i ≡ length (ordinary code M i .obs)
+unfolding ordinary exec
+shown-ordinary code M skip = refl
+shown-ordinary code M (assign r e) = refl
+shown-ordinary code M (load r e) = refl
+shown-ordinary code M (store r e) = refl
+shown-ordinary code M (jmp e) = refl
+shown-ordinary code M (beqz r l) = refl
+shown-ordinary code M (cassign r b e) = refl
+shown-ordinary code M spbarr = refl
 
--- how many observations rule 3 makes is the instruction's alone
+-- the code has no part in it
 pub same-shown : (code code′ : Code) (M : Machine) (i : Instr) → length (ordinary code M i .obs) ≡ length (ordinary code′ M i .obs)
-unfolding ordinary exec
-same-shown code code′ M skip = refl
-same-shown code code′ M (assign r e) = refl
-same-shown code code′ M (load r e) = refl
-same-shown code code′ M (store r e) = refl
-same-shown code code′ M (jmp e) = refl
-same-shown code code′ M (beqz r l) = refl
-same-shown code code′ M (cassign r b e) = refl
-same-shown code code′ M spbarr = refl
+same-shown code code′ M i = sym (shown-ordinary code M i) ∙ shown-ordinary code′ M i
 
--- ---- no step makes more than two observations
-ordinary-most : (code : Code) (M : Machine) (i : Instr) → length (ordinary code M i .obs) ≤ 2
-unfolding ordinary exec
-ordinary-most code M skip = omega arith
-ordinary-most code M (assign r e) = omega arith
-ordinary-most code M (load r e) = omega arith
-ordinary-most code M (store r e) = omega arith
-ordinary-most code M (jmp e) = omega arith
-ordinary-most code M (beqz r l) = omega arith
-ordinary-most code M (cassign r b e) = omega arith
-ordinary-most code M spbarr = omega arith
+-- and in each of the two runs
+abbrev branchShown : Mode → ℕ
+branchShown modes.Plain = 1
+branchShown modes.Mispredicting = 2
+
+abbrev shownBy : Mode → Instr → ℕ
+shownBy mode i = elim (branchView i) [ branching r l ↦ branchShown mode | other ↦ shown i ]
+
+other-kind : (mode : Mode) (i : Instr) → branchView i ≡ other → (code : Code) (M : Machine) → shownBy mode i ≡ length (forwardBy mode code M i .obs)
+other-kind modes.Plain i e code M = rw (e, shownBy) (shown-ordinary code M i)
+other-kind modes.Mispredicting i e code M =
+    rw (e, shownBy) (shown-ordinary code M i ∙ ap (λ (s : Step). length (s .obs)) (sym (forward-other code M i e)))
+
+branch-kind : (mode : Mode) (r l : ℕ) (code : Code) (M : Machine) → branchShown mode ≡ length (forwardBy mode code M (beqz r l) .obs)
+unfolding forward opening
+branch-kind modes.Plain r l code M = shown-ordinary code M (beqz r l)
+branch-kind modes.Mispredicting r l code M = refl
+
+pub observed-kind : (mode : Mode) (i : Instr) (code : Code) (M : Machine) → shownBy mode i ≡ length (forwardBy mode code M i .obs)
+observed-kind mode i =
+    branch-or-other (λ (j : Instr). (code : Code) (M : Machine) → shownBy mode j ≡ length (forwardBy mode code M j .obs)) (branch-kind mode)
+    (other-kind mode) i
+
+-- no step makes more than two
+shown-most : (i : Instr) → shown i ≤ 2
+shown-most skip = omega arith
+shown-most (assign r e) = omega arith
+shown-most (load r e) = omega arith
+shown-most (store r e) = omega arith
+shown-most (jmp e) = omega arith
+shown-most (beqz r l) = omega arith
+shown-most (cassign r b e) = omega arith
+shown-most spbarr = omega arith
 
 forward-most : (code : Code) (M : Machine) (i : Instr) → length (forward code M i .obs) ≤ 2
-unfolding forward opening
-forward-most code M skip = ordinary-most code M skip
-forward-most code M (assign r e) = ordinary-most code M (assign r e)
-forward-most code M (load r e) = ordinary-most code M (load r e)
-forward-most code M (store r e) = ordinary-most code M (store r e)
-forward-most code M (jmp e) = ordinary-most code M (jmp e)
-forward-most code M (beqz r l) = omega arith
-forward-most code M (cassign r b e) = ordinary-most code M (cassign r b e)
-forward-most code M spbarr = ordinary-most code M spbarr
+forward-most code M i =
+    branch-or-other (λ (j : Instr). length (forward code M j .obs) ≤ 2) (λ r l. unfold forward opening in omega arith)
+    (λ j e. rw (forward-other code M j e) (let f = shown-ordinary code M j in let h = shown-most j in omega arith)) i
 
 pub step-most : (mode : Mode) (code : Code) (M : Machine) → length (stepBy mode code M .obs) ≤ 2
 unfolding plainStep step
-step-most modes.Plain code M = ordinary-most code M (fetch code (M .place))
+step-most modes.Plain code M =
+    let i = fetch code (M .place) in
+    let e = shown-ordinary code M i in
+    let h = shown-most i in
+    omega arith
 step-most modes.Mispredicting code M = go (expiredOn (endPlace code) (M .place) (M .branches)) refl
   where
     go : (b : Bool) → expiredOn (endPlace code) (M .place) (M .branches) ≡ b → length (step code M .obs) ≤ 2
