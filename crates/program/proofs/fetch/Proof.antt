@@ -25,7 +25,7 @@ descriptor-in-requires c κs = search needs
 returns : tie.Need-returns
 returns c =
     let a = c .before .before .before .before .args in
-    c .entry-in .ensures ∙ ap (λ (i : ℕ). descriptorIn (getD (a .table .now) (a .base + i) 0)) (c .before .before .index .ensures)
+    c .descriptor-in .ensures ∙ ap (λ (i : ℕ). descriptorIn (getD (a .table .now) (a .base + i) 0)) (c .before .before .index .ensures)
 
 pub fetch-spec : {M : Type 1} → statement M
 fetch-spec =
