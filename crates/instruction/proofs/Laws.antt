@@ -11,7 +11,7 @@ use borrow.Author.Tests.{ltb-true, ne-eqb}
 use Rattle.location.specs.Sets.{registers}
 use Rattle.rules.specs.declared.Refusal.the-variants as refusals
 use Rattle.rules.specs.Rules.Expressions.{Expr, sound}
-use Rattle.rules.specs.Rules.Instructions.{Instr, skip, assign, load, store, jmp, beqz, cassign, kind, windowCosts}
+use Rattle.rules.specs.Rules.Instructions.{Instr, skip, assign, load, store, jmp, beqz, cassign, kind}
 use Rattle.rules.specs.Rules.JobFile.{Read, got, refused, andThen, refuse, little, wordOf, byte, register, expr, withRegister, jump, branch, conditional, fields, instr, postfix}
 use Rattle.rules.specs.Rules.Plain.{Code}
 use Rattle.rules.specs.Rules.Mispredicting.{remaining}
@@ -118,12 +118,12 @@ postfix-with k r e = go (eqb k 1) (eqb k 2)
     go false true = refl
     go false false = refl
 
--- ---- windows: k is the kind of the instruction i, c its cost
+-- ---- windows: k is the kind of the instruction i, c its entry in the table of costs
 pub remaining-barrier : (code : Code) (i : Instr) (v k : ℕ) → k ≡ kind i → k ≡ 7 → 0 ≡ remaining code i v
 unfolding remaining
 remaining-barrier code i v k e h = rw (← e, h)
 
-pub remaining-other : (code : Code) (i : Instr) (v k c : ℕ) → code .costs ≡ windowCosts → k ≡ kind i → (k ≡ 7 → ⊥)
-    → c ≡ getD windowCosts (kind i) 0 → v - c ≡ remaining code i v
+pub remaining-other : (code : Code) (i : Instr) (v k c : ℕ) (costs : List ℕ) → code .costs ≡ costs → k ≡ kind i → (k ≡ 7 → ⊥)
+    → c ≡ getD costs k 0 → v - c ≡ remaining code i v
 unfolding remaining
-remaining-other code i v k c s e h g = rw (s, ← g, ← e, ne-eqb k 7 h)
+remaining-other code i v k c costs s e h g = rw (s, ← e, ← g, ne-eqb k 7 h)

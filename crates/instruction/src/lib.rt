@@ -7,8 +7,7 @@ use token::ExpressionRead;
 ghost use mathlib.Core.Path.{_≡_};
 ghost use mathlib.Core.Bool.{true};
 ghost use mathlib.Core.List.{List};
-ghost use Prim.Native.Nat.{ℕ};
-ghost use lib.ListN.{getD};
+ghost use Prim.Native.Nat.{ℕ, _<_};
 ghost use Rattle.rules.specs.Rules.Instructions.{skip, kind, windowCosts};
 ghost use Rattle.rules.specs.Rules.JobFile.{wordOf, register, withRegister, jump, branch, conditional, instr};
 ghost use Rattle.rules.specs.Rules.Plain.{Code};
@@ -264,7 +263,8 @@ const BARRIER: usize = 7;
 
 // The kind's number, as in the kind byte.
 fn kind(i: Instruction) -> usize
-    ensures { λ r. ⌜ ((p : List ℕ) → r ≡ kind (meaning p i)) ⌝ }
+    ensures below { λ r. ⌜ r < 8 ⌝ }
+    ensures same { λ r. ⌜ ((p : List ℕ) → r ≡ kind (meaning p i)) ⌝ }
 {
     match i {
         Instruction::Skip => 0,
@@ -278,33 +278,24 @@ fn kind(i: Instruction) -> usize
     }
 }
 
-// The entry of the instruction's kind. Each arm has its number, so that the compiler need not keep the table.
-fn cost(i: Instruction) -> u64
-    ensures { λ r. ⌜ ((p : List ℕ) → r ≡ getD windowCosts (kind (meaning p i)) 0) ⌝ }
-{
-    match i {
-        Instruction::Skip => WINDOW_COSTS[0],
-        Instruction::Assign(_, _) => WINDOW_COSTS[1],
-        Instruction::Load(_, _) => WINDOW_COSTS[2],
-        Instruction::Store(_, _) => WINDOW_COSTS[3],
-        Instruction::Jump(_) => WINDOW_COSTS[4],
-        Instruction::BranchZero(_, _) => WINDOW_COSTS[5],
-        Instruction::AssignIf(_, _, _) => WINDOW_COSTS[6],
-        Instruction::Barrier => WINDOW_COSTS[7],
-    }
-}
-
-// The window that an instruction leaves: lowered by its cost, 0 at least; a barrier leaves 0.
-pub fn lowered(window: u64, i: Instruction) -> u64
-    ensures { λ r. ⌜ ((p : List ℕ) (code : Code) → code .costs ≡ windowCosts → r ≡ remaining code (meaning p i) window) ⌝ }
+// The window that an instruction leaves by any table of costs: lowered by its kind's entry, 0 at least; a barrier leaves 0.
+fn lowered_by(costs: [u64; 8], window: u64, i: Instruction) -> u64
+    ensures { λ r. ⌜ ((p : List ℕ) (code : Code) → code .costs ≡ costs → r ≡ remaining code (meaning p i) window) ⌝ }
 {
     let k = kind(i);
     if k == BARRIER {
         return 0;
     }
-    let c = cost(i);
-    if c < window {
-        return window - c;
+    let cost = costs[k];
+    if cost < window {
+        return window - cost;
     }
     0
+}
+
+// The window that an instruction leaves by the table above.
+pub fn lowered(window: u64, i: Instruction) -> u64
+    ensures { λ r. ⌜ ((p : List ℕ) (code : Code) → code .costs ≡ windowCosts → r ≡ remaining code (meaning p i) window) ⌝ }
+{
+    lowered_by(WINDOW_COSTS, window, i)
 }
