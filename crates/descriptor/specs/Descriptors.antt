@@ -12,7 +12,7 @@ use Rattle.rules.specs.Rules.Operators.{Op2, add}
 use Rattle.rules.specs.Rules.Expressions.{Token, reg, const, op2, Expr, sound}
 use Rattle.rules.specs.Rules.Instructions.{Instr, skip, assign, load, store, jmp, beqz, cassign, spbarr}
 use Rattle.rules.specs.Rules.JobFile.{little, binary, expr, instr, postfix}
-use Rattle.token.specs.Meaning.{readable, valueOr}
+use Rattle.rules.specs.Theorems.Readers.{readable, valueOr}
 use Rattle.descriptor.specs.declared.Descriptor.{Descriptor}
 
 -- ---- shapes

@@ -14,9 +14,9 @@ use Rattle.rules.specs.Rules.Expressions.{reg, const, Expr, sound}
 use Rattle.rules.specs.Rules.Instructions.{Instr, skip, assign, load, store}
 use Rattle.rules.specs.declared.Refusal.the-variants as refusals
 use Rattle.rules.specs.Rules.JobFile.{Read, got, refused, andThen, little, byte, register, tokenOf, token, tokens, expr, withRegister, branch, conditional, fields, instr, postfix}
-use Rattle.token.specs.Meaning.{readable, valueOr}
+use Rattle.rules.specs.Theorems.Readers.{readable, valueOr}
 use Rattle.token.specs.Bytes.{byte-got}
-use Rattle.token.specs.Readable.{first-read, byte-read, token-read, constant-read, operator-read, tokens-read, expr-read}
+use Rattle.token.specs.Readable.{token-read, constant-read, operator-read, tokens-read, expr-read}
 use Rattle.instruction.proofs.Laws.{instr-kind, instr-unknown, instr-read, with-parts, jump-parts, branch-parts, conditional-parts}
 use Rattle.descriptor.specs.Descriptors.{oneShape, threeShape, expressionShape, jumpShape, operatorOf, firstTokens, NoBranch, General, ShapeMeans, nothingRead, kindShapes, shapeAt, firstAt, countAt, offsets, shapes, wordAt, descriptorIn, Described}
 

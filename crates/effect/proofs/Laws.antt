@@ -15,7 +15,8 @@ use Rattle.rules.specs.Rules.Instructions.{Instr}
 use Rattle.rules.specs.Rules.JobFile.{tokens, expr, postfix}
 use Rattle.rules.specs.Rules.Plain.{State, put, Code, joined, loadedFrom, storedTo, chosen, at}
 use Rattle.token.specs.declared.Expression.{Expression}
-use Rattle.token.specs.Meaning.{valueOr, tokensOf}
+use Rattle.rules.specs.Theorems.Readers.{valueOr}
+use Rattle.token.specs.Meaning.{tokensOf}
 use Rattle.descriptor.specs.Descriptors.{firstTokens, countAt, General}
 use Rattle.instruction.specs.declared.Instruction.{Instruction}
 use Rattle.instruction.specs.declared.Instruction.the-variants.{AssignIf}

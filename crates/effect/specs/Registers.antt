@@ -12,7 +12,7 @@ use Rattle.rules.specs.declared.Refusal.the-variants as refusals
 use Rattle.rules.specs.Rules.Expressions.{Expr}
 use Rattle.rules.specs.Rules.Instructions.{Instr, skip, assign, load, store, jmp, beqz, cassign, spbarr}
 use Rattle.rules.specs.Rules.JobFile.{Read, got, refused, andThen, refuse, byte, register, wordOf, expr, withRegister, jump, branch, conditional, fields, instr}
-use Rattle.expression.specs.Registers.{Holds, then, always}
+use Rattle.rules.specs.Theorems.Readers.{Holds, then, always}
 
 -- the register that an instruction names, beside those of its expressions
 abbrev pub RegistersBelow : ℕ → Instr → Type 0

@@ -8,7 +8,7 @@ use Rattle.rules.specs.declared.Tagged.{Tagged}
 use Rattle.rules.specs.Rules.Expressions.{eval}
 use Rattle.rules.specs.Rules.Instructions.{Instr, skip}
 use Rattle.rules.specs.Rules.JobFile.{instr, postfix}
-use Rattle.token.specs.Meaning.{valueOr}
+use Rattle.rules.specs.Theorems.Readers.{valueOr}
 use Rattle.descriptor.specs.declared.Descriptor.{Descriptor}
 use Rattle.descriptor.specs.Descriptors.{firstTokens, Shaped}
 

@@ -15,9 +15,9 @@ use Rattle.rules.specs.Rules.Instructions.{Instr, skip, assign, load, store, jm
 use Rattle.rules.specs.Rules.JobFile.{Read, got, refused, andThen, refuse, little, wordOf, byte, register, expr, withRegister, jump, branch, conditional, fields, instr, postfix}
 use Rattle.rules.specs.Rules.Plain.{Code}
 use Rattle.rules.specs.Rules.Mispredicting.{remaining}
+use Rattle.rules.specs.Theorems.Readers.{readable, nextOffset, valueOr, first-read, unread}
 use Rattle.token.specs.Bytes.{byte-got}
-use Rattle.token.specs.Meaning.{readable, nextOffset, valueOr}
-use Rattle.token.specs.Readable.{first-read, byte-read, word-read}
+use Rattle.token.specs.Readable.{byte-read, word-read}
 use Rattle.instruction.specs.Meaning.{withRegisterOf}
 
 -- ---- the kind byte: the fields of each kind; a number that is none of the eight kinds

@@ -12,7 +12,8 @@ ghost use Rattle.rules.specs.Rules.Instructions.{skip, kind, windowCosts};
 ghost use Rattle.rules.specs.Rules.JobFile.{wordOf, register, withRegister, jump, branch, conditional, instr};
 ghost use Rattle.rules.specs.Rules.Plain.{Code};
 ghost use Rattle.rules.specs.Rules.Mispredicting.{remaining};
-ghost use Rattle.token.specs.Meaning.{readable, valueOr, tokensOf};
+ghost use Rattle.rules.specs.Theorems.Readers.{readable, valueOr};
+ghost use Rattle.token.specs.Meaning.{tokensOf};
 ghost use Rattle.instruction.specs.Meaning.{registerReadMeaning, labelReadMeaning, meaning, withRegisterOf, instructionReadMeaning, InstructionTested};
 
 const REGISTERS: u8 = Location::REGISTERS as u8;

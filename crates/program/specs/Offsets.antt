@@ -11,11 +11,11 @@ use Rattle.rules.specs.declared.Refusal.{Refusal}
 use Rattle.rules.specs.declared.Refusal.the-variants as refusals
 use Rattle.rules.specs.Rules.Instructions.{Instr, skip}
 use Rattle.rules.specs.Rules.JobFile.{Read, got, refused, andThen, instr, postfix, branchLabelHolds, instruction, program}
-use Rattle.token.specs.Meaning.{valueOr}
+use Rattle.rules.specs.Theorems.Readers.{valueOr, refused-got, unread}
 use Rattle.instruction.proofs.Laws.{instr-read}
 use Rattle.descriptor.specs.Descriptors.{offsets, wordAt, descriptorIn, Described}
 use Rattle.descriptor.specs.Reading.{word-described}
-unfoldable pub use Rattle.token.specs.Meaning.{readable, nextOffset}
+unfoldable pub use Rattle.rules.specs.Theorems.Readers.{readable, nextOffset}
 
 -- ---- offsets
 -- the offsets of k instructions, the first at an offset
@@ -70,9 +70,6 @@ word-at-offset (suc k) p at zero h = refl
 word-at-offset (suc k) p at (suc l) h = word-at-offset k p (nextOffset (instr p at)) l (omega arith)
 
 -- ---- laws of what was read
-pub got-not-refused : {A P : Type 0} {a : A} {q : ℕ} {r : Refusal} → refused r ≡ got a q → P
-got-not-refused {A} {P} {a} {q} {r} e = absurd (let z : _≡_ {A = ℕ} 0 1 = cc in omega arith)
-
 pub instruction-got : (n i : ℕ) (p : List ℕ) (at : ℕ) (x : Instr) (q : ℕ) → instruction n i p at ≡ got x q
     → Stands n i p at x × (q ≡ nextOffset (instr p at))
 unfolding instruction nextOffset
@@ -86,8 +83,8 @@ instruction-got n i p at x q e = first (instr p at) refl e
 
     second : (y : Instr) (q′ : ℕ) (a b : Bool) → postfix y ≡ a → branchLabelHolds n i y ≡ b → instr p at ≡ got y q′
         → andThen (cond a (got y q′) (refused refusals.Postfix)) branchTest ≡ got x q → Stands n i p at x × (q ≡ nextOffset (instr p at))
-    second y q′ false b ea eb r e = got-not-refused e
-    second y q′ true false ea eb r e = got-not-refused (rw eb at e)
+    second y q′ false b ea eb r e = refused-got e
+    second y q′ true false ea eb r e = refused-got (rw eb at e)
     second y q′ true true ea eb r e =
         let f : got y q′ ≡ got x q = rw eb at e in
         let fx : y ≡ x = cc in
@@ -96,7 +93,7 @@ instruction-got n i p at x q e = first (instr p at) refl e
 
     first : (R : Read Instr) → instr p at ≡ R → andThen R tests ≡ got x q → Stands n i p at x × (q ≡ nextOffset (instr p at))
     first (got y q′) r e = second y q′ (postfix y) (branchLabelHolds n i y) refl refl r e
-    first (refused r′) r e = got-not-refused e
+    first (refused r′) r e = refused-got e
 
 -- each of k instructions, the first with label i, stands at its offset
 AllStand : ℕ → ℕ → ℕ → List ℕ → ℕ → List Instr → Type 0
@@ -121,8 +118,8 @@ step n k i p at xs q f rec (got x q′) r e = rest (f q′) refl e
         let g : x ∷ ys ≡ xs = cc in
         let h : q″ ≡ q = cc in
         rw g at (cons n k i p at x ys q′ r (rec ys q′ (rw h at s)))
-    rest (refused w) s e = got-not-refused e
-step n k i p at xs q f rec (refused w) r e = got-not-refused e
+    rest (refused w) s e = refused-got e
+step n k i p at xs q f rec (refused w) r e = refused-got e
 
 -- k instructions of n that were read, the first with label i: each stands at its offset
 pub program-got : (n k i : ℕ) (p : List ℕ) (at : ℕ) (xs : List Instr) (q : ℕ) → program n k i p at ≡ got xs q
@@ -137,13 +134,10 @@ pub labelled : (n k i : ℕ) (p : List ℕ) (at : ℕ) → readable (program n k
 unfolding readable
 labelled n k i p at h l g = go (program n k i p at) refl h
   where
-    unread : (r : Refusal) → readable {A = List Instr} (refused r) ≡ true → ⊥
-    unread r h = let z : _≡_ {A = ℕ} 0 1 = cc in omega arith
-
     go : (R : Read (List Instr)) → program n k i p at ≡ R → readable R ≡ true
         → Stands n (i + l) p (getD (offsetsFrom k p at) l 0) (getD (valueOr [] R) l skip)
     go (got xs q) e h = program-got n k i p at xs q e l g
-    go (refused r) e h = absurd (unread r h)
+    go (refused r) e h = unread h
 
 -- ---- fetching: the descriptor of a label is that of the program's instruction with that label
 pub fetched : {p : List ℕ} {n : ℕ} {table : List ℕ} {base label : ℕ} → Fetchable p n table base label
