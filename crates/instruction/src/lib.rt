@@ -5,14 +5,12 @@ use rules::Refusal;
 use token::Expression;
 use token::ExpressionRead;
 ghost use mathlib.Core.Path.{_≡_};
-ghost use mathlib.Core.Bool.{true};
 ghost use mathlib.Core.List.{List};
 ghost use Prim.Native.Nat.{ℕ, _<_};
-ghost use Rattle.rules.specs.Rules.Instructions.{skip, kind, windowCosts};
+ghost use Rattle.rules.specs.Rules.Instructions.{kind, windowCosts};
 ghost use Rattle.rules.specs.Rules.JobFile.{wordOf, register, withRegister, jump, branch, conditional, instr};
 ghost use Rattle.rules.specs.Rules.Plain.{Code};
 ghost use Rattle.rules.specs.Rules.Mispredicting.{remaining};
-ghost use Rattle.rules.specs.Theorems.Readers.{readable, valueOr};
 ghost use Rattle.token.specs.Meaning.{tokensOf};
 ghost use Rattle.instruction.specs.Meaning.{registerReadMeaning, labelReadMeaning, meaning, withRegisterOf, instructionReadMeaning, InstructionTested};
 
@@ -83,7 +81,7 @@ pub enum InstructionRead {
 }
 
 // The instruction of a kind, 1 to 3, with a register and an expression.
-fn with_register(kind: u8, r: u8, e: Expression) -> Instruction
+pub fn with_register(kind: u8, r: u8, e: Expression) -> Instruction
     ensures { λ i. ⌜ ((p : List ℕ) → meaning p i ≡ withRegisterOf kind r (tokensOf p e)) ⌝ }
 {
     if kind == 1 {
@@ -198,62 +196,6 @@ pub fn decode(p: &[u8], at: usize) -> InstructionRead
             sound: true,
         }),
         _ => InstructionRead::Refused(Refusal::Encoding),
-    }
-}
-
-fn with_register_at(p: &[u8], at: usize, kind: u8) -> Instruction
-    requires { ⌜ readable (withRegister (withRegisterOf kind) (now p) at) ≡ true ⌝ }
-    ensures { λ i. ⌜ meaning (now (p .entry)) i ≡ valueOr skip (withRegister (withRegisterOf kind) (now (p .entry)) at) ⌝ }
-{
-    let r = p[at];
-    let e = token::expression_at(p, at + 1);
-    with_register(kind, r, e)
-}
-
-fn jump_at(p: &[u8], at: usize) -> Instruction
-    requires { ⌜ readable (jump (now p) at) ≡ true ⌝ }
-    ensures { λ i. ⌜ meaning (now (p .entry)) i ≡ valueOr skip (jump (now (p .entry)) at) ⌝ }
-{
-    Instruction::Jump(token::expression_at(p, at))
-}
-
-fn branch_at(p: &[u8], at: usize) -> Instruction
-    requires { ⌜ readable (branch (now p) at) ≡ true ⌝ }
-    ensures { λ i. ⌜ meaning (now (p .entry)) i ≡ valueOr skip (branch (now (p .entry)) at) ⌝ }
-{
-    let r = p[at];
-    let l = Label::new(token::number(p, at + 1, 2) as usize);
-    Instruction::BranchZero(r, l)
-}
-
-// The condition's tokens are read for their extent alone.
-fn conditional_at(p: &[u8], at: usize) -> Instruction
-    requires { ⌜ readable (conditional (now p) at) ≡ true ⌝ }
-    ensures { λ i. ⌜ meaning (now (p .entry)) i ≡ valueOr skip (conditional (now (p .entry)) at) ⌝ }
-{
-    let r = p[at];
-    let c = token::expression_at(p, at + 1);
-    let middle = token::expression_end(p, c);
-    let e = token::expression_at(p, middle);
-    Instruction::AssignIf(r, c, e)
-}
-
-// The instruction at an offset where one can be read: its fields are taken as they stand, with no test.
-pub fn instruction_at(p: &[u8], at: usize) -> Instruction
-    requires { ⌜ readable (instr (now p) at) ≡ true ⌝ }
-    ensures { λ i. ⌜ meaning (now (p .entry)) i ≡ valueOr skip (instr (now (p .entry)) at) ⌝ }
-{
-    let k = p[at];
-    let next = at + 1;
-    match k {
-        1 => with_register_at(p, next, 1),
-        2 => with_register_at(p, next, 2),
-        3 => with_register_at(p, next, 3),
-        4 => jump_at(p, next),
-        5 => branch_at(p, next),
-        6 => conditional_at(p, next),
-        7 => Instruction::Barrier,
-        _ => Instruction::Skip,
     }
 }
 

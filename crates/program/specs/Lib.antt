@@ -1,2 +1,3 @@
 pub mod Checks
-pub mod Offsets
+pub mod Words
+pub mod Programs

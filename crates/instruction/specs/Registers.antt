@@ -12,7 +12,7 @@ use Rattle.rules.specs.declared.Refusal.the-variants as refusals
 use Rattle.rules.specs.Rules.Expressions.{Expr}
 use Rattle.rules.specs.Rules.Instructions.{Instr, skip, assign, load, store, jmp, beqz, cassign, spbarr}
 use Rattle.rules.specs.Rules.JobFile.{Read, got, refused, andThen, refuse, byte, register, wordOf, expr, withRegister, jump, branch, conditional, fields, instr}
-use Rattle.rules.specs.Theorems.Readers.{Holds, then, always}
+use Rattle.rules.specs.Theorems.Readers.{valueOr, Holds, then, always, holds-value}
 
 -- the register that an instruction names, beside those of its expressions
 abbrev pub RegistersBelow : ℕ → Instr → Type 0
@@ -80,5 +80,5 @@ instr-holds : (p : List ℕ) (at : ℕ) → Holds Below (instr p at)
 unfolding instr
 instr-holds p at = after (byte p at) _ (λ k q. fields-hold k p q)
 
-pub instr-below : (p : List ℕ) (at : ℕ) (x : Instr) (q : ℕ) → instr p at ≡ got x q → RegistersBelow registers x
-instr-below p at x q e = rw e at (instr-holds p at)
+pub instr-below : (p : List ℕ) (at : ℕ) → RegistersBelow registers (valueOr skip (instr p at))
+instr-below p at = holds-value Below skip (instr p at) tt (instr-holds p at)
