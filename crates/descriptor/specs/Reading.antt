@@ -99,7 +99,8 @@ three-means p at h =
         let l = ltb-false 15 (getD p at 0) ea in
         let l₁ : getD p at 0 < 16 = omega arith in
         let r₂ = second l₁ in
-        let t₂ = constant-token p (at + 1) (at + 2) (at + 10) (omega arith) (omega arith) (tokens-read 1 p (at + 1) r₂ .0) (eqb-true (getD p (at + 1) 0) 16 ed) in
+        let b₂ = eqb-true (getD p (at + 1) 0) 16 ed in
+        let t₂ = constant-token p (at + 1) (at + 2) (at + 10) (omega arith) (omega arith) (tokens-read 1 p (at + 1) r₂ .0) b₂ in
         let r₃ = tokens-read 0 p (at + 10) (tokens-read 1 p (at + 1) r₂ .1 _ _ (sym (t₂ .1))) .0 in
         let l₃ = ltb-false (getD p (at + 10) 0) 19 ee in
         let k = operator-token p (at + 10) r₃ l₃ in
@@ -156,7 +157,9 @@ of-tokens (suc (suc (suc (suc zero)))) p at l x e t g m =
     (e, (t, rw (z, ← z₁, ← z₂) (m .4), omega arith, rw (← z₁) (m .1), omega arith, rw (← z₂) (m .3)))
 of-tokens (suc (suc (suc (suc (suc zero))))) p at l x e t g m = absurd m
 of-tokens (suc (suc (suc (suc (suc (suc zero)))))) p at l x e t g m = absurd m
-of-tokens (suc (suc (suc (suc (suc (suc (suc s))))))) p at l x e t g m = (stands-by (suc (suc (suc (suc (suc (suc (suc s))))))) p at (getD p (at + 3) 0 % firsts) l (λ z. omega arith) (λ z. omega arith) ∙ e, (t, g))
+of-tokens (suc (suc (suc (suc (suc (suc (suc s))))))) p at l x e t g m =
+    let k = suc (suc (suc (suc (suc (suc (suc s)))))) in
+    (stands-by k p at (getD p (at + 3) 0 % firsts) l (λ z. omega arith) (λ z. omega arith) ∙ e, (t, g))
 
 -- an expression whose token count stands two bytes after the instruction's offset
 of-expression : (p : List ℕ) (at l : ℕ) (x : Instr) → countAt p at ≡ at + 2 → valueOr skip (instr p at) ≡ x → Standing p at → General p at x

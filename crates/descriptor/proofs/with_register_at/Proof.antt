@@ -26,9 +26,10 @@ with-register-requires c κs = search needs
 returns : tie.Need-returns
 unfolding tokensOf
 returns c =
-    let s = c .before .before .before .before in
-    let a = s .args in
-    c .with-register .ensures (a .p .now) ∙ rw (c .before .expression-at .ensures) (sym (with-parts (withRegisterOf (a .kind)) (a .p .now) (a .at) (s .pre) .value))
+    let start = c .before .before .before .before in
+    let a = start .args in
+    let parts = with-parts (withRegisterOf (a .kind)) (a .p .now) (a .at) (start .pre) in
+    c .with-register .ensures (a .p .now) ∙ rw (c .before .expression-at .ensures) (sym (parts .value))
 
 pub with-register-at-spec : {M : Type 1} → statement M
 with-register-at-spec =
