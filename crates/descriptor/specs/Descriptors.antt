@@ -1,5 +1,5 @@
--- The words of the table of labels: for each instruction its offset, the shape of what it reads first, and its first register.
--- src/lib.rt says what each shape means.
+-- The words of the table of labels: for each instruction its offset, the shape of what it reads first, its first register, and the
+-- label of a branch; and the instruction that a word describes. src/lib.rt says what each shape means.
 -- Assumes nothing.
 use mathlib.Core.Path.{_≡_}
 use mathlib.Core.Bool.{true, cond}
@@ -12,7 +12,7 @@ use Rattle.rules.specs.Rules.Operators.{Op2, add}
 use Rattle.rules.specs.Rules.Expressions.{Token, reg, const, op2, Expr, sound}
 use Rattle.rules.specs.Rules.Instructions.{Instr, skip, assign, load, store, jmp, beqz, cassign, spbarr}
 use Rattle.rules.specs.Rules.JobFile.{little, binary, expr, instr, postfix}
-use Rattle.token.specs.Meaning.{readable, valueOr}
+use Rattle.rules.specs.Theorems.Readers.{readable, valueOr}
 use Rattle.instruction.specs.Registers.{RegistersBelow}
 use Rattle.descriptor.specs.declared.Descriptor.{Descriptor}
 
@@ -35,7 +35,8 @@ expressionShape p at =
 
 -- of a jump's expression
 abbrev pub jumpShape : List ℕ → ℕ → ℕ
-jumpShape p at = cond (eqb (getD p at 0) 1) (cond (eqb (getD p (at + 1) 0) 16) 5 7) 7
+jumpShape p at =
+    cond (eqb (getD p at 0) 1) (cond (ltb (getD p (at + 1) 0) 16) 1 (cond (eqb (getD p (at + 1) 0) 16) 5 7)) 7
 
 -- by the kind byte, of an instruction at an offset
 abbrev pub nothingRead : List ℕ → ℕ → ℕ
@@ -56,29 +57,68 @@ kindShapes = nothingRead ∷ expressionRead ∷ expressionRead ∷ expressionRea
 unfoldable pub shapeAt : List ℕ → ℕ → ℕ
 shapeAt p at = getD kindShapes (getD p at 0) nothingRead p at
 
--- the byte where its first register stands, if its shape has one
+-- the byte where its first register stands, if its shape has one; the kind of an instruction that reads nothing
+abbrev pub firstBy : ℕ → List ℕ → ℕ → ℕ
+firstBy k p at =
+    cond (eqb k 0) 0 (cond (eqb k 4) (getD p (at + 2) 0) (cond (eqb k 5) (getD p (at + 1) 0) (cond (eqb k 7) 7 (getD p (at + 3) 0))))
+
 unfoldable pub firstAt : List ℕ → ℕ → ℕ
-firstAt p at = cond (eqb (getD p at 0) 5) (getD p (at + 1) 0) (getD p (at + 3) 0)
+firstAt p at = firstBy (getD p at 0) p at
+
+-- the label of a branch
+abbrev pub labelBy : ℕ → List ℕ → ℕ → ℕ
+labelBy k p at = cond (eqb k 5) (little p (at + 2) 2) 0
+
+unfoldable pub labelAt : List ℕ → ℕ → ℕ
+labelAt p at = labelBy (getD p at 0) p at
+
+-- where the constant and the operator of a shape that has them start
+abbrev pub constantPlace : ℕ → ℕ
+constantPlace s = cond (eqb s 3) 5 (cond (eqb s 5) 3 4)
+
+abbrev pub operatorPlace : ℕ → ℕ
+operatorPlace s = cond (eqb s 3) 13 5
 
 -- where the token count of its first expression stands, if it has one: a jump has no register before it
 unfoldable pub countAt : List ℕ → ℕ → ℕ
 countAt p at = cond (eqb (getD p at 0) 4) (at + 1) (at + 2)
 
 -- ---- words
--- how many offsets and shapes a word can hold
+-- how many offsets, shapes and first registers a word can hold
 abbrev pub offsets : ℕ
 offsets = 65536
 
 abbrev pub shapes : ℕ
 shapes = 8
 
+abbrev pub firsts : ℕ
+firsts = 256
+
 -- the word of the instruction at an offset
 unfoldable pub wordAt : List ℕ → ℕ → ℕ
-wordAt p at = cond (leb offsets at) 0 (at + offsets * (shapeAt p at + shapes * firstAt p at))
+wordAt p at = cond (leb offsets at) 0 (at + offsets * (shapeAt p at + shapes * (firstAt p at + firsts * labelAt p at)))
 
 -- the descriptor that a word holds
 unfoldable pub descriptorIn : ℕ → Descriptor
-descriptorIn w = record { at = w % offsets; shape = w / offsets % shapes; first = w / offsets / shapes % 256 }
+descriptorIn w = record {
+  at = w % offsets;
+  shape = w / offsets % shapes;
+  first = w / offsets / shapes % firsts;
+  label = w / offsets / shapes / firsts;
+}
+
+-- ---- instructions
+-- of a kind that reads nothing
+abbrev pub bare : ℕ → Instr
+bare k = cond (eqb k 7) spbarr skip
+
+-- of a shape: nothing is read for an instruction without operands, nor for a branch
+abbrev pub instructionBy : ℕ → List ℕ → ℕ → ℕ → ℕ → Instr
+instructionBy s p at first label = cond (eqb s 0) (bare first) (cond (eqb s 6) (beqz first label) (valueOr skip (instr p at)))
+
+-- the instruction that a descriptor describes, over the program's bytes
+unfoldable pub instructionIn : List ℕ → Descriptor → Instr
+instructionIn p d = instructionBy (d .shape) p (d .at) (d .first) (d .label)
 
 -- ---- what the shapes mean
 -- the tokens that an instruction reads first
@@ -103,43 +143,37 @@ operatorOf b = op2 (operatorBy b)
 abbrev pub NoBranch : Instr → Type 0
 NoBranch x = (r l : ℕ) → x ≡ beqz r l → ⊥
 
--- The instruction x at an offset has an expression, which can be read and keeps the postfix rule if x does; and x is no branch.
+-- An instruction with an expression stands at an offset.
+pub record Standing (p : List ℕ) (at : ℕ) : Type 0 where
+  pub read : readable (instr p at) ≡ true
+  pub kind : (getD p at 0 ≡ 0 → ⊥) × (getD p at 0 ≡ 5 → ⊥) × (getD p at 0 ≡ 7 → ⊥)
+  pub other : NoBranch (valueOr skip (instr p at))
+
+-- Its first expression can be read, and keeps the postfix rule if the instruction x does.
 abbrev pub General : List ℕ → ℕ → Instr → Type 0
 General p at x =
-    (firstTokens x ≡ valueOr [] (expr p (countAt p at))) × NoBranch x × (readable (expr p (countAt p at)) ≡ true)
+    (firstTokens x ≡ valueOr [] (expr p (countAt p at))) × (readable (expr p (countAt p at)) ≡ true)
     × (postfix x ≡ true → sound (firstTokens x) ≡ true)
 
--- What the shapes say of the instruction x at an offset, whose first register is r.
+-- What the shapes say of the bytes and of the instruction x at an offset, whose first register is r.
 abbrev pub ShapeMeans : ℕ → List ℕ → ℕ → ℕ → Instr → Type 0
-ShapeMeans zero p at r x = (firstTokens x ≡ []) × NoBranch x
-ShapeMeans (suc zero) p at r x = (firstTokens x ≡ reg r ∷ []) × NoBranch x × (r < registers)
-ShapeMeans (suc (suc zero)) p at r x = (firstTokens x ≡ const (little p (at + 4) 8) ∷ []) × NoBranch x × (at + 12 ≤ length p)
+ShapeMeans zero p at r x = Unit
+ShapeMeans (suc zero) p at r x = Standing p at × (firstTokens x ≡ reg r ∷ []) × (r < registers)
+ShapeMeans (suc (suc zero)) p at r x = Standing p at × (firstTokens x ≡ const (little p (at + 4) 8) ∷ []) × (at + 12 ≤ length p)
 ShapeMeans (suc (suc (suc zero))) p at r x =
-    (firstTokens x ≡ reg r ∷ const (little p (at + 5) 8) ∷ operatorOf (getD p (at + 13) 0) ∷ [])
-    × NoBranch x × (r < registers) × (at + 14 ≤ length p) × (19 ≤ getD p (at + 13) 0)
+    Standing p at × (firstTokens x ≡ reg r ∷ const (little p (at + 5) 8) ∷ operatorOf (getD p (at + 13) 0) ∷ [])
+    × (r < registers) × (at + 14 ≤ length p) × (19 ≤ getD p (at + 13) 0)
 ShapeMeans (suc (suc (suc (suc zero)))) p at r x =
-    (firstTokens x ≡ reg r ∷ reg (getD p (at + 4) 0) ∷ operatorOf (getD p (at + 5) 0) ∷ [])
-    × NoBranch x × (r < registers) × (getD p (at + 4) 0 < registers) × (at + 6 ≤ length p) × (19 ≤ getD p (at + 5) 0)
+    Standing p at × (firstTokens x ≡ reg r ∷ reg (getD p (at + 4) 0) ∷ operatorOf (getD p (at + 5) 0) ∷ [])
+    × (r < registers) × (getD p (at + 4) 0 < registers) × (at + 6 ≤ length p) × (19 ≤ getD p (at + 5) 0)
 ShapeMeans (suc (suc (suc (suc (suc zero))))) p at r x =
-    (firstTokens x ≡ const (little p (at + 3) 8) ∷ []) × NoBranch x × (at + 11 ≤ length p)
-ShapeMeans (suc (suc (suc (suc (suc (suc zero)))))) p at r x = (x ≡ beqz r (little p (at + 2) 2)) × (r < registers) × (at + 4 ≤ length p)
-ShapeMeans (suc (suc (suc (suc (suc (suc (suc n))))))) p at r x = General p at x
+    Standing p at × (firstTokens x ≡ const (little p (at + 3) 8) ∷ []) × (at + 11 ≤ length p)
+ShapeMeans (suc (suc (suc (suc (suc (suc zero)))))) p at r x = Unit
+ShapeMeans (suc (suc (suc (suc (suc (suc (suc n))))))) p at r x = Standing p at × General p at x
 
--- the descriptor e holds for the instruction x
-abbrev pub Shaped : List ℕ → Descriptor → Instr → Type 0
-Shaped p e x = ShapeMeans (e .shape) p (e .at) (e .first) x
-
--- The descriptor e is that of the instruction x: it can be read at the descriptor's offset, and the shape holds for it.
-pub record Described (p : List ℕ) (e : Descriptor) (x : Instr) : Type 0 where
-  pub read : readable (instr p (e .at)) ≡ true
-  pub same : valueOr skip (instr p (e .at)) ≡ x
-  pub shaped : Shaped p e x
-
-abbrev pub instructionIn : List ℕ → Descriptor → Instr
-instructionIn p d = valueOr skip (instr p (d .at))
-
+-- A descriptor of an accepted program's instruction: the instruction keeps the postfix rule, names registers below 16, and is what
+-- the shape says.
 pub record Valid (p : List ℕ) (d : Descriptor) : Type 0 where
   pub sound : postfix (instructionIn p d) ≡ true
   pub below : RegistersBelow registers (instructionIn p d)
-  pub shaped : Shaped p d (instructionIn p d)
-  pub read : readable (instr p (d .at)) ≡ true
+  pub shaped : ShapeMeans (d .shape) p (d .at) (d .first) (instructionIn p d)

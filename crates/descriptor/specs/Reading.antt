@@ -1,24 +1,26 @@
--- The word of an instruction that can be read holds the instruction's offset, and its shape holds for it.
+-- The word of an instruction that can be read and keeps the postfix rule describes it; and what the shapes say.
 -- Assumes nothing.
-use mathlib.Core.Path.{_≡_, refl, sym, _∙_}
+use mathlib.Core.Path.{_≡_, refl, sym, ap, ap₂, _∙_}
 use mathlib.Core.Bool.{Bool, true, false, cond}
 use mathlib.Core.List.{List, [], _∷_}
 use Prim.Native.Nat.{ℕ, zero, suc, _+_, _*_, _/_, _%_, _<_, _≤_}
 use native.Mathlib.Omega.{arith}
 use lib.Dec.{eqb, ltb}
 use lib.ListN.{length, getD}
-use borrow.Author.Tests.{ltb-true, ltb-false, eqb-true, lt-leb, lt-ltb}
+use borrow.Author.Tests.{ltb-true, ltb-false, eqb-true, ne-eqb, lt-leb, lt-ltb}
 use Rattle.location.specs.Sets.{registers}
 use Rattle.location.specs.SetLaws.{and-left}
 use Rattle.rules.specs.Rules.Expressions.{reg, const, Expr, sound}
-use Rattle.rules.specs.Rules.Instructions.{Instr, skip, assign, load, store}
-use Rattle.rules.specs.declared.Refusal.the-variants as refusals
-use Rattle.rules.specs.Rules.JobFile.{Read, got, refused, andThen, little, byte, register, tokenOf, token, tokens, expr, withRegister, branch, conditional, fields, instr, postfix}
-use Rattle.token.specs.Meaning.{readable, valueOr}
-use Rattle.token.specs.Bytes.{byte-got}
-use Rattle.token.specs.Readable.{first-read, byte-read, token-read, constant-read, operator-read, tokens-read, expr-read}
-use Rattle.instruction.proofs.Laws.{instr-kind, instr-unknown, instr-read, with-parts, jump-parts, branch-parts, conditional-parts}
-use Rattle.descriptor.specs.Descriptors.{oneShape, threeShape, expressionShape, jumpShape, operatorOf, firstTokens, NoBranch, General, ShapeMeans, nothingRead, kindShapes, shapeAt, firstAt, countAt, offsets, shapes, wordAt, descriptorIn, Described}
+use Rattle.rules.specs.Rules.Instructions.{Instr, skip, assign, load, store, jmp, beqz, cassign, spbarr}
+use Rattle.rules.specs.Rules.JobFile.{got, little, tokenOf, token, tokens, expr, withRegister, jump, branch, conditional, fields, instr, postfix}
+use Rattle.rules.specs.Theorems.Readers.{readable, nextOffset, valueOr, unread}
+use Rattle.token.specs.Readable.{token-read, constant-read, operator-read, tokens-read, expr-read}
+use Rattle.instruction.specs.Fields.{instr-kind, instr-unknown, instr-read, with-parts, jump-parts, branch-parts, conditional-parts}
+use Rattle.instruction.specs.Registers.{RegistersBelow, instr-below}
+use Rattle.descriptor.specs.declared.Descriptor.{Descriptor}
+use Rattle.descriptor.specs.Descriptors.{oneShape, threeShape, expressionShape, jumpShape, nothingRead, kindShapes, shapeAt, firstBy, firstAt, labelBy, labelAt, countAt}
+use Rattle.descriptor.specs.Descriptors.{offsets, shapes, firsts, wordAt, descriptorIn, bare, instructionBy, instructionIn}
+use Rattle.descriptor.specs.Descriptors.{operatorOf, firstTokens, NoBranch, Standing, General, ShapeMeans, Valid}
 
 -- ---- tokens by their bytes; q is the offset after the token
 register-token : (p : List ℕ) (at q : ℕ) → q ≡ at + 1 → readable (token p at) ≡ true → getD p at 0 < 16 → token p at ≡ got (reg (getD p at 0)) q
@@ -97,7 +99,8 @@ three-means p at h =
         let l = ltb-false 15 (getD p at 0) ea in
         let l₁ : getD p at 0 < 16 = omega arith in
         let r₂ = second l₁ in
-        let t₂ = constant-token p (at + 1) (at + 2) (at + 10) (omega arith) (omega arith) (tokens-read 1 p (at + 1) r₂ .0) (eqb-true (getD p (at + 1) 0) 16 ed) in
+        let b₂ = eqb-true (getD p (at + 1) 0) 16 ed in
+        let t₂ = constant-token p (at + 1) (at + 2) (at + 10) (omega arith) (omega arith) (tokens-read 1 p (at + 1) r₂ .0) b₂ in
         let r₃ = tokens-read 0 p (at + 10) (tokens-read 1 p (at + 1) r₂ .1 _ _ (sym (t₂ .1))) .0 in
         let l₃ = ltb-false (getD p (at + 10) 0) 19 ee in
         let k = operator-token p (at + 10) r₃ l₃ in
@@ -118,132 +121,164 @@ expression-means p q h =
     go false false ea eb r = tt
 
 -- ---- the shapes of instructions
+-- What a word of shape s with the first register r and the label l says of the instruction x at an offset.
+abbrev Meant : ℕ → List ℕ → ℕ → ℕ → ℕ → Instr → Type 0
+Meant s p at r l x = (instructionBy s p at r l ≡ x) × ShapeMeans s p at r x
+
+-- a shape that is neither of those that describe their instruction alone: the instruction stands in the bytes
+stands-by : (s : ℕ) (p : List ℕ) (at r l : ℕ) → (s ≡ 0 → ⊥) → (s ≡ 6 → ⊥) → instructionBy s p at r l ≡ valueOr skip (instr p at)
+stands-by s p at r l a b = rw (ne-eqb s 0 a, ne-eqb s 6 b)
+
 -- tokens that stand three bytes after the instruction's offset
-of-tokens : (s : ℕ) (p : List ℕ) (at : ℕ) (x : Instr) → General p at x → TokensMean s p (at + 3) (firstTokens x)
-    → ShapeMeans s p at (getD p (at + 3) 0 % 256) x
-of-tokens zero p at x g m = absurd m
-of-tokens (suc zero) p at x g m =
-    let l = m .0 in
-    let z : getD p (at + 3) 0 % 256 ≡ getD p (at + 3) 0 = omega arith in
-    (rw z (m .1), g .1, omega arith)
-of-tokens (suc (suc zero)) p at x g m =
-    let l = m .0 in
+of-tokens : (s : ℕ) (p : List ℕ) (at l : ℕ) (x : Instr) → valueOr skip (instr p at) ≡ x → Standing p at → General p at x
+    → TokensMean s p (at + 3) (firstTokens x) → Meant s p at (getD p (at + 3) 0 % firsts) l x
+of-tokens zero p at l x e t g m = absurd m
+of-tokens (suc zero) p at l x e t g m =
+    let k = m .0 in
+    let z : getD p (at + 3) 0 % firsts ≡ getD p (at + 3) 0 = omega arith in
+    (e, (t, rw z (m .1), omega arith))
+of-tokens (suc (suc zero)) p at l x e t g m =
+    let k = m .0 in
     let z : at + 3 + 1 ≡ at + 4 = omega arith in
-    (rw (← z) (m .1), g .1, omega arith)
-of-tokens (suc (suc (suc zero))) p at x g m =
-    let l = m .0 in
-    let k = m .1 in
-    let z : getD p (at + 3) 0 % 256 ≡ getD p (at + 3) 0 = omega arith in
+    (e, (t, rw (← z) (m .1), omega arith))
+of-tokens (suc (suc (suc zero))) p at l x e t g m =
+    let k = m .0 in
+    let n = m .1 in
+    let z : getD p (at + 3) 0 % firsts ≡ getD p (at + 3) 0 = omega arith in
     let z₁ : at + 3 + 2 ≡ at + 5 = omega arith in
     let z₂ : at + 3 + 10 ≡ at + 13 = omega arith in
-    (rw (z, ← z₁, ← z₂) (m .3), g .1, omega arith, omega arith, rw (← z₂) (m .2))
-of-tokens (suc (suc (suc (suc zero)))) p at x g m =
-    let l = m .0 in
-    let k = m .2 in
-    let z : getD p (at + 3) 0 % 256 ≡ getD p (at + 3) 0 = omega arith in
+    (e, (t, rw (z, ← z₁, ← z₂) (m .3), omega arith, omega arith, rw (← z₂) (m .2)))
+of-tokens (suc (suc (suc (suc zero)))) p at l x e t g m =
+    let k = m .0 in
+    let n = m .2 in
+    let z : getD p (at + 3) 0 % firsts ≡ getD p (at + 3) 0 = omega arith in
     let z₁ : at + 3 + 1 ≡ at + 4 = omega arith in
     let z₂ : at + 3 + 2 ≡ at + 5 = omega arith in
-    (rw (z, ← z₁, ← z₂) (m .4), g .1, omega arith, rw (← z₁) (m .1), omega arith, rw (← z₂) (m .3))
-of-tokens (suc (suc (suc (suc (suc zero))))) p at x g m = absurd m
-of-tokens (suc (suc (suc (suc (suc (suc zero)))))) p at x g m = absurd m
-of-tokens (suc (suc (suc (suc (suc (suc (suc s))))))) p at x g m = g
+    (e, (t, rw (z, ← z₁, ← z₂) (m .4), omega arith, rw (← z₁) (m .1), omega arith, rw (← z₂) (m .3)))
+of-tokens (suc (suc (suc (suc (suc zero))))) p at l x e t g m = absurd m
+of-tokens (suc (suc (suc (suc (suc (suc zero)))))) p at l x e t g m = absurd m
+of-tokens (suc (suc (suc (suc (suc (suc (suc s))))))) p at l x e t g m =
+    let k = suc (suc (suc (suc (suc (suc (suc s)))))) in
+    (stands-by k p at (getD p (at + 3) 0 % firsts) l (λ z. omega arith) (λ z. omega arith) ∙ e, (t, g))
 
 -- an expression whose token count stands two bytes after the instruction's offset
-of-expression : (p : List ℕ) (at : ℕ) (x : Instr) → countAt p at ≡ at + 2 → General p at x
-    → ShapeMeans (expressionShape p (at + 2)) p at (getD p (at + 3) 0 % 256) x
-of-expression p at x n g =
+of-expression : (p : List ℕ) (at l : ℕ) (x : Instr) → countAt p at ≡ at + 2 → valueOr skip (instr p at) ≡ x → Standing p at → General p at x
+    → Meant (expressionShape p (at + 2)) p at (getD p (at + 3) 0 % firsts) l x
+of-expression p at l x n e t g =
     let z : at + 2 + 1 ≡ at + 3 = omega arith in
-    let e = rw n at (g .0) in
-    of-tokens (expressionShape p (at + 2)) p at x g (rw (← z, e) (expression-means p (at + 2) (rw n at (g .2))))
+    let f = rw n at (g .0) in
+    of-tokens (expressionShape p (at + 2)) p at l x e t g (rw (← z, f) (expression-means p (at + 2) (rw n at (g .1))))
 
 -- a jump's expression, whose token count stands one byte after the instruction's offset
-of-jump : (p : List ℕ) (at r : ℕ) (x : Instr) → countAt p at ≡ at + 1 → General p at x → ShapeMeans (jumpShape p (at + 1)) p at r x
-of-jump p at r x n g =
-    let h = rw n at (g .2) in
-    let t = expr-read p (at + 1) h .1 in
-    go (eqb (getD p (at + 1) 0) 1) (eqb (getD p (at + 1 + 1) 0) 16) refl refl (rw t at h) (rw t at (rw n at (g .0)))
+of-jump : (p : List ℕ) (at l : ℕ) (x : Instr) → countAt p at ≡ at + 1 → valueOr skip (instr p at) ≡ x → Standing p at → General p at x
+    → Meant (jumpShape p (at + 1)) p at (getD p (at + 2) 0 % firsts) l x
+of-jump p at l x n e t g =
+    let h = rw n at (g .1) in
+    let c = expr-read p (at + 1) h .1 in
+    let z : at + 1 + 1 ≡ at + 2 = omega arith in
+    rw z
+    (go (eqb (getD p (at + 1) 0) 1) (ltb (getD p (at + 2) 0) 16) (eqb (getD p (at + 2) 0) 16) refl refl refl (rw z at (rw c at h))
+    (rw z at (rw c at (rw n at (g .0)))))
   where
-    go : (a b : Bool) → eqb (getD p (at + 1) 0) 1 ≡ a → eqb (getD p (at + 1 + 1) 0) 16 ≡ b
-        → readable (tokens (getD p (at + 1) 0) p (at + 1 + 1)) ≡ true → firstTokens x ≡ valueOr [] (tokens (getD p (at + 1) 0) p (at + 1 + 1))
-        → ShapeMeans (cond a (cond b 5 7) 7) p at r x
-    go true true ea eb h e =
+    go : (a b c : Bool) → eqb (getD p (at + 1) 0) 1 ≡ a → ltb (getD p (at + 2) 0) 16 ≡ b → eqb (getD p (at + 2) 0) 16 ≡ c
+        → readable (tokens (getD p (at + 1) 0) p (at + 2)) ≡ true → firstTokens x ≡ valueOr [] (tokens (getD p (at + 1) 0) p (at + 2))
+        → Meant (cond a (cond b 1 (cond c 5 7)) 7) p at (getD p (at + 2) 0 % firsts) l x
+    go true true c ea eb ec h f =
         let k = eqb-true (getD p (at + 1) 0) 1 ea in
-        let b = eqb-true (getD p (at + 1 + 1) 0) 16 eb in
-        let m = rw b at (one-means p (at + 1 + 1) (rw k at h)) in
-        let z : at + 1 + 1 + 1 ≡ at + 3 = omega arith in
-        let l = m .0 in
-        (rw (← z) (rw k at e ∙ m .1), g .1, omega arith)
-    go true false ea eb h e = g
-    go false b ea eb h e = g
+        let b = ltb-true (getD p (at + 2) 0) 16 eb in
+        let m = rw eb at (one-means p (at + 2) (rw k at h)) in
+        let z : getD p (at + 2) 0 % firsts ≡ getD p (at + 2) 0 = omega arith in
+        (e, (t, rw z (rw k at f ∙ m .1), omega arith))
+    go true false true ea eb ec h f =
+        let k = eqb-true (getD p (at + 1) 0) 1 ea in
+        let b = eqb-true (getD p (at + 2) 0) 16 ec in
+        let m = rw (eb, ec) at (one-means p (at + 2) (rw k at h)) in
+        let z : at + 2 + 1 ≡ at + 3 = omega arith in
+        let n = m .0 in
+        (e, (t, rw (← z) (rw k at f ∙ m .1), omega arith))
+    go true false false ea eb ec h f = (e, (t, g))
+    go false b c ea eb ec h f = (e, (t, g))
 
--- an instruction with a register and an expression
-of-register : (f : ℕ → Expr → Instr)
-    → ((r : ℕ) (e : Expr) → (firstTokens (f r e) ≡ e) × NoBranch (f r e) × (postfix (f r e) ≡ true → sound (firstTokens (f r e)) ≡ true))
-    → (p : List ℕ) (at : ℕ) → countAt p at ≡ at + 2 → readable (withRegister f p (at + 1)) ≡ true
-    → ShapeMeans (expressionShape p (at + 2)) p at (getD p (at + 3) 0 % 256) (valueOr skip (withRegister f p (at + 1)))
-of-register f k p at n h =
-    let w = with-parts f p (at + 1) h in
-    let z : at + 1 + 1 ≡ at + 2 = omega arith in
-    let x = k (getD p (at + 1) 0) (valueOr [] (expr p (at + 1 + 1))) in
-    rw (w .value)
-    (of-expression p at (f (getD p (at + 1) 0) (valueOr [] (expr p (at + 1 + 1)))) n
-    (rw (n, ← z) (x .0), x .1, rw (n, ← z) (w .expression), x .2))
-
-of-conditional : (p : List ℕ) (at : ℕ) → countAt p at ≡ at + 2 → readable (conditional p (at + 1)) ≡ true
-    → ShapeMeans (expressionShape p (at + 2)) p at (getD p (at + 3) 0 % 256) (valueOr skip (conditional p (at + 1)))
-of-conditional p at n h =
-    let w = conditional-parts p (at + 1) h in
-    let z : at + 1 + 1 ≡ at + 2 = omega arith in
-    rw (w .value)
-    (of-expression p at _ n
-    (rw (n, ← z), (λ r l e. let y : _≡_ {A = ℕ} 0 1 = cc in omega arith), rw (n, ← z) (w .condition), λ h. and-left _ _ h))
-
-of-branch : (p : List ℕ) (at : ℕ) → readable (branch p (at + 1)) ≡ true
-    → ShapeMeans 6 p at (getD p (at + 1) 0 % 256) (valueOr skip (branch p (at + 1)))
-of-branch p at h =
-    let w = branch-parts p (at + 1) h in
-    let l = w .below in
-    let z : getD p (at + 1) 0 % 256 ≡ getD p (at + 1) 0 = omega arith in
-    let z₁ : at + 1 + 1 ≡ at + 2 = omega arith in
-    let n = w .room in
-    (rw (z, ← z₁) (w .value), omega arith, omega arith)
-
--- the shape of an instruction that can be read holds for it
+-- the word of an instruction that can be read, by its kind byte
 module _ (p : List ℕ) (at : ℕ) (h : readable (instr p at) ≡ true) where
   inside : at < length p
   inside = instr-read p at h
 
-  by-kind : (k : ℕ) → getD p at 0 ≡ k
-      → ShapeMeans (getD kindShapes k nothingRead p at) p at (cond (eqb k 5) (getD p (at + 1) 0) (getD p (at + 3) 0) % 256) (valueOr skip (instr p at))
-  unfolding kindShapes fields readable countAt
-  by-kind zero e = rw (instr-kind p at 0 inside e) (refl, λ r l z. let y : _≡_ {A = ℕ} 0 1 = cc in omega arith)
-  by-kind (suc zero) e =
-      let i = instr-kind p at 1 inside e in
-      rw i (of-register assign (λ r x. (refl, (λ r l z. let y : _≡_ {A = ℕ} 0 1 = cc in omega arith), λ h. h)) p at (rw e) (rw i at h))
-  by-kind (suc (suc zero)) e =
-      let i = instr-kind p at 2 inside e in
-      rw i (of-register load (λ r x. (refl, (λ r l z. let y : _≡_ {A = ℕ} 0 1 = cc in omega arith), λ h. h)) p at (rw e) (rw i at h))
-  by-kind (suc (suc (suc zero))) e =
-      let i = instr-kind p at 3 inside e in
-      rw i (of-register store (λ r x. (refl, (λ r l z. let y : _≡_ {A = ℕ} 0 1 = cc in omega arith), λ h. h)) p at (rw e) (rw i at h))
-  by-kind (suc (suc (suc (suc zero)))) e =
-      let i = instr-kind p at 4 inside e in
-      let j = jump-parts p (at + 1) (rw i at h) in
-      let n : countAt p at ≡ at + 1 = rw e in
-      rw (i, j .1) (of-jump p at _ _ n (rw n, (λ r l z. let y : _≡_ {A = ℕ} 0 1 = cc in omega arith), rw n (j .0), λ h. h))
-  by-kind (suc (suc (suc (suc (suc zero))))) e =
-      let i = instr-kind p at 5 inside e in
-      rw i (of-branch p at (rw i at h))
-  by-kind (suc (suc (suc (suc (suc (suc zero)))))) e =
-      let i = instr-kind p at 6 inside e in
-      rw i (of-conditional p at (rw e) (rw i at h))
-  by-kind (suc (suc (suc (suc (suc (suc (suc zero))))))) e = rw (instr-kind p at 7 inside e) (refl, λ r l z. let y : _≡_ {A = ℕ} 0 1 = cc in omega arith)
-  by-kind (suc (suc (suc (suc (suc (suc (suc (suc k)))))))) e =
-      absurd (let u = rw (instr-unknown p at inside (omega arith)) at h in let y : _≡_ {A = ℕ} 0 1 = cc in omega arith)
+  -- of any x that is the instruction
+  settle : (s r l : ℕ) (x : Instr) → valueOr skip (instr p at) ≡ x → Meant s p at r l x → Meant s p at r l (valueOr skip (instr p at))
+  settle s r l x e m = (m .0 ∙ sym e, rw e (m .1))
 
-  shape-means : ShapeMeans (shapeAt p at) p at (firstAt p at % 256) (valueOr skip (instr p at))
-  unfolding shapeAt firstAt
-  shape-means = by-kind (getD p at 0) refl
+  standing : (k : ℕ) (x : Instr) → getD p at 0 ≡ k → (k ≡ 0 → ⊥) → (k ≡ 5 → ⊥) → (k ≡ 7 → ⊥) → valueOr skip (instr p at) ≡ x → NoBranch x
+      → Standing p at
+  standing k x e n₀ n₅ n₇ v n =
+      record { read = h; kind = ((λ z. n₀ (sym e ∙ z)), (λ z. n₅ (sym e ∙ z)), λ z. n₇ (sym e ∙ z)); other = rw v n }
+
+  of-register : (k l : ℕ) (f : ℕ → Expr → Instr)
+      → ((r : ℕ) (e : Expr) → (firstTokens (f r e) ≡ e) × NoBranch (f r e) × (postfix (f r e) ≡ true → sound (firstTokens (f r e)) ≡ true))
+      → getD p at 0 ≡ k → (k ≡ 0 → ⊥) → (k ≡ 5 → ⊥) → (k ≡ 7 → ⊥) → countAt p at ≡ at + 2 → instr p at ≡ withRegister f p (at + 1)
+      → Meant (expressionShape p (at + 2)) p at (getD p (at + 3) 0 % firsts) l (valueOr skip (instr p at))
+  of-register k l f facts e n₀ n₅ n₇ n i =
+      let w = with-parts f p (at + 1) (rw i at h) in
+      let z : at + 1 + 1 ≡ at + 2 = omega arith in
+      let x = f (getD p (at + 1) 0) (valueOr [] (expr p (at + 1 + 1))) in
+      let y = facts (getD p (at + 1) 0) (valueOr [] (expr p (at + 1 + 1))) in
+      let v : valueOr skip (instr p at) ≡ x = ap (valueOr skip) i ∙ w .value in
+      settle (expressionShape p (at + 2)) (getD p (at + 3) 0 % firsts) l x v
+      (of-expression p at l x n v (standing k x e n₀ n₅ n₇ v (y .1)) (rw (n, ← z) (y .0), rw (n, ← z) (w .expression), y .2))
+
+  of-conditional : (l : ℕ) → getD p at 0 ≡ 6 → countAt p at ≡ at + 2 → instr p at ≡ conditional p (at + 1)
+      → Meant (expressionShape p (at + 2)) p at (getD p (at + 3) 0 % firsts) l (valueOr skip (instr p at))
+  of-conditional l e n i =
+      let w = conditional-parts p (at + 1) (rw i at h) in
+      let z : at + 1 + 1 ≡ at + 2 = omega arith in
+      let c = valueOr [] (expr p (at + 1 + 1)) in
+      let x = cassign (getD p (at + 1) 0) c (valueOr [] (expr p (nextOffset (expr p (at + 1 + 1))))) in
+      let v : valueOr skip (instr p at) ≡ x = ap (valueOr skip) i ∙ w .value in
+      let t = standing 6 x e (λ z. omega arith) (λ z. omega arith) (λ z. omega arith) v (λ r l z. let y : _≡_ {A = ℕ} 0 1 = cc in omega arith) in
+      settle (expressionShape p (at + 2)) (getD p (at + 3) 0 % firsts) l x v
+      (of-expression p at l x n v t (rw (n, ← z), rw (n, ← z) (w .condition), λ h. and-left _ _ h))
+
+  of-jump-kind : (l : ℕ) → getD p at 0 ≡ 4 → countAt p at ≡ at + 1 → instr p at ≡ jump p (at + 1)
+      → Meant (jumpShape p (at + 1)) p at (getD p (at + 2) 0 % firsts) l (valueOr skip (instr p at))
+  of-jump-kind l e n i =
+      let j = jump-parts p (at + 1) (rw i at h) in
+      let x = jmp (valueOr [] (expr p (at + 1))) in
+      let v : valueOr skip (instr p at) ≡ x = ap (valueOr skip) i ∙ j .1 in
+      let t = standing 4 x e (λ z. omega arith) (λ z. omega arith) (λ z. omega arith) v (λ r l z. let y : _≡_ {A = ℕ} 0 1 = cc in omega arith) in
+      settle (jumpShape p (at + 1)) (getD p (at + 2) 0 % firsts) l x v (of-jump p at l x n v t (rw n, rw n (j .0), λ h. h))
+
+  of-branch : instr p at ≡ branch p (at + 1)
+      → Meant 6 p at (getD p (at + 1) 0 % firsts) (little p (at + 2) 2 + getD p (at + 1) 0 / firsts) (valueOr skip (instr p at))
+  of-branch i =
+      let w = branch-parts p (at + 1) (rw i at h) in
+      let b = w .below in
+      let z₀ : at + 1 + 1 ≡ at + 2 = omega arith in
+      let z₁ : getD p (at + 1) 0 % firsts ≡ getD p (at + 1) 0 = omega arith in
+      let z₂ : little p (at + 2) 2 + getD p (at + 1) 0 / firsts ≡ little p (at + 2) 2 = omega arith in
+      (ap₂ beqz z₁ z₂ ∙ sym (ap (valueOr skip) i ∙ rw z₀ at (w .value)), tt)
+
+  by-kind : (k : ℕ) → getD p at 0 ≡ k
+      → Meant (getD kindShapes k nothingRead p at) p at (firstBy k p at % firsts) (labelBy k p at + firstBy k p at / firsts) (valueOr skip (instr p at))
+  unfolding kindShapes fields countAt
+  by-kind zero e = (sym (ap (valueOr skip) (instr-kind p at 0 inside e)), tt)
+  by-kind (suc zero) e =
+      of-register 1 _ assign (λ r x. (refl, (λ r l z. let y : _≡_ {A = ℕ} 0 1 = cc in omega arith), λ h. h)) e (λ z. omega arith) (λ z. omega arith)
+      (λ z. omega arith) (rw e) (instr-kind p at 1 inside e)
+  by-kind (suc (suc zero)) e =
+      of-register 2 _ load (λ r x. (refl, (λ r l z. let y : _≡_ {A = ℕ} 0 1 = cc in omega arith), λ h. h)) e (λ z. omega arith) (λ z. omega arith)
+      (λ z. omega arith) (rw e) (instr-kind p at 2 inside e)
+  by-kind (suc (suc (suc zero))) e =
+      of-register 3 _ store (λ r x. (refl, (λ r l z. let y : _≡_ {A = ℕ} 0 1 = cc in omega arith), λ h. h)) e (λ z. omega arith) (λ z. omega arith)
+      (λ z. omega arith) (rw e) (instr-kind p at 3 inside e)
+  by-kind (suc (suc (suc (suc zero)))) e = of-jump-kind _ e (rw e) (instr-kind p at 4 inside e)
+  by-kind (suc (suc (suc (suc (suc zero))))) e = of-branch (instr-kind p at 5 inside e)
+  by-kind (suc (suc (suc (suc (suc (suc zero)))))) e = of-conditional _ e (rw e) (instr-kind p at 6 inside e)
+  by-kind (suc (suc (suc (suc (suc (suc (suc zero))))))) e = (sym (ap (valueOr skip) (instr-kind p at 7 inside e)), tt)
+  by-kind (suc (suc (suc (suc (suc (suc (suc (suc k)))))))) e = unread (unfold readable in rw (instr-unknown p at inside (omega arith)) at h)
+
+  word-meant : Meant (shapeAt p at) p at (firstAt p at % firsts) (labelAt p at + firstAt p at / firsts) (valueOr skip (instr p at))
+  unfolding shapeAt firstAt labelAt
+  word-meant = by-kind (getD p at 0) refl
 
 -- ---- words
 cond-below : (b : Bool) (x y : ℕ) → x < 8 → y < 8 → cond b x y < shapes
@@ -264,7 +299,10 @@ expression-below p q =
     cond-below (eqb (getD p q 0) 1) _ _ (one-below (getD p (q + 1) 0)) (cond-below (eqb (getD p q 0) 3) _ 7 (three-below p (q + 1)) (omega arith))
 
 jump-below : (p : List ℕ) (q : ℕ) → jumpShape p q < shapes
-jump-below p q = cond-below (eqb (getD p q 0) 1) _ 7 (cond-below (eqb (getD p (q + 1) 0) 16) 5 7 (omega arith) (omega arith)) (omega arith)
+jump-below p q =
+    cond-below (eqb (getD p q 0) 1) _ 7
+    (cond-below (ltb (getD p (q + 1) 0) 16) 1 _ (omega arith) (cond-below (eqb (getD p (q + 1) 0) 16) 5 7 (omega arith) (omega arith)))
+    (omega arith)
 
 shape-below : (p : List ℕ) (at : ℕ) → shapeAt p at < shapes
 unfolding kindShapes shapeAt
@@ -282,47 +320,106 @@ shape-below p at = go (getD p at 0)
     go (suc (suc (suc (suc (suc (suc (suc (suc k)))))))) = omega arith
 
 -- what is put into a word can be taken from it
-taken : (at s f : ℕ) → at < offsets → s < shapes
-    → ((at + offsets * (s + shapes * f)) % offsets ≡ at) × ((at + offsets * (s + shapes * f)) / offsets % shapes ≡ s)
-    × ((at + offsets * (s + shapes * f)) / offsets / shapes % 256 ≡ f % 256)
-taken at s f h k = (omega arith, omega arith, omega arith)
+taken : (at s f l : ℕ) → at < offsets → s < shapes
+    → ((at + offsets * (s + shapes * (f + firsts * l))) % offsets ≡ at)
+    × ((at + offsets * (s + shapes * (f + firsts * l))) / offsets % shapes ≡ s)
+    × ((at + offsets * (s + shapes * (f + firsts * l))) / offsets / shapes % firsts ≡ f % firsts)
+    × ((at + offsets * (s + shapes * (f + firsts * l))) / offsets / shapes / firsts ≡ l + f / firsts)
+taken at s f l h k = (omega arith, omega arith, omega arith, omega arith)
 
-descriptor-taken : (p : List ℕ) (at : ℕ) → at < offsets → descriptorIn (wordAt p at) ≡ record { at = at; shape = shapeAt p at; first = firstAt p at % 256 }
+descriptor-taken : (p : List ℕ) (at : ℕ) → at < offsets
+    → descriptorIn (wordAt p at)
+    ≡ record { at = at; shape = shapeAt p at; first = firstAt p at % firsts; label = labelAt p at + firstAt p at / firsts }
 unfolding descriptorIn wordAt
 descriptor-taken p at h =
-    let t = taken at (shapeAt p at) (firstAt p at) h (shape-below p at) in
+    let t = taken at (shapeAt p at) (firstAt p at) (labelAt p at) h (shape-below p at) in
     let e = t .0 in
     let s = t .1 in
     let f = t .2 in
-    rw (lt-leb offsets at h) (λ i. record { at = e i; shape = s i; first = f i })
+    let l = t .3 in
+    rw (lt-leb offsets at h) (λ i. record { at = e i; shape = s i; first = f i; label = l i })
 
--- the word of an instruction that can be read
-pub word-described : (p : List ℕ) (at : ℕ) → at < offsets → readable (instr p at) ≡ true
-    → Described p (descriptorIn (wordAt p at)) (valueOr skip (instr p at))
-word-described p at l h = rw (descriptor-taken p at l) (record { read = h; same = refl; shaped = shape-means p at h })
+-- a descriptor whose instruction is x
+valid : (p : List ℕ) (d : Descriptor) (x : Instr) → instructionIn p d ≡ x → postfix x ≡ true → RegistersBelow registers x
+    → ShapeMeans (d .shape) p (d .at) (d .first) x → Valid p d
+valid p d x e s b m = record { sound = rw e s; below = rw e b; shaped = rw e m }
 
--- an instruction whose shape is not a branch's is none
-pub no-branch : (s : ℕ) (p : List ℕ) (at r : ℕ) (x : Instr) → (s ≡ 6 → ⊥) → ShapeMeans s p at r x → NoBranch x
-no-branch zero p at r x n m = m .1
-no-branch (suc zero) p at r x n m = m .1
-no-branch (suc (suc zero)) p at r x n m = m .1
-no-branch (suc (suc (suc zero))) p at r x n m = m .1
-no-branch (suc (suc (suc (suc zero)))) p at r x n m = m .1
-no-branch (suc (suc (suc (suc (suc zero))))) p at r x n m = m .1
-no-branch (suc (suc (suc (suc (suc (suc zero)))))) p at r x n m = absurd (n refl)
-no-branch (suc (suc (suc (suc (suc (suc (suc s))))))) p at r x n m = m .1
+-- the word of an instruction that can be read and keeps the postfix rule describes it
+pub word-valid : (p : List ℕ) (at : ℕ) → readable (instr p at) ≡ true → postfix (valueOr skip (instr p at)) ≡ true → at < offsets
+    → (instructionIn p (descriptorIn (wordAt p at)) ≡ valueOr skip (instr p at)) × Valid p (descriptorIn (wordAt p at))
+unfolding instructionIn
+word-valid p at h s l =
+    let m = word-meant p at h in
+    let d : Descriptor = record { at = at; shape = shapeAt p at; first = firstAt p at % firsts; label = labelAt p at + firstAt p at / firsts } in
+    rw (descriptor-taken p at l) (m .0, valid p d (valueOr skip (instr p at)) (m .0) s (instr-below p at) (m .1))
+
+-- ---- the shape of a branch and beqz go together
+pub branch-shaped : {p : List ℕ} {d : Descriptor} → Valid p d → d .shape ≡ 6 → instructionIn p d ≡ beqz (d .first) (d .label)
+unfolding instructionIn
+branch-shaped v e = rw e
+
+bare-other : (b : Bool) → NoBranch (cond b spbarr skip)
+bare-other true r l z = let y : _≡_ {A = ℕ} 0 1 = cc in omega arith
+bare-other false r l z = let y : _≡_ {A = ℕ} 0 1 = cc in omega arith
+
+other-by : (s : ℕ) (p : List ℕ) (at r l : ℕ) (x : Instr) → (s ≡ 6 → ⊥) → ShapeMeans s p at r x → NoBranch (instructionBy s p at r l)
+other-by zero p at r l x n m = bare-other (eqb r 7)
+other-by (suc zero) p at r l x n m = m .0 .other
+other-by (suc (suc zero)) p at r l x n m = m .0 .other
+other-by (suc (suc (suc zero))) p at r l x n m = m .0 .other
+other-by (suc (suc (suc (suc zero)))) p at r l x n m = m .0 .other
+other-by (suc (suc (suc (suc (suc zero))))) p at r l x n m = m .0 .other
+other-by (suc (suc (suc (suc (suc (suc zero)))))) p at r l x n m = absurd (n refl)
+other-by (suc (suc (suc (suc (suc (suc (suc s))))))) p at r l x n m =
+    rw (stands-by (suc (suc (suc (suc (suc (suc (suc s))))))) p at r l (λ z. omega arith) n) (m .0 .other)
+
+pub other-shaped : {p : List ℕ} {d : Descriptor} → Valid p d → (d .shape ≡ 6 → ⊥) → (r l : ℕ) → instructionIn p d ≡ beqz r l → ⊥
+unfolding instructionIn
+other-shaped {p} {d} v n = other-by (d .shape) p (d .at) (d .first) (d .label) (instructionIn p d) n (v .shaped)
+
+-- ---- the other shapes
+-- a shape that is neither of those that describe their instruction alone
+standing-by : (s : ℕ) (p : List ℕ) (at r : ℕ) (x : Instr) → (s ≡ 0 → ⊥) → (s ≡ 6 → ⊥) → ShapeMeans s p at r x → Standing p at
+standing-by zero p at r x a b m = absurd (a refl)
+standing-by (suc zero) p at r x a b m = m .0
+standing-by (suc (suc zero)) p at r x a b m = m .0
+standing-by (suc (suc (suc zero))) p at r x a b m = m .0
+standing-by (suc (suc (suc (suc zero)))) p at r x a b m = m .0
+standing-by (suc (suc (suc (suc (suc zero))))) p at r x a b m = m .0
+standing-by (suc (suc (suc (suc (suc (suc zero)))))) p at r x a b m = absurd (b refl)
+standing-by (suc (suc (suc (suc (suc (suc (suc s))))))) p at r x a b m = m .0
+
+pub standing-shaped : {p : List ℕ} {d : Descriptor} → Valid p d → (d .shape ≡ 0 → ⊥) → (d .shape ≡ 6 → ⊥)
+    → Standing p (d .at) × (instructionIn p d ≡ valueOr skip (instr p (d .at)))
+unfolding instructionIn
+standing-shaped {p} {d} v a b =
+    (standing-by (d .shape) p (d .at) (d .first) (instructionIn p d) a b (v .shaped), stands-by (d .shape) p (d .at) (d .first) (d .label) a b)
+
+-- what is read where the shape says that nothing is, or the register of a branch
+bare-tokens : (b : Bool) → firstTokens (cond b spbarr skip) ≡ []
+bare-tokens true = refl
+bare-tokens false = refl
+
+pub nothing-shaped : {p : List ℕ} {d : Descriptor} → Valid p d → d .shape ≡ 0
+    → (instructionIn p d ≡ bare (d .first)) × (firstTokens (instructionIn p d) ≡ [])
+unfolding instructionIn
+nothing-shaped {p} {d} v e = (rw e, rw e (bare-tokens (eqb (d .first) 7)))
 
 -- a shape that is none of 0 to 6
-pub general : (s : ℕ) (p : List ℕ) (at r : ℕ) (x : Instr) → (s ≡ 0 → ⊥) → (s ≡ 1 → ⊥) → (s ≡ 2 → ⊥) → (s ≡ 3 → ⊥)
+general-by : (s : ℕ) (p : List ℕ) (at r : ℕ) (x : Instr) → (s ≡ 0 → ⊥) → (s ≡ 1 → ⊥) → (s ≡ 2 → ⊥) → (s ≡ 3 → ⊥)
     → (s ≡ 4 → ⊥) → (s ≡ 5 → ⊥) → (s ≡ 6 → ⊥) → ShapeMeans s p at r x → General p at x
-general zero p at r x a b c d e f g m = absurd (a refl)
-general (suc zero) p at r x a b c d e f g m = absurd (b refl)
-general (suc (suc zero)) p at r x a b c d e f g m = absurd (c refl)
-general (suc (suc (suc zero))) p at r x a b c d e f g m = absurd (d refl)
-general (suc (suc (suc (suc zero)))) p at r x a b c d e f g m = absurd (e refl)
-general (suc (suc (suc (suc (suc zero))))) p at r x a b c d e f g m = absurd (f refl)
-general (suc (suc (suc (suc (suc (suc zero)))))) p at r x a b c d e f g m = absurd (g refl)
-general (suc (suc (suc (suc (suc (suc (suc s))))))) p at r x a b c d e f g m = m
+general-by zero p at r x a b c d e f g m = absurd (a refl)
+general-by (suc zero) p at r x a b c d e f g m = absurd (b refl)
+general-by (suc (suc zero)) p at r x a b c d e f g m = absurd (c refl)
+general-by (suc (suc (suc zero))) p at r x a b c d e f g m = absurd (d refl)
+general-by (suc (suc (suc (suc zero)))) p at r x a b c d e f g m = absurd (e refl)
+general-by (suc (suc (suc (suc (suc zero))))) p at r x a b c d e f g m = absurd (f refl)
+general-by (suc (suc (suc (suc (suc (suc zero)))))) p at r x a b c d e f g m = absurd (g refl)
+general-by (suc (suc (suc (suc (suc (suc (suc s))))))) p at r x a b c d e f g m = m .1
+
+pub general-shaped : {p : List ℕ} {d : Descriptor} → Valid p d → (d .shape ≡ 0 → ⊥) → (d .shape ≡ 1 → ⊥) → (d .shape ≡ 2 → ⊥)
+    → (d .shape ≡ 3 → ⊥) → (d .shape ≡ 4 → ⊥) → (d .shape ≡ 5 → ⊥) → (d .shape ≡ 6 → ⊥) → General p (d .at) (instructionIn p d)
+general-shaped {p} {d} v a b c e f g h = general-by (d .shape) p (d .at) (d .first) (instructionIn p d) a b c e f g h (v .shaped)
 
 -- the token count of an expression stands after the kind byte, and before the end
 count-after : (p : List ℕ) (at : ℕ) → at + 1 ≤ countAt p at
@@ -333,5 +430,5 @@ count-after p at = go (eqb (getD p at 0) 4)
     go true = omega arith
     go false = omega arith
 
-pub general-room : (p : List ℕ) (at : ℕ) (x : Instr) → General p at x → at + 2 ≤ length p
-general-room p at x g = let l = expr-read p (countAt p at) (g .2) .0 in let k = count-after p at in omega arith
+pub count-room : (p : List ℕ) (at : ℕ) → readable (expr p (countAt p at)) ≡ true → at + 2 ≤ length p
+count-room p at h = let l = expr-read p (countAt p at) h .0 in let k = count-after p at in omega arith

@@ -1,36 +1,65 @@
 // An instruction's word in the table of labels: its byte offset, with the shape of what it reads first, so that a step finds the
-// operands where they stand and tests no token again.
+// operands where they stand and tests no token again. A word without operands, or of a branch, describes its instruction alone. What
+// stands at which byte of an accepted instruction is known here only.
 use instruction::Instruction;
+use location::Label;
+use token::Expression;
 ghost use mathlib.Core.Path.{_≡_};
-ghost use Prim.Native.Nat.{_+_, _^_, _<_};
+ghost use mathlib.Core.Bool.{true};
+ghost use mathlib.Core.List.{List};
+ghost use Prim.Native.Nat.{ℕ, _+_, _-_, _^_, _<_, _≤_};
 ghost use lib.ListN.{length, getD};
-ghost use Rattle.descriptor.specs.Descriptors.{oneShape, threeShape, expressionShape, jumpShape, shapeAt, firstAt, countAt, wordAt, descriptorIn, instructionIn, Valid};
-ghost use Rattle.instruction.specs.Meaning.{meaning};
+ghost use Rattle.rules.specs.Rules.Instructions.{skip};
+ghost use Rattle.rules.specs.Rules.JobFile.{little, tokens, expr, withRegister, jump, conditional, instr};
+ghost use Rattle.rules.specs.Theorems.Readers.{readable, valueOr};
+ghost use Rattle.instruction.specs.Meaning.{meaning, withRegisterOf};
+ghost use Rattle.descriptor.specs.Descriptors.{oneShape, threeShape, expressionShape, jumpShape, shapeAt, firstAt, labelAt, countAt, wordAt, descriptorIn, constantPlace, operatorPlace, bare, instructionIn, Standing, Valid};
 
-// `at` is the instruction's offset. `shape` says what the instruction reads first, and which bytes from `at` on hold it, of which byte 0
-// is the kind byte; in the shapes that do not name it `first` means nothing:
-//   0  nothing
-//   1  the register `first`
-//   2  a constant, bytes 4 to 11
-//   3  the register `first` and a constant, bytes 5 to 12, under the operator in byte 13
-//   4  the register `first` and the one in byte 4, under the operator in byte 5
-//   5  a constant that a jump goes to, bytes 3 to 10
-//   6  the register `first`, which a branch tests; its label is in bytes 2 and 3
-//   7  any other expression
+// `at` is the instruction's offset, `shape` what the instruction reads first. In the shapes that do not name them, `first` and `label`
+// mean nothing; nor does `at` where nothing is read, or by a branch.
 pub struct Descriptor {
     pub at: usize,
     pub shape: u8,
     pub first: u8,
+    pub label: usize,
 }
 
-// The shape of a branch.
+// The shapes, with the bytes from `at` on that hold the operands, of which byte 0 is the kind byte.
+// Nothing: `first` is the kind.
+pub const NOTHING: u8 = 0;
+
+// The register `first`.
+pub const REGISTER: u8 = 1;
+
+// A constant, bytes 4 to 11.
+pub const CONSTANT: u8 = 2;
+
+// The register `first` and a constant, bytes 5 to 12, under the operator in byte 13.
+pub const REGISTER_CONSTANT: u8 = 3;
+
+// The register `first` and the one in byte 4, under the operator in byte 5.
+pub const REGISTER_REGISTER: u8 = 4;
+
+// A constant that a jump goes to, bytes 3 to 10.
+pub const JUMP_CONSTANT: u8 = 5;
+
+// The register `first`, which a branch tests; `label` is its label.
 pub const BRANCH: u8 = 6;
 
-// A word holds an offset below this, then the shape, then the first register.
+// Any other expression.
+pub const GENERAL: u8 = 7;
+
+// A word holds an offset below this, then the shape, then `first`, then `label`.
 const OFFSETS: u64 = 65536;
 
 // How many shapes there are.
 const SHAPES: u64 = 8;
+
+// How many numbers `first` can be.
+const FIRSTS: u64 = 256;
+
+// The kind of a barrier, as in the kind byte.
+const BARRIER: u8 = 7;
 
 // The byte at an offset, or 0 past the end.
 fn byte_at(p: &[u8], at: usize) -> u8
@@ -47,12 +76,12 @@ fn shape_of_one(b: u8) -> u8
     ensures { λ r. ⌜ r ≡ oneShape b ⌝ }
 {
     if b < 16 {
-        return 1;
+        return REGISTER;
     }
     if b == 16 {
-        return 2;
+        return CONSTANT;
     }
-    7
+    GENERAL
 }
 
 // The shape of three tokens, the first of them at an offset.
@@ -61,22 +90,22 @@ fn shape_of_three(p: &[u8], at: usize) -> u8
     ensures { λ r. ⌜ r ≡ threeShape (now (p .entry)) at ⌝ }
 {
     if 15 < byte_at(p, at) {
-        return 7;
+        return GENERAL;
     }
     let second = byte_at(p, at + 1);
     if second < 16 {
         if byte_at(p, at + 2) < 19 {
-            return 7;
+            return GENERAL;
         }
-        return 4;
+        return REGISTER_REGISTER;
     }
     if second != 16 {
-        return 7;
+        return GENERAL;
     }
     if byte_at(p, at + 10) < 19 {
-        return 7;
+        return GENERAL;
     }
-    3
+    REGISTER_CONSTANT
 }
 
 // The shape of an expression whose token count is at an offset.
@@ -91,22 +120,26 @@ fn shape_of_expression(p: &[u8], at: usize) -> u8
     if count == 3 {
         return shape_of_three(p, at + 1);
     }
-    7
+    GENERAL
 }
 
 // The shape of a jump's expression, whose token count is at an offset: a constant stands a byte further to the front than elsewhere,
-// and anything else is left to the general way.
+// and all but that and a register is left to the general way.
 fn shape_of_jump(p: &[u8], at: usize) -> u8
     requires { ⌜ at + 1 < 2 ^ 64 ⌝ }
     ensures { λ r. ⌜ r ≡ jumpShape (now (p .entry)) at ⌝ }
 {
     if byte_at(p, at) != 1 {
-        return 7;
+        return GENERAL;
     }
-    if byte_at(p, at + 1) != 16 {
-        return 7;
+    let token = byte_at(p, at + 1);
+    if token < 16 {
+        return REGISTER;
     }
-    5
+    if token != 16 {
+        return GENERAL;
+    }
+    JUMP_CONSTANT
 }
 
 // The shape of the instruction at an offset, by its kind byte.
@@ -121,30 +154,35 @@ fn shape_at(p: &[u8], at: usize) -> u8
         4 => shape_of_jump(p, at + 1),
         5 => BRANCH,
         6 => shape_of_expression(p, at + 2),
-        _ => 0,
+        _ => NOTHING,
     }
 }
 
-// The byte where the first register stands, if the shape has one.
+// The byte where the first register stands, if the shape has one; the kind of an instruction that reads nothing.
 fn first_at(p: &[u8], at: usize) -> u8
     requires { ⌜ at + 3 < 2 ^ 64 ⌝ }
     ensures { λ r. ⌜ r ≡ firstAt (now (p .entry)) at ⌝ }
 {
-    if byte_at(p, at) == 5 {
-        return byte_at(p, at + 1);
+    match byte_at(p, at) {
+        0 => 0,
+        4 => byte_at(p, at + 2),
+        5 => byte_at(p, at + 1),
+        7 => BARRIER,
+        _ => byte_at(p, at + 3),
     }
-    byte_at(p, at + 3)
 }
 
-// Where the token count of an instruction's first expression stands: a jump has no register before it.
-pub fn count_at(p: &[u8], at: usize) -> usize
-    requires { ⌜ (at < length (now p)) × (at + 2 < 2 ^ 64) ⌝ }
-    ensures { λ r. ⌜ r ≡ countAt (now (p .entry)) at ⌝ }
+// The label of a branch; 0 elsewhere.
+fn label_at(p: &[u8], at: usize) -> u64
+    requires { ⌜ at + 3 < 2 ^ 64 ⌝ }
+    ensures { λ r. ⌜ (r ≡ labelAt (now (p .entry)) at) × (r < 2 ^ 16) ⌝ }
 {
-    if p[at] == 4 {
-        return at + 1;
+    if byte_at(p, at) != 5 {
+        return 0;
     }
-    at + 2
+    let low = byte_at(p, at + 2) as u64;
+    let high = byte_at(p, at + 3) as u64;
+    low + 256 * high
 }
 
 // The word of the instruction at an offset; 0 for an offset that no job has.
@@ -156,7 +194,8 @@ pub fn word_at(p: &[u8], at: usize) -> u64
     }
     let shape = shape_at(p, at) as u64;
     let first = first_at(p, at) as u64;
-    at as u64 + OFFSETS * (shape + SHAPES * first)
+    let label = label_at(p, at);
+    at as u64 + OFFSETS * (shape + SHAPES * (first + FIRSTS * label))
 }
 
 // The descriptor that a word holds.
@@ -166,8 +205,131 @@ pub fn descriptor_in(word: u64) -> Descriptor
     Descriptor {
         at: (word % OFFSETS) as usize,
         shape: (word / OFFSETS % SHAPES) as u8,
-        first: (word / OFFSETS / SHAPES % 256) as u8,
+        first: (word / OFFSETS / SHAPES % FIRSTS) as u8,
+        label: (word / OFFSETS / SHAPES / FIRSTS) as usize,
     }
+}
+
+// Where the constant of a shape that has one starts.
+fn constant_place(shape: u8) -> usize
+    ensures { λ r. ⌜ (r ≡ constantPlace shape) × (r < 8) ⌝ }
+{
+    if shape == REGISTER_CONSTANT {
+        return 5;
+    }
+    if shape == JUMP_CONSTANT {
+        return 3;
+    }
+    4
+}
+
+// Where the operator of a shape that has one stands.
+fn operator_place(shape: u8) -> usize
+    ensures { λ r. ⌜ (r ≡ operatorPlace shape) × (r < 16) ⌝ }
+{
+    if shape == REGISTER_CONSTANT {
+        return 13;
+    }
+    5
+}
+
+// The constant of a descriptor's instruction, if its shape has one.
+pub fn constant_of(p: &[u8], d: Descriptor) -> u64
+    requires { ⌜ d .at + constantPlace (d .shape) + 8 ≤ length (now p) ⌝ }
+    ensures { λ r. ⌜ r ≡ little (now (p .entry)) (d .at + constantPlace (d .shape)) 8 ⌝ }
+{
+    let place = constant_place(d.shape);
+    token::number(p, d.at + place, 8)
+}
+
+// The second register of a descriptor's instruction, if its shape has one.
+pub fn second_of(p: &[u8], d: Descriptor) -> u8
+    requires { ⌜ d .at + 4 < length (now p) ⌝ }
+    ensures { λ r. ⌜ r ≡ getD (now (p .entry)) (d .at + 4) 0 ⌝ }
+{
+    p[d.at + 4]
+}
+
+// The operator of a descriptor's instruction, if its shape has one: its place in the rules' table.
+pub fn operator_of(p: &[u8], d: Descriptor) -> u8
+    requires { ⌜ (d .at + operatorPlace (d .shape) < length (now p)) × (19 ≤ getD (now p) (d .at + operatorPlace (d .shape)) 0) ⌝ }
+    ensures { λ r. ⌜ r ≡ getD (now (p .entry)) (d .at + operatorPlace (d .shape)) 0 - 19 ⌝ }
+{
+    let place = operator_place(d.shape);
+    p[d.at + place] - 19
+}
+
+// Where the token count of an instruction's first expression stands: a jump has no register before it.
+fn count_at(p: &[u8], at: usize) -> usize
+    requires { ⌜ (at < length (now p)) × (at + 2 < 2 ^ 64) ⌝ }
+    ensures { λ r. ⌜ r ≡ countAt (now (p .entry)) at ⌝ }
+{
+    if p[at] == 4 {
+        return at + 1;
+    }
+    at + 2
+}
+
+// The first expression of a descriptor's instruction.
+pub fn expression_of(p: &[u8], d: Descriptor) -> Expression
+    requires { ⌜ readable (expr (now p) (countAt (now p) (d .at))) ≡ true ⌝ }
+    ensures { λ r. ⌜ tokens (r .count) (now (p .entry)) (r .at) ≡ expr (now (p .entry)) (countAt (now (p .entry)) (d .at)) ⌝ }
+{
+    token::expression_at(p, count_at(p, d.at))
+}
+
+fn with_register_at(p: &[u8], at: usize, kind: u8) -> Instruction
+    requires { ⌜ readable (withRegister (withRegisterOf kind) (now p) at) ≡ true ⌝ }
+    ensures { λ i. ⌜ meaning (now (p .entry)) i ≡ valueOr skip (withRegister (withRegisterOf kind) (now (p .entry)) at) ⌝ }
+{
+    let r = p[at];
+    let e = token::expression_at(p, at + 1);
+    instruction::with_register(kind, r, e)
+}
+
+fn jump_at(p: &[u8], at: usize) -> Instruction
+    requires { ⌜ readable (jump (now p) at) ≡ true ⌝ }
+    ensures { λ i. ⌜ meaning (now (p .entry)) i ≡ valueOr skip (jump (now (p .entry)) at) ⌝ }
+{
+    Instruction::Jump(token::expression_at(p, at))
+}
+
+// The condition's tokens are read for their extent alone.
+fn conditional_at(p: &[u8], at: usize) -> Instruction
+    requires { ⌜ readable (conditional (now p) at) ≡ true ⌝ }
+    ensures { λ i. ⌜ meaning (now (p .entry)) i ≡ valueOr skip (conditional (now (p .entry)) at) ⌝ }
+{
+    let r = p[at];
+    let c = token::expression_at(p, at + 1);
+    let middle = token::expression_end(p, c);
+    let e = token::expression_at(p, middle);
+    Instruction::AssignIf(r, c, e)
+}
+
+// The instruction at an offset where one with an expression stands: its fields are taken as they are, with no test.
+fn instruction_at(p: &[u8], at: usize) -> Instruction
+    requires { ⌜ Standing (now p) at ⌝ }
+    ensures { λ i. ⌜ meaning (now (p .entry)) i ≡ valueOr skip (instr (now (p .entry)) at) ⌝ }
+{
+    let k = p[at];
+    let next = at + 1;
+    match k {
+        1 => with_register_at(p, next, 1),
+        2 => with_register_at(p, next, 2),
+        3 => with_register_at(p, next, 3),
+        4 => jump_at(p, next),
+        _ => conditional_at(p, next),
+    }
+}
+
+// The instruction of a kind that reads nothing.
+fn bare(kind: u8) -> Instruction
+    ensures { λ i. ⌜ ((p : List ℕ) → meaning p i ≡ bare kind) ⌝ }
+{
+    if kind == BARRIER {
+        return Instruction::Barrier;
+    }
+    Instruction::Skip
 }
 
 // The instruction of a descriptor.
@@ -175,5 +337,12 @@ pub fn instruction_of(p: &[u8], d: Descriptor) -> Instruction
     requires { ⌜ Valid (now p) d ⌝ }
     ensures { λ i. ⌜ meaning (now (p .entry)) i ≡ instructionIn (now (p .entry)) d ⌝ }
 {
-    instruction::instruction_at(p, d.at)
+    let shape = d.shape;
+    if shape == NOTHING {
+        return bare(d.first);
+    }
+    if shape == BRANCH {
+        return Instruction::BranchZero(d.first, Label::new(d.label));
+    }
+    instruction_at(p, d.at)
 }

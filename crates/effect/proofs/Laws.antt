@@ -5,17 +5,19 @@ use mathlib.Core.Bool.{true}
 use mathlib.Core.List.{List, [], _∷_}
 use Prim.Native.Nat.{ℕ, _+_, _<_, _≤_}
 use native.Mathlib.Omega.{arith}
+use lib.ListN.{getD}
 use borrow.Author.Tests.{eq-eqb, ne-eqb, lt-ltb, le-ltb}
 use Rattle.location.specs.Sets.{registers, empty}
 use Rattle.location.specs.SetLaws.{and-right}
 use Rattle.rules.specs.declared.Tagged.{Tagged}
-use Rattle.rules.specs.Rules.Operators.{Op2}
+use Rattle.rules.specs.Rules.Operators.{add}
 use Rattle.rules.specs.Rules.Expressions.{reg, const, op2, Expr, sound, tagged, result2, pushed, evalOn, top, eval}
 use Rattle.rules.specs.Rules.Instructions.{Instr}
-use Rattle.rules.specs.Rules.JobFile.{tokens, expr, postfix}
+use Rattle.rules.specs.Rules.JobFile.{binary, tokens, expr, postfix}
 use Rattle.rules.specs.Rules.Plain.{State, put, Code, joined, loadedFrom, storedTo, chosen, at}
 use Rattle.token.specs.declared.Expression.{Expression}
-use Rattle.token.specs.Meaning.{valueOr, tokensOf}
+use Rattle.rules.specs.Theorems.Readers.{valueOr}
+use Rattle.token.specs.Meaning.{tokensOf}
 use Rattle.descriptor.specs.Descriptors.{firstTokens, countAt, General}
 use Rattle.instruction.specs.declared.Instruction.{Instruction}
 use Rattle.instruction.specs.declared.Instruction.the-variants.{AssignIf}
@@ -96,18 +98,19 @@ pub value-constant : (f : ℕ → Tagged) {c : ℕ} {ts : Expr} {v : Tagged} →
 unfolding eval evalOn top pushed
 value-constant f et ev = rw et ev
 
-pub value-with-constant : (f : ℕ → Tagged) {r c : ℕ} {o : Op2} {ts : Expr} {v : Tagged} → ts ≡ reg r ∷ const c ∷ op2 o ∷ []
-    → v ≡ result2 o (f r) (tagged c empty) → v ≡ eval f ts
+-- two operands x and y under the operator with place i in the rules' table; l and k are the registers' locations
+pub value-with-constant : (f : ℕ → Tagged) {r c j i l : ℕ} {ts : Expr} {v x y : Tagged} → ts ≡ reg r ∷ const c ∷ op2 (getD binary j add) ∷ []
+    → i ≡ j → l ≡ r → x ≡ f l → y ≡ tagged c empty → v ≡ result2 (getD binary i add) x y → v ≡ eval f ts
 unfolding eval evalOn top pushed
-value-with-constant f et ev = rw et ev
+value-with-constant f et ei el ex ey ev = rw et (rw (ei, ex, el, ey) at ev)
 
-pub value-with-register : (f : ℕ → Tagged) {r q : ℕ} {o : Op2} {ts : Expr} {v : Tagged} → ts ≡ reg r ∷ reg q ∷ op2 o ∷ []
-    → v ≡ result2 o (f r) (f q) → v ≡ eval f ts
+pub value-with-register : (f : ℕ → Tagged) {r q j i l s k : ℕ} {ts : Expr} {v x y : Tagged} → ts ≡ reg r ∷ reg q ∷ op2 (getD binary j add) ∷ []
+    → i ≡ j → l ≡ r → x ≡ f l → s ≡ q → k ≡ s → y ≡ f k → v ≡ result2 (getD binary i add) x y → v ≡ eval f ts
 unfolding eval evalOn top pushed
-value-with-register f et ev = rw et ev
+value-with-register f et ei el ex es ek ey ev = rw et (rw (ei, ex, el, ey, ek, es) at ev)
 
 -- ---- the expression e that was read at the token count of an instruction x
-pub general-tokens : (p : List ℕ) (at : ℕ) {q : ℕ} (x : Instr) (e : Expression) → tokens (e .count) p (e .at) ≡ expr p q → q ≡ countAt p at → General p at x
+pub general-tokens : (p : List ℕ) (at : ℕ) (x : Instr) (e : Expression) → tokens (e .count) p (e .at) ≡ expr p (countAt p at) → General p at x
     → tokensOf p e ≡ firstTokens x
 unfolding tokensOf
-general-tokens p at x e r eq g = ap (valueOr []) r ∙ ap (λ (k : ℕ). valueOr [] (expr p k)) eq ∙ sym (g .0)
+general-tokens p at x e r g = ap (valueOr []) r ∙ sym (g .0)

@@ -10,17 +10,16 @@ use token::Expression;
 ghost use mathlib.Core.Path.{_≡_};
 ghost use mathlib.Core.Bool.{true};
 ghost use Prim.Native.Nat.{_+_, _<_, _≤_, min};
-ghost use lib.ListN.{length, getD};
+ghost use lib.ListN.{length};
 ghost use Rattle.location.specs.Sets.{registers, empty};
-ghost use Rattle.rules.specs.Rules.Expressions.{sound, tagged, result2, eval};
-ghost use Rattle.rules.specs.Rules.JobFile.{little, postfix};
+ghost use Rattle.rules.specs.Rules.Expressions.{sound, tagged, eval};
+ghost use Rattle.rules.specs.Rules.JobFile.{little};
 ghost use Rattle.rules.specs.Rules.Plain.{Code, joined, loadedFrom, chosen, branchTo};
 ghost use Rattle.token.specs.Meaning.{tokensOf};
+ghost use Rattle.descriptor.specs.Descriptors.{constantPlace, instructionIn, firstTokens, General, Valid};
 ghost use Rattle.work.specs.Layout.{operandBase};
 ghost use Rattle.work.specs.Words.{taggedAt};
 ghost use Rattle.work.specs.Machines.{stateIn};
-ghost use Rattle.descriptor.specs.Descriptors.{operatorBy, General};
-ghost use Rattle.effect.specs.Sources.{instructionAt, firstValue, Sourced};
 
 // A word whose set takes over another.
 pub fn joined(t: Tagged, s: LocationSet) -> Tagged
@@ -83,64 +82,62 @@ pub fn branch_to(t: Tagged, label: Label, next: usize) -> usize
 
 // The value of any expression that an instruction reads first. The slices are taken anew, so that a step with a short one does not set
 // them up.
-fn general_value(p: &[u8], work: &[u64], at: usize) -> Tagged
-    requires { ⌜ (postfix (instructionAt (now p) at) ≡ true) × General (now p) at (instructionAt (now p) at) × (operandBase registers ≤ length (now work)) ⌝ }
-    ensures { λ r. ⌜ r ≡ firstValue (now (p .entry)) at (taggedAt (now (work .entry))) ⌝ }
+fn general_value(p: &[u8], work: &[u64], d: Descriptor) -> Tagged
+    requires { ⌜ Valid (now p) d × General (now p) (d .at) (instructionIn (now p) d) × (operandBase registers ≤ length (now work)) ⌝ }
+    ensures { λ r. ⌜ r ≡ eval (taggedAt (now (work .entry))) (firstTokens (instructionIn (now (p .entry)) d)) ⌝ }
 {
-    let e = token::expression_at(p, descriptor::count_at(p, at));
+    let e = descriptor::expression_of(p, d);
     expression::evaluate(&p[..], &work[..], e)
 }
 
-// The constant in the eight bytes at an offset.
-fn constant_at(p: &[u8], at: usize) -> Tagged
-    requires { ⌜ at + 8 ≤ length (now p) ⌝ }
-    ensures { λ r. ⌜ r ≡ tagged (little (now (p .entry)) at 8) empty ⌝ }
+// The constant of an instruction whose shape has one.
+fn constant_value(p: &[u8], d: Descriptor) -> Tagged
+    requires { ⌜ d .at + constantPlace (d .shape) + 8 ≤ length (now p) ⌝ }
+    ensures { λ r. ⌜ r ≡ tagged (little (now (p .entry)) (d .at + constantPlace (d .shape)) 8) empty ⌝ }
 {
     Tagged {
-        value: token::number(p, at, 8),
+        value: descriptor::constant_of(p, d),
         deps: LocationSet::empty(),
     }
 }
 
-// A register and a constant, of an instruction at an offset whose shape says so.
-fn with_constant(p: &[u8], work: &[u64], at: usize, first: u8) -> Tagged
-    requires { ⌜ (at + 14 ≤ length (now p)) × (19 ≤ getD (now p) (at + 13) 0) × (first < registers) × (operandBase registers ≤ length (now work)) ⌝ }
-    ensures { λ r. ⌜ r ≡ result2 (operatorBy (getD (now (p .entry)) (at + 13) 0)) (taggedAt (now (work .entry)) first) (tagged (little (now (p .entry)) (at + 5) 8) empty) ⌝ }
+// A register and a constant under an operator.
+fn with_constant(p: &[u8], work: &[u64], d: Descriptor) -> Tagged
+    requires { ⌜ (d .shape ≡ 3) × Valid (now p) d × (operandBase registers ≤ length (now work)) ⌝ }
+    ensures { λ r. ⌜ r ≡ eval (taggedAt (now (work .entry))) (firstTokens (instructionIn (now (p .entry)) d)) ⌝ }
 {
-    let x = work::load(work, Location::register(first));
-    let y = constant_at(p, at + 5);
-    expression::combine(p[at + 13] - 19, x, y)
+    let x = work::load(work, Location::register(d.first));
+    let y = constant_value(p, d);
+    expression::combine(descriptor::operator_of(p, d), x, y)
 }
 
-// Two registers, of an instruction at an offset whose shape says so.
-fn with_register(p: &[u8], work: &[u64], at: usize, first: u8) -> Tagged
-    requires { ⌜ (at + 6 ≤ length (now p)) × (19 ≤ getD (now p) (at + 5) 0) × (first < registers) × (getD (now p) (at + 4) 0 < registers) × (operandBase registers ≤ length (now work)) ⌝ }
-    ensures { λ r. ⌜ r ≡ result2 (operatorBy (getD (now (p .entry)) (at + 5) 0)) (taggedAt (now (work .entry)) first) (taggedAt (now (work .entry)) (getD (now (p .entry)) (at + 4) 0)) ⌝ }
+// Two registers under an operator.
+fn with_register(p: &[u8], work: &[u64], d: Descriptor) -> Tagged
+    requires { ⌜ (d .shape ≡ 4) × Valid (now p) d × (operandBase registers ≤ length (now work)) ⌝ }
+    ensures { λ r. ⌜ r ≡ eval (taggedAt (now (work .entry))) (firstTokens (instructionIn (now (p .entry)) d)) ⌝ }
 {
-    let x = work::load(work, Location::register(first));
-    let y = work::load(work, Location::register(p[at + 4]));
-    expression::combine(p[at + 5] - 19, x, y)
+    let x = work::load(work, Location::register(d.first));
+    let y = work::load(work, Location::register(descriptor::second_of(p, d)));
+    expression::combine(descriptor::operator_of(p, d), x, y)
 }
 
-// The value of what the instruction of a descriptor reads first; 0 where it reads nothing. The arms are the shapes of `Descriptor`.
-pub fn source_value(p: &[u8], work: &[u64], e: Descriptor) -> Tagged
-    requires { ⌜ Sourced (now p) e × (operandBase registers ≤ length (now work)) ⌝ }
-    ensures { λ r. ⌜ r ≡ firstValue (now (p .entry)) (e .at) (taggedAt (now (work .entry))) ⌝ }
+// The value of what the instruction of a descriptor reads first; 0 where it reads nothing.
+pub fn source_value(p: &[u8], work: &[u64], d: Descriptor) -> Tagged
+    requires { ⌜ Valid (now p) d × (operandBase registers ≤ length (now work)) ⌝ }
+    ensures { λ r. ⌜ r ≡ eval (taggedAt (now (work .entry))) (firstTokens (instructionIn (now (p .entry)) d)) ⌝ }
 {
-    let at = e.at;
-    let first = e.first;
-    let shape = e.shape;
+    let shape = d.shape;
     match shape {
-        0 => Tagged {
+        descriptor::NOTHING => Tagged {
             value: 0,
             deps: LocationSet::empty(),
         },
-        1 => work::load(work, Location::register(first)),
-        2 => constant_at(p, at + 4),
-        3 => with_constant(p, work, at, first),
-        4 => with_register(p, work, at, first),
-        5 => constant_at(p, at + 3),
-        6 => work::load(work, Location::register(first)),
-        _ => general_value(p, work, at),
+        descriptor::REGISTER => work::load(work, Location::register(d.first)),
+        descriptor::CONSTANT => constant_value(p, d),
+        descriptor::REGISTER_CONSTANT => with_constant(p, work, d),
+        descriptor::REGISTER_REGISTER => with_register(p, work, d),
+        descriptor::JUMP_CONSTANT => constant_value(p, d),
+        descriptor::BRANCH => work::load(work, Location::register(d.first)),
+        _ => general_value(p, work, d),
     }
 }

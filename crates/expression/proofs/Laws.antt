@@ -19,8 +19,9 @@ use Rattle.rules.specs.declared.Tagged.{Tagged}
 use Rattle.rules.specs.Rules.Operators.{neg, add, apply1, apply2}
 use Rattle.rules.specs.Rules.Expressions.{Token, reg, const, op1, op2, Expr, takes, after, held, sound, tagged, result1, result2, pushed, evalOn, top, eval}
 use Rattle.rules.specs.Rules.JobFile.{Read, got, refused, andThen, unary, binary, token, tokens}
+use Rattle.rules.specs.Theorems.Readers.{readable, valueOr}
 use Rattle.token.specs.declared.Expression.{Expression}
-use Rattle.token.specs.Meaning.{readable, valueOr, tokensOf}
+use Rattle.token.specs.Meaning.{tokensOf}
 use Rattle.expression.specs.Registers.{TokenBelow, token-below}
 use Rattle.expression.specs.Results.{value, gathered}
 

@@ -13,8 +13,9 @@ use Rattle.rules.specs.declared.Tagged.{Tagged}
 use Rattle.rules.specs.Rules.Operators.{neg, add}
 use Rattle.rules.specs.Rules.Expressions.{Token, reg, const, op1, op2, Expr, pushed, evalOn, top, eval}
 use Rattle.rules.specs.Rules.JobFile.{Read, got, refused, andThen, return, refuse, byte, unary, binary, wordOf, constant, tokenOf, token, tokens}
+use Rattle.rules.specs.Theorems.Readers.{valueOr, Holds, then, always, holds-value}
 use Rattle.token.specs.declared.Expression.{Expression}
-use Rattle.token.specs.Meaning.{valueOr, tokensOf}
+use Rattle.token.specs.Meaning.{tokensOf}
 
 -- the register of a token, if it names one, is below n
 abbrev pub TokenBelow : ℕ → Token → Type 0
@@ -28,20 +29,7 @@ abbrev pub Below : ℕ → Expr → Type 0
 Below n [] = Unit
 Below n (t ∷ ts) = TokenBelow n t × Below n ts
 
--- ---- what is read has a property
-abbrev pub Holds : {A : Type 0} → (A → Type 0) → Read A → Type 0
-Holds P (got a q) = P a
-Holds P (refused r) = Unit
-
-pub then : {A B : Type 0} (P : A → Type 0) (Q : B → Type 0) (m : Read A) (f : A → ℕ → Read B) → Holds P m
-    → ((a : A) (q : ℕ) → P a → Holds Q (f a q)) → Holds Q (andThen m f)
-then P Q (got a q) f h k = k a q h
-then P Q (refused r) f h k = tt
-
-pub always : {A : Type 0} (m : Read A) → Holds (λ a. Unit) m
-always (got a q) = tt
-always (refused r) = tt
-
+-- ---- what the rules read
 constant-holds : (p : List ℕ) (at : ℕ) → Holds (TokenBelow registers) (constant p at)
 unfolding constant
 constant-holds p at = then (λ c. Unit) (TokenBelow registers) (wordOf 8 p at) (λ c q. got (const c) q) (always (wordOf 8 p at)) (λ c q h. tt)
@@ -79,11 +67,7 @@ token-below p at t q e = rw e at (token-holds p at)
 
 pub expression-below : (p : List ℕ) (e : Expression) → Below registers (tokensOf p e)
 unfolding tokensOf
-expression-below p e = go (tokens (e .count) p (e .at)) (tokens-hold (e .count) p (e .at))
-  where
-    go : (R : Read Expr) → Holds (Below registers) R → Below registers (valueOr [] R)
-    go (got ts q) h = h
-    go (refused r) h = tt
+expression-below p e = holds-value (Below registers) [] (tokens (e .count) p (e .at)) tt (tokens-hold (e .count) p (e .at))
 
 -- ---- a value rests on the registers that occur
 module _ (n : ℕ) (f g : ℕ → Tagged) (agree : (r : ℕ) → r < n → f r ≡ g r) where

@@ -5,15 +5,13 @@ use rules::Refusal;
 use token::Expression;
 use token::ExpressionRead;
 ghost use mathlib.Core.Path.{_≡_};
-ghost use mathlib.Core.Bool.{true};
 ghost use mathlib.Core.List.{List};
-ghost use Prim.Native.Nat.{ℕ};
-ghost use lib.ListN.{getD};
-ghost use Rattle.rules.specs.Rules.Instructions.{skip, kind, windowCosts};
+ghost use Prim.Native.Nat.{ℕ, _<_};
+ghost use Rattle.rules.specs.Rules.Instructions.{kind, windowCosts};
 ghost use Rattle.rules.specs.Rules.JobFile.{wordOf, register, withRegister, jump, branch, conditional, instr};
 ghost use Rattle.rules.specs.Rules.Plain.{Code};
 ghost use Rattle.rules.specs.Rules.Mispredicting.{remaining};
-ghost use Rattle.token.specs.Meaning.{readable, valueOr, tokensOf};
+ghost use Rattle.token.specs.Meaning.{tokensOf};
 ghost use Rattle.instruction.specs.Meaning.{registerReadMeaning, labelReadMeaning, meaning, withRegisterOf, instructionReadMeaning, InstructionTested};
 
 const REGISTERS: u8 = Location::REGISTERS as u8;
@@ -83,7 +81,7 @@ pub enum InstructionRead {
 }
 
 // The instruction of a kind, 1 to 3, with a register and an expression.
-fn with_register(kind: u8, r: u8, e: Expression) -> Instruction
+pub fn with_register(kind: u8, r: u8, e: Expression) -> Instruction
     ensures { λ i. ⌜ ((p : List ℕ) → meaning p i ≡ withRegisterOf kind r (tokensOf p e)) ⌝ }
 {
     if kind == 1 {
@@ -201,62 +199,6 @@ pub fn decode(p: &[u8], at: usize) -> InstructionRead
     }
 }
 
-fn with_register_at(p: &[u8], at: usize, kind: u8) -> Instruction
-    requires { ⌜ readable (withRegister (withRegisterOf kind) (now p) at) ≡ true ⌝ }
-    ensures { λ i. ⌜ meaning (now (p .entry)) i ≡ valueOr skip (withRegister (withRegisterOf kind) (now (p .entry)) at) ⌝ }
-{
-    let r = p[at];
-    let e = token::expression_at(p, at + 1);
-    with_register(kind, r, e)
-}
-
-fn jump_at(p: &[u8], at: usize) -> Instruction
-    requires { ⌜ readable (jump (now p) at) ≡ true ⌝ }
-    ensures { λ i. ⌜ meaning (now (p .entry)) i ≡ valueOr skip (jump (now (p .entry)) at) ⌝ }
-{
-    Instruction::Jump(token::expression_at(p, at))
-}
-
-fn branch_at(p: &[u8], at: usize) -> Instruction
-    requires { ⌜ readable (branch (now p) at) ≡ true ⌝ }
-    ensures { λ i. ⌜ meaning (now (p .entry)) i ≡ valueOr skip (branch (now (p .entry)) at) ⌝ }
-{
-    let r = p[at];
-    let l = Label::new(token::number(p, at + 1, 2) as usize);
-    Instruction::BranchZero(r, l)
-}
-
-// The condition's tokens are read for their extent alone.
-fn conditional_at(p: &[u8], at: usize) -> Instruction
-    requires { ⌜ readable (conditional (now p) at) ≡ true ⌝ }
-    ensures { λ i. ⌜ meaning (now (p .entry)) i ≡ valueOr skip (conditional (now (p .entry)) at) ⌝ }
-{
-    let r = p[at];
-    let c = token::expression_at(p, at + 1);
-    let middle = token::expression_end(p, c);
-    let e = token::expression_at(p, middle);
-    Instruction::AssignIf(r, c, e)
-}
-
-// The instruction at an offset where one can be read: its fields are taken as they stand, with no test.
-pub fn instruction_at(p: &[u8], at: usize) -> Instruction
-    requires { ⌜ readable (instr (now p) at) ≡ true ⌝ }
-    ensures { λ i. ⌜ meaning (now (p .entry)) i ≡ valueOr skip (instr (now (p .entry)) at) ⌝ }
-{
-    let k = p[at];
-    let next = at + 1;
-    match k {
-        1 => with_register_at(p, next, 1),
-        2 => with_register_at(p, next, 2),
-        3 => with_register_at(p, next, 3),
-        4 => jump_at(p, next),
-        5 => branch_at(p, next),
-        6 => conditional_at(p, next),
-        7 => Instruction::Barrier,
-        _ => Instruction::Skip,
-    }
-}
-
 // What each kind of instruction takes from an open branch's window, by the kind's number.
 pub const WINDOW_COSTS: [u64; 8] = [1, 1, 1, 1, 1, 1, 1, 1];
 
@@ -264,7 +206,8 @@ const BARRIER: usize = 7;
 
 // The kind's number, as in the kind byte.
 fn kind(i: Instruction) -> usize
-    ensures { λ r. ⌜ ((p : List ℕ) → r ≡ kind (meaning p i)) ⌝ }
+    ensures below { λ r. ⌜ r < 8 ⌝ }
+    ensures same { λ r. ⌜ ((p : List ℕ) → r ≡ kind (meaning p i)) ⌝ }
 {
     match i {
         Instruction::Skip => 0,
@@ -278,33 +221,24 @@ fn kind(i: Instruction) -> usize
     }
 }
 
-// The entry of the instruction's kind. Each arm has its number, so that the compiler need not keep the table.
-fn cost(i: Instruction) -> u64
-    ensures { λ r. ⌜ ((p : List ℕ) → r ≡ getD windowCosts (kind (meaning p i)) 0) ⌝ }
-{
-    match i {
-        Instruction::Skip => WINDOW_COSTS[0],
-        Instruction::Assign(_, _) => WINDOW_COSTS[1],
-        Instruction::Load(_, _) => WINDOW_COSTS[2],
-        Instruction::Store(_, _) => WINDOW_COSTS[3],
-        Instruction::Jump(_) => WINDOW_COSTS[4],
-        Instruction::BranchZero(_, _) => WINDOW_COSTS[5],
-        Instruction::AssignIf(_, _, _) => WINDOW_COSTS[6],
-        Instruction::Barrier => WINDOW_COSTS[7],
-    }
-}
-
-// The window that an instruction leaves: lowered by its cost, 0 at least; a barrier leaves 0.
-pub fn lowered(window: u64, i: Instruction) -> u64
-    ensures { λ r. ⌜ ((p : List ℕ) (code : Code) → code .costs ≡ windowCosts → r ≡ remaining code (meaning p i) window) ⌝ }
+// The window that an instruction leaves by any table of costs: lowered by its kind's entry, 0 at least; a barrier leaves 0.
+fn lowered_by(costs: [u64; 8], window: u64, i: Instruction) -> u64
+    ensures { λ r. ⌜ ((p : List ℕ) (code : Code) → code .costs ≡ costs → r ≡ remaining code (meaning p i) window) ⌝ }
 {
     let k = kind(i);
     if k == BARRIER {
         return 0;
     }
-    let c = cost(i);
-    if c < window {
-        return window - c;
+    let cost = costs[k];
+    if cost < window {
+        return window - cost;
     }
     0
+}
+
+// The window that an instruction leaves by the table above.
+pub fn lowered(window: u64, i: Instruction) -> u64
+    ensures { λ r. ⌜ ((p : List ℕ) (code : Code) → code .costs ≡ windowCosts → r ≡ remaining code (meaning p i) window) ⌝ }
+{
+    lowered_by(WINDOW_COSTS, window, i)
 }

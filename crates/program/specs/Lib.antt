@@ -1,3 +1,3 @@
 pub mod Checks
-pub mod Offsets
+pub mod Words
 pub mod Programs

@@ -13,7 +13,8 @@ ghost use Rattle.rules.specs.Rules.JobFile.{instr, branchLabelHolds, instructio
 ghost use Rattle.instruction.specs.Meaning.{meaning};
 ghost use Rattle.program.specs.Checks.{checkedOf};
 ghost use Rattle.descriptor.specs.Descriptors.{descriptorIn};
-ghost use Rattle.program.specs.Offsets.{nextOffset, wordsFrom};
+ghost use Rattle.rules.specs.Theorems.Readers.{nextOffset};
+ghost use Rattle.program.specs.Words.{wordsFrom};
 
 // Whether the branch label, if it has one, of the instruction with a label is allowed: at most n, and not the next label.
 fn branch_label_holds(i: Instruction, n: usize, label: usize) -> bool

@@ -8,6 +8,7 @@ pub mod Sizes
 pub mod Alike
 pub mod AlikeSteps
 pub mod Secrecy
+pub mod Readers
 pub mod JobLaws
 pub mod FileBounds
 pub mod CallLaws

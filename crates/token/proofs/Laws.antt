@@ -11,9 +11,10 @@ use borrow.Author.Tests.{le-leb}
 use Rattle.rules.specs.declared.Refusal.{Refusal}
 use Rattle.rules.specs.Rules.Expressions.{Token, Expr, takes, after, held}
 use Rattle.rules.specs.Rules.JobFile.{Read, got, refused, andThen, little, token, tokens, expr}
+use Rattle.rules.specs.Theorems.Readers.{valueOr}
 use Rattle.token.specs.declared.Scan.the-variants as scan
 use Rattle.token.specs.Bytes.{byte-got}
-use Rattle.token.specs.Meaning.{scanOf, valueOr}
+use Rattle.token.specs.Meaning.{scanOf}
 
 -- ---- numbers: one more byte, below those read
 pub little-step : (p : List ℕ) (at at′ d d′ x b : ℕ) → at + 1 ≡ at′ → d′ ≡ d + 1 → x ≡ little p at′ d → b ≡ getD p at 0

@@ -1,13 +1,14 @@
 -- What the answers of this crate's code mean in the rules: a token, the tokens of an expression, and what a reader found.
 -- Assumes nothing.
 use mathlib.Core.Path.{_≡_}
-use mathlib.Core.Bool.{Bool, true, false}
+use mathlib.Core.Bool.{Bool}
 use mathlib.Core.List.{List, []}
 use Prim.Native.Nat.{ℕ}
 use lib.ListN.{getD}
 use Rattle.rules.specs.Rules.Operators.{neg, add}
 use Rattle.rules.specs.Rules.Expressions.{Token, reg, const, op1, op2, Expr, held, sound}
 use Rattle.rules.specs.Rules.JobFile.{Read, got, refused, unary, binary, tokens}
+pub use Rattle.rules.specs.Theorems.Readers.{valueOr}
 use Rattle.token.specs.declared.Token as code
 use Rattle.token.specs.declared.Token.the-variants as token
 use Rattle.token.specs.declared.TokenRead.{TokenRead}
@@ -32,21 +33,6 @@ tokenReadMeaning (token-read.Refused r) = refused r
 abbrev pub scanOf : ℕ → Read Expr → Scan
 scanOf d (got ts q) = scan.Past q (held d ts)
 scanOf d (refused r) = scan.Refused r
-
--- whether something was read
-unfoldable pub readable : {A : Type 0} → Read A → Bool
-readable (got a q) = true
-readable (refused r) = false
-
--- the offset after what was read
-unfoldable pub nextOffset : {A : Type 0} → Read A → ℕ
-nextOffset (got a q) = q
-nextOffset (refused r) = 0
-
--- what was read, or a value in its place
-abbrev pub valueOr : {A : Type 0} → A → Read A → A
-valueOr d (got a q) = a
-valueOr d (refused r) = d
 
 -- the tokens of an expression of the bytes p; none where they cannot be read
 unfoldable pub tokensOf : List ℕ → Expression → Expr

@@ -13,18 +13,8 @@ use Rattle.rules.specs.declared.Refusal.the-variants as refusals
 use Rattle.rules.specs.Rules.Operators.{neg, add}
 use Rattle.rules.specs.Rules.Expressions.{Token, reg, const, op1, op2, Expr}
 use Rattle.rules.specs.Rules.JobFile.{Read, got, refused, andThen, return, refuse, little, wordOf, byte, unary, binary, constant, tokenOf, token, tokens, expr}
+use Rattle.rules.specs.Theorems.Readers.{readable, unread, first-read}
 use Rattle.token.specs.Bytes.{byte-got, byte-past}
-use Rattle.token.specs.Meaning.{readable, nextOffset, valueOr}
-
-unread : false ≡ true → ⊥
-unread h = let z : _≡_ {A = ℕ} 0 1 = cc in omega arith
-
--- two parts, one after the other
-pub first-read : {A B : Type 0} (d : A) (R : Read A) (f : A → ℕ → Read B) → readable (andThen R f) ≡ true
-    → (readable R ≡ true) × (andThen R f ≡ f (valueOr d R) (nextOffset R))
-unfolding readable nextOffset
-first-read d (got a q) f h = (refl, refl)
-first-read d (refused r) f h = absurd (unread h)
 
 pub byte-read : (p : List ℕ) (at : ℕ) → readable (byte p at) ≡ true → at < length p
 unfolding byte readable
@@ -32,7 +22,7 @@ byte-read p at h = go (ltb at (length p)) refl h
   where
     go : (b : Bool) → ltb at (length p) ≡ b → readable (cond b (got (getD p at 0) (at + 1)) (refused refusals.Encoding)) ≡ true → at < length p
     go true e h = ltb-true _ _ e
-    go false e h = absurd (unread h)
+    go false e h = unread h
 
 pub word-read : (k : ℕ) (p : List ℕ) (at : ℕ) → readable (wordOf k p at) ≡ true
     → (at + k ≤ length p) × (wordOf k p at ≡ got (little p at k) (at + k))
@@ -42,7 +32,7 @@ word-read k p at h = go (leb (at + k) (length p)) refl h
     go : (b : Bool) → leb (at + k) (length p) ≡ b → readable (cond b (got (little p at k) (at + k)) (refused refusals.Encoding)) ≡ true
         → (at + k ≤ length p) × (cond b (got (little p at k) (at + k)) (refused refusals.Encoding) ≡ got (little p at k) (at + k))
     go true e h = (leb-true _ _ e, refl)
-    go false e h = absurd (unread h)
+    go false e h = unread h
 
 -- ---- a token: its byte, then what the byte asks for
 pub token-read : (p : List ℕ) (at : ℕ) → readable (token p at) ≡ true → (at < length p) × (token p at ≡ tokenOf (getD p at 0) p (at + 1))
@@ -69,7 +59,7 @@ operator-read p at h l =
     go : (b : Bool) → readable (cond b (return (op2 (getD binary (getD p at 0 - 19) add))) (refuse refusals.Encoding) p (at + 1)) ≡ true
         → cond b (return (op2 (getD binary (getD p at 0 - 19) add))) (refuse refusals.Encoding) p (at + 1) ≡ got (op2 (getD binary (getD p at 0 - 19) add)) (at + 1)
     go true h = refl
-    go false h = absurd (unread h)
+    go false h = unread h
 
 -- ---- when a token can be read: its byte stands before the end, and is known
 module _ (p : List ℕ) (at : ℕ) (l : at < length p) where
@@ -164,4 +154,4 @@ expr-read p at h =
     go : (b : Bool) → readable (cond b (tokens (getD p at 0)) (refuse refusals.Encoding) p (at + 1)) ≡ true
         → cond b (tokens (getD p at 0)) (refuse refusals.Encoding) p (at + 1) ≡ tokens (getD p at 0) p (at + 1)
     go true h = refl
-    go false h = absurd (unread h)
+    go false h = unread h

@@ -7,7 +7,8 @@ ghost use Prim.Native.Nat.{_+_, _*_, _^_, _<_, _≤_};
 ghost use lib.ListN.{length};
 ghost use Rattle.rules.specs.Rules.Expressions.{takes, after};
 ghost use Rattle.rules.specs.Rules.JobFile.{got, little, token, tokens, expr};
-ghost use Rattle.token.specs.Meaning.{tokenMeaning, tokenReadMeaning, scanOf, readable, nextOffset, expressionReadMeaning, ExpressionTested};
+ghost use Rattle.rules.specs.Theorems.Readers.{readable, nextOffset};
+ghost use Rattle.token.specs.Meaning.{tokenMeaning, tokenReadMeaning, scanOf, expressionReadMeaning, ExpressionTested};
 
 fn wide(b: u8) -> u64
     ensures { λ r. ⌜ (r ≡ b) × (r < 256) ⌝ }

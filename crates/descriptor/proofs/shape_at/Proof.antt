@@ -65,8 +65,10 @@ returns-6 c = rw (← c .before .before .byte-at .ensures, c .before .match .key
 
 returns-7 : tie.Need-returns-7
 returns-7 c =
-    let e = c .before .byte-at .ensures in let h = c .match .rest in
-    shape-nothing _ _ (λ k. h .0 .0 .0 .0 .0 .1 (e ∙ k)) (λ k. h .0 .0 .0 .0 .1 (e ∙ k)) (λ k. h .0 .0 .0 .1 (e ∙ k)) (λ k. h .0 .0 .1 (e ∙ k)) (λ k. h .0 .1 (e ∙ k)) (λ k. h .1 (e ∙ k))
+    let e = c .before .byte-at .ensures in
+    let h = c .match .rest in
+    shape-nothing _ _ (λ k. h .0 .0 .0 .0 .0 .1 (e ∙ k)) (λ k. h .0 .0 .0 .0 .1 (e ∙ k)) (λ k. h .0 .0 .0 .1 (e ∙ k))
+    (λ k. h .0 .0 .1 (e ∙ k)) (λ k. h .0 .1 (e ∙ k)) (λ k. h .1 (e ∙ k))
 
 pub shape-at-spec : {M : Type 1} → statement M
 shape-at-spec =

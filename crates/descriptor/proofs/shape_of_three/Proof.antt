@@ -24,15 +24,46 @@ byte-at-requires-3 c κs = search needs
 
 returns-2 : tie.Need-returns-2
 returns-2 c =
-    rw (← c .before .before .before .before .before .byte-at .ensures, le-ltb 15 _ (c .before .before .before .before .if1 .left), ← c .before .before .before .byte-at2 .ensures, lt-ltb _ 16 (c .before .before .if2 .taken), ← c .before .byte-at3 .ensures, lt-ltb _ 19 (c .if3 .taken))
+    let at-third = c .before in
+    let at-if2 = at-third .before in
+    let at-second = at-if2 .before in
+    let at-if1 = at-second .before in
+    rw (
+      ← at-if1 .before .byte-at .ensures,
+      le-ltb 15 _ (at-if1 .if1 .left),
+      ← at-second .byte-at2 .ensures,
+      lt-ltb _ 16 (at-if2 .if2 .taken),
+      ← at-third .byte-at3 .ensures,
+      lt-ltb _ 19 (c .if3 .taken),
+    )
 
 returns-3 : tie.Need-returns-3
 returns-3 c =
-    rw (← c .before .before .before .before .before .byte-at .ensures, le-ltb 15 _ (c .before .before .before .before .if1 .left), ← c .before .before .before .byte-at2 .ensures, lt-ltb _ 16 (c .before .before .if2 .taken), ← c .before .byte-at3 .ensures, le-ltb _ 19 (c .if3 .left))
+    let at-third = c .before in
+    let at-if2 = at-third .before in
+    let at-second = at-if2 .before in
+    let at-if1 = at-second .before in
+    rw (
+      ← at-if1 .before .byte-at .ensures,
+      le-ltb 15 _ (at-if1 .if1 .left),
+      ← at-second .byte-at2 .ensures,
+      lt-ltb _ 16 (at-if2 .if2 .taken),
+      ← at-third .byte-at3 .ensures,
+      le-ltb _ 19 (c .if3 .left),
+    )
 
 returns-4 : tie.Need-returns-4
 returns-4 c =
-    rw (← c .before .before .before .before .byte-at .ensures, le-ltb 15 _ (c .before .before .before .if1 .left), ← c .before .before .byte-at2 .ensures, le-ltb _ 16 (c .before .if2 .left), ne-eqb _ 16 (c .if4 .taken))
+    let at-if2 = c .before in
+    let at-second = at-if2 .before in
+    let at-if1 = at-second .before in
+    rw (
+      ← at-if1 .before .byte-at .ensures,
+      le-ltb 15 _ (at-if1 .if1 .left),
+      ← at-second .byte-at2 .ensures,
+      le-ltb _ 16 (at-if2 .if2 .left),
+      ne-eqb _ 16 (c .if4 .taken),
+    )
 
 add-byte-at-3 : tie.Need-add-byte-at-3
 add-byte-at-3 c = search needs
@@ -42,11 +73,33 @@ byte-at-requires-4 c κs = search needs
 
 returns-5 : tie.Need-returns-5
 returns-5 c =
-    rw (← c .before .before .before .before .before .before .byte-at .ensures, le-ltb 15 _ (c .before .before .before .before .before .if1 .left), ← c .before .before .before .before .byte-at2 .ensures, c .before .before .if4 .left, ← c .before .byte-at4 .ensures, lt-ltb _ 19 (c .if5 .taken))
+    let at-operator = c .before in
+    let at-if4 = at-operator .before in
+    let at-second = at-if4 .before .before in
+    let at-if1 = at-second .before in
+    rw (
+      ← at-if1 .before .byte-at .ensures,
+      le-ltb 15 _ (at-if1 .if1 .left),
+      ← at-second .byte-at2 .ensures,
+      at-if4 .if4 .left,
+      ← at-operator .byte-at4 .ensures,
+      lt-ltb _ 19 (c .if5 .taken),
+    )
 
 returns-6 : tie.Need-returns-6
 returns-6 c =
-    rw (← c .before .before .before .before .before .before .byte-at .ensures, le-ltb 15 _ (c .before .before .before .before .before .if1 .left), ← c .before .before .before .before .byte-at2 .ensures, c .before .before .if4 .left, ← c .before .byte-at4 .ensures, le-ltb _ 19 (c .if5 .left))
+    let at-operator = c .before in
+    let at-if4 = at-operator .before in
+    let at-second = at-if4 .before .before in
+    let at-if1 = at-second .before in
+    rw (
+      ← at-if1 .before .byte-at .ensures,
+      le-ltb 15 _ (at-if1 .if1 .left),
+      ← at-second .byte-at2 .ensures,
+      at-if4 .if4 .left,
+      ← at-operator .byte-at4 .ensures,
+      le-ltb _ 19 (c .if5 .left),
+    )
 
 pub shape-of-three-spec : {M : Type 1} → statement M
 shape-of-three-spec =

@@ -21,6 +21,9 @@ first-at-requires c κs = search needs
 cast-first : tie.Need-cast-first
 cast-first c = search needs
 
+label-at-requires : tie.Need-label-at-requires
+label-at-requires c κs = search needs
+
 mul-result : tie.Need-mul-result
 mul-result c = search needs
 
@@ -33,9 +36,18 @@ mul-result-2 c = search needs
 add-result-2 : tie.Need-add-result-2
 add-result-2 c = search needs
 
+mul-result-3 : tie.Need-mul-result-3
+mul-result-3 c = search needs
+
+add-result-3 : tie.Need-add-result-3
+add-result-3 c = search needs
+
 returns-2 : tie.Need-returns-2
 unfolding wordAt
-returns-2 c = rw (lt-leb offsets _ (c .before .before .if1 .left), ← c .before .shape-at .ensures, ← c .first-at .ensures)
+returns-2 c =
+    let at-first = c .before in
+    let at-shape = at-first .before in
+    rw (lt-leb offsets _ (at-shape .before .if1 .left), ← at-shape .shape-at .ensures, ← at-first .first-at .ensures, ← c .label-at .ensures .0)
 
 pub word-at-spec : {M : Type 1} → statement M
 word-at-spec =
@@ -46,8 +58,11 @@ word-at-spec =
     cast-shape
     first-at-requires
     cast-first
+    label-at-requires
     mul-result
     add-result
     mul-result-2
     add-result-2
+    mul-result-3
+    add-result-3
     returns-2)

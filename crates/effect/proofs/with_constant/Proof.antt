@@ -1,10 +1,8 @@
 -- `effect::with_constant` meets its contract. Assumes nothing.
 use mathlib.Core.Path.{ap, ap₂, _∙_}
-use Prim.Native.Nat.{_+_}
-use lib.ListN.{getD}
-use Rattle.rules.specs.Rules.Expressions.{result2}
-use Rattle.descriptor.specs.Descriptors.{operatorBy}
-use Rattle.work.specs.Words.{taggedAt}
+use native.Mathlib.Omega.{arith}
+use Rattle.descriptor.specs.Shapes.{register-constant-shaped}
+use Rattle.effect.proofs.Laws.{value-with-constant}
 use borrow.Author.Needs.{needs}
 use Rattle.effect.proofs.with_constant.Statement.{statement}
 use Rattle.effect.proofs.with_constant.Tie as tie
@@ -13,31 +11,33 @@ register-requires : tie.Need-register-requires
 register-requires c κs = search needs
 
 load-requires : tie.Need-load-requires
-load-requires c κs = search needs
+load-requires c κs =
+    let start = c .before .before .before in
+    let h = register-constant-shaped (start .pre .1) (start .pre .0) .below in
+    let e = c .register .ensures in
+    let s = start .pre .2 in
+    omega arith
 
-add-constant-at : tie.Need-add-constant-at
-add-constant-at c = search needs
+constant-value-requires : tie.Need-constant-value-requires
+constant-value-requires c κs = let start = c .before .before .before .before in register-constant-shaped (start .pre .1) (start .pre .0) .room
 
-constant-at-requires : tie.Need-constant-at-requires
-constant-at-requires c κs = search needs
-
-add-combine : tie.Need-add-combine
-add-combine c = search needs
-
-shared-slice-read-combine : tie.Need-shared-slice-read-combine
-shared-slice-read-combine c = search needs
-
-sub-combine : tie.Need-sub-combine
-sub-combine c = search needs
+operator-of-requires : tie.Need-operator-of-requires
+operator-of-requires c κs =
+    let start = c .before .before .before .before .before in
+    let h = register-constant-shaped (start .pre .1) (start .pre .0) .operated in
+    (h .room, h .known)
 
 combine-requires : tie.Need-combine-requires
 combine-requires c κs = search needs
 
 returns : tie.Need-returns
 returns c =
-    let a = c .before .before .before .before .before .before .before .args in
-    c .combine .ensures
-    ∙ ap₂ (result2 (operatorBy (getD (a .p .now) (a .at + 13) 0))) (c .before .before .before .load .ensures ∙ ap (taggedAt (a .work .now)) (c .before .before .before .before .register .ensures)) (c .before .before .constant-at .ensures)
+    let at-operator = c .before in
+    let at-y = at-operator .before in
+    let at-x = at-y .before in
+    let start = at-x .before .before .before .before in
+    value-with-constant _ (register-constant-shaped (start .pre .1) (start .pre .0) .tokens) (at-operator .operator-of .ensures)
+    (at-x .before .register .ensures) (at-x .load .ensures) (at-y .constant-value .ensures) (c .combine .ensures)
 
 pub with-constant-spec : {M : Type 1} → statement M
 with-constant-spec =
@@ -45,10 +45,7 @@ with-constant-spec =
     (tie.spec
     register-requires
     load-requires
-    add-constant-at
-    constant-at-requires
-    add-combine
-    shared-slice-read-combine
-    sub-combine
+    constant-value-requires
+    operator-of-requires
     combine-requires
     returns)

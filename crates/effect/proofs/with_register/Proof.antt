@@ -1,10 +1,7 @@
 -- `effect::with_register` meets its contract. Assumes nothing.
-use mathlib.Core.Path.{ap, ap₂, _∙_}
-use Prim.Native.Nat.{_+_}
-use lib.ListN.{getD}
-use Rattle.rules.specs.Rules.Expressions.{result2}
-use Rattle.descriptor.specs.Descriptors.{operatorBy}
-use Rattle.work.specs.Words.{taggedAt}
+use native.Mathlib.Omega.{arith}
+use Rattle.descriptor.specs.Shapes.{register-register-shaped}
+use Rattle.effect.proofs.Laws.{value-with-register}
 use borrow.Author.Needs.{needs}
 use Rattle.effect.proofs.with_register.Statement.{statement}
 use Rattle.effect.proofs.with_register.Tie as tie
@@ -13,38 +10,47 @@ register-requires : tie.Need-register-requires
 register-requires c κs = search needs
 
 load-requires : tie.Need-load-requires
-load-requires c κs = search needs
+load-requires c κs =
+    let start = c .before .before .before in
+    let h = register-register-shaped (start .pre .1) (start .pre .0) .below in
+    let e = c .register .ensures in
+    let s = start .pre .2 in
+    omega arith
 
-add-register : tie.Need-add-register
-add-register c = search needs
-
-shared-slice-read-register : tie.Need-shared-slice-read-register
-shared-slice-read-register c = search needs
+second-of-requires : tie.Need-second-of-requires
+second-of-requires c κs = let start = c .before .before .before .before in register-register-shaped (start .pre .1) (start .pre .0) .room
 
 register-requires-2 : tie.Need-register-requires-2
 register-requires-2 c κs = search needs
 
 load-requires-2 : tie.Need-load-requires-2
-load-requires-2 c κs = search needs
+load-requires-2 c κs =
+    let start = c .before .before .before .before .before .before in
+    let h = register-register-shaped (start .pre .1) (start .pre .0) .second in
+    let e = c .register2 .ensures in
+    let f = c .before .second-of .ensures in
+    let s = start .pre .2 in
+    omega arith
 
-add-combine : tie.Need-add-combine
-add-combine c = search needs
-
-shared-slice-read-combine : tie.Need-shared-slice-read-combine
-shared-slice-read-combine c = search needs
-
-sub-combine : tie.Need-sub-combine
-sub-combine c = search needs
+operator-of-requires : tie.Need-operator-of-requires
+operator-of-requires c κs =
+    let start = c .before .before .before .before .before .before .before in
+    let h = register-register-shaped (start .pre .1) (start .pre .0) .operated in
+    (h .room, h .known)
 
 combine-requires : tie.Need-combine-requires
 combine-requires c κs = search needs
 
 returns : tie.Need-returns
 returns c =
-    let a = c .before .before .before .before .before .before .before .before .before .args in
-    c .combine .ensures
-    ∙ ap₂ (result2 (operatorBy (getD (a .p .now) (a .at + 5) 0))) (c .before .before .before .before .before .load .ensures ∙ ap (taggedAt (a .work .now)) (c .before .before .before .before .before .before .register .ensures))
-    (c .before .before .load2 .ensures ∙ ap (taggedAt (a .work .now)) (c .before .before .before .register2 .ensures))
+    let at-operator = c .before in
+    let at-y = at-operator .before in
+    let at-second = at-y .before .before in
+    let at-x = at-second .before in
+    let start = at-x .before .before .before .before in
+    value-with-register _ (register-register-shaped (start .pre .1) (start .pre .0) .tokens) (at-operator .operator-of .ensures)
+    (at-x .before .register .ensures) (at-x .load .ensures) (at-second .second-of .ensures) (at-y .before .register2 .ensures)
+    (at-y .load2 .ensures) (c .combine .ensures)
 
 pub with-register-spec : {M : Type 1} → statement M
 with-register-spec =
@@ -52,12 +58,9 @@ with-register-spec =
     (tie.spec
     register-requires
     load-requires
-    add-register
-    shared-slice-read-register
+    second-of-requires
     register-requires-2
     load-requires-2
-    add-combine
-    shared-slice-read-combine
-    sub-combine
+    operator-of-requires
     combine-requires
     returns)

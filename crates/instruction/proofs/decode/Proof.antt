@@ -1,6 +1,7 @@
 -- `instruction::decode` meets its contract, by the kind byte. Assumes nothing.
 use mathlib.Core.Path.{refl, sym, _∙_}
-use Rattle.instruction.proofs.Laws.{beyond, instr-kind, instr-unknown}
+use Rattle.instruction.specs.Fields.{instr-kind, instr-unknown}
+use Rattle.instruction.proofs.Laws.{beyond}
 use Rattle.rules.specs.Rules.JobFile.{instr, fields}
 use Rattle.token.specs.Bytes.{byte-past}
 use borrow.Author.Needs.{needs}

@@ -1,5 +1,5 @@
 -- `program::next_offset` meets its contract, by the two answers of the decoder. Assumes nothing.
-use Rattle.program.specs.Offsets.{nextOffset}
+use Rattle.rules.specs.Theorems.Readers.{nextOffset}
 use borrow.Author.Needs.{needs}
 use Rattle.program.proofs.next_offset.Statement.{statement}
 use Rattle.program.proofs.next_offset.Tie as tie

@@ -6,7 +6,7 @@ use native.Mathlib.Nat.{sub-zero, add-zero}
 use native.Mathlib.Omega.{arith}
 use lib.ListN.{length, length-set}
 use lib.Seq.{sets}
-use Rattle.program.specs.Offsets.{wordsFrom}
+use Rattle.program.specs.Words.{wordsFrom}
 use Rattle.program.proofs.write_words.Statement.{statement}
 use Rattle.program.proofs.write_words.Tie as tie
 

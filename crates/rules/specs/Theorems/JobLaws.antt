@@ -21,12 +21,10 @@ use Rattle.rules.specs.Rules.Runs.{Job}
 use Rattle.rules.specs.Rules.JobFile.{little, Read, got, refused, andThen, instruction, nothingLeft, program, trailerAt, trailer, sized, limits, offsets, wordsAt, stateOf, publicOf, listed, Parsed, accepted, rejected, jobOf, programOf, finish, parse}
 use Rattle.rules.specs.Rules.Pairs.{withState}
 use Rattle.rules.specs.Rules.Demands.{SameButState}
+use Rattle.rules.specs.Theorems.Readers.{refused-got}
 
 rejected-accepted : {P : Type 0} {r : Refusal} {job : Job} → rejected r ≡ accepted job → P
 rejected-accepted {P} {r} {job} e = absurd (let z : _≡_ {A = ℕ} 0 1 = cc in omega arith)
-
-refused-got : {P A : Type 0} {r : Refusal} {x : A} {q : ℕ} → refused r ≡ got x q → P
-refused-got {P} {A} {r} {x} {q} e = absurd (let z : _≡_ {A = ℕ} 0 1 = cc in omega arith)
 
 -- ---- what an accepted file has passed, in the order of the refusals: 1, 2, 3, then 4 to 7, then 8
 pub record Passed (bs : List ℕ) (job : Job) : Type 0 where

@@ -1,7 +1,7 @@
 -- `token::expression_end` meets its contract: the scan gives the offset after the tokens. Assumes nothing.
 use mathlib.Core.Path.{sym, _∙_}
 use Rattle.rules.specs.Rules.JobFile.{tokens}
-use Rattle.token.specs.Meaning.{nextOffset}
+use Rattle.rules.specs.Theorems.Readers.{nextOffset}
 use Rattle.token.proofs.Laws.{scan-got, scan-refused}
 use borrow.Author.Needs.{needs}
 use Rattle.token.proofs.expression_end.Statement.{statement}

@@ -1,11 +1,11 @@
--- `instruction::with_register_at` meets its contract: the register and the expression stand where the rules read them. Assumes nothing.
+-- `descriptor::with_register_at` meets its contract: the register and the expression stand where the rules read them. Assumes nothing.
 use mathlib.Core.Path.{sym, _∙_}
 use Rattle.token.specs.Meaning.{tokensOf}
 use Rattle.instruction.specs.Meaning.{withRegisterOf}
-use Rattle.instruction.proofs.Laws.{with-parts}
+use Rattle.instruction.specs.Fields.{with-parts}
 use borrow.Author.Needs.{needs}
-use Rattle.instruction.proofs.with_register_at.Statement.{statement}
-use Rattle.instruction.proofs.with_register_at.Tie as tie
+use Rattle.descriptor.proofs.with_register_at.Statement.{statement}
+use Rattle.descriptor.proofs.with_register_at.Tie as tie
 
 shared-slice-read-r : tie.Need-shared-slice-read-r
 shared-slice-read-r c = let s = c .before .before in let a = s .args in with-parts (withRegisterOf (a .kind)) (a .p .now) (a .at) (s .pre) .room
@@ -26,9 +26,10 @@ with-register-requires c κs = search needs
 returns : tie.Need-returns
 unfolding tokensOf
 returns c =
-    let s = c .before .before .before .before in
-    let a = s .args in
-    c .with-register .ensures (a .p .now) ∙ rw (c .before .expression-at .ensures) (sym (with-parts (withRegisterOf (a .kind)) (a .p .now) (a .at) (s .pre) .value))
+    let start = c .before .before .before .before in
+    let a = start .args in
+    let parts = with-parts (withRegisterOf (a .kind)) (a .p .now) (a .at) (start .pre) in
+    c .with-register .ensures (a .p .now) ∙ rw (c .before .expression-at .ensures) (sym (parts .value))
 
 pub with-register-at-spec : {M : Type 1} → statement M
 with-register-at-spec =

@@ -1,10 +1,10 @@
--- `instruction::conditional_at` meets its contract: the fields stand where the rules read them. Assumes nothing.
+-- `descriptor::conditional_at` meets its contract: the fields stand where the rules read them. Assumes nothing.
 use mathlib.Core.Path.{sym}
 use Rattle.token.specs.Meaning.{tokensOf}
-use Rattle.instruction.proofs.Laws.{conditional-parts}
+use Rattle.instruction.specs.Fields.{conditional-parts}
 use borrow.Author.Needs.{needs}
-use Rattle.instruction.proofs.conditional_at.Statement.{statement}
-use Rattle.instruction.proofs.conditional_at.Tie as tie
+use Rattle.descriptor.proofs.conditional_at.Statement.{statement}
+use Rattle.descriptor.proofs.conditional_at.Tie as tie
 
 shared-slice-read-r : tie.Need-shared-slice-read-r
 shared-slice-read-r c = let s = c .before .before in let a = s .args in conditional-parts (a .p .now) (a .at) (s .pre) .room

@@ -1,9 +1,9 @@
--- `instruction::jump_at` meets its contract: the expression stands where the rules read it. Assumes nothing.
+-- `descriptor::jump_at` meets its contract: the expression stands where the rules read it. Assumes nothing.
 use mathlib.Core.Path.{sym}
 use Rattle.token.specs.Meaning.{tokensOf}
-use Rattle.instruction.proofs.Laws.{jump-parts}
-use Rattle.instruction.proofs.jump_at.Statement.{statement}
-use Rattle.instruction.proofs.jump_at.Tie as tie
+use Rattle.instruction.specs.Fields.{jump-parts}
+use Rattle.descriptor.proofs.jump_at.Statement.{statement}
+use Rattle.descriptor.proofs.jump_at.Tie as tie
 
 expression-at-requires : tie.Need-expression-at-requires
 expression-at-requires c κs = let s = c .before in let a = s .args in jump-parts (a .p .now) (a .at) (s .pre) .0

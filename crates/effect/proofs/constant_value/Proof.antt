@@ -1,0 +1,21 @@
+-- `effect::constant_value` meets its contract. Assumes nothing.
+use mathlib.Core.Path.{ap₂}
+use Prim.Native.Nat.{ℕ}
+use Rattle.location.specs.declared.LocationSet.{LocationSet}
+use Rattle.rules.specs.declared.Tagged.{Tagged}
+use Rattle.rules.specs.Rules.Expressions.{tagged}
+use borrow.Author.Needs.{needs}
+use Rattle.effect.proofs.constant_value.Statement.{statement}
+use Rattle.effect.proofs.constant_value.Tie as tie
+
+constant-of-requires : tie.Need-constant-of-requires
+constant-of-requires c κs = search needs
+
+empty-requires : tie.Need-empty-requires
+empty-requires c κs = search needs
+
+returns : tie.Need-returns
+returns c = ap₂ {C = Tagged} (λ (n : ℕ) (s : LocationSet). tagged n s) (c .before .constant-of .ensures) (c .empty .ensures)
+
+pub constant-value-spec : {M : Type 1} → statement M
+constant-value-spec = tie.close (tie.spec constant-of-requires empty-requires returns)

@@ -1,0 +1,39 @@
+-- `instruction::lowered_by` meets its contract: a barrier leaves 0, another kind takes its entry. Assumes nothing.
+use mathlib.Core.Path.{refl, sym, _∙_}
+use native.Mathlib.Nat.{sub-eq-zero-of-le}
+use Rattle.instruction.proofs.Laws.{remaining-barrier, remaining-other}
+use borrow.Author.Needs.{needs}
+use Rattle.instruction.proofs.lowered_by.Statement.{statement}
+use Rattle.instruction.proofs.lowered_by.Tie as tie
+
+kind-requires : tie.Need-kind-requires
+kind-requires c κs = search needs
+
+returns : tie.Need-returns
+returns c = λ p code h. remaining-barrier code _ _ _ (c .before .kind .ensures .1 p) (c .if1 .taken)
+
+mul-cost : tie.Need-mul-cost
+mul-cost c = search needs
+
+array-read-cost : tie.Need-array-read-cost
+array-read-cost c = search needs
+
+sub-result : tie.Need-sub-result
+sub-result c = search needs
+
+returns-2 : tie.Need-returns-2
+returns-2 c =
+    let at-if1 = c .before in
+    λ p code h. remaining-other code _ _ _ _ _ h (at-if1 .before .kind .ensures .1 p) (at-if1 .if1 .left) refl
+
+returns-3 : tie.Need-returns-3
+returns-3 c =
+    let at-if1 = c .before in
+    λ p code h.
+    sym (sub-eq-zero-of-le (c .if2 .left))
+    ∙ remaining-other code _ _ _ _ _ h (at-if1 .before .kind .ensures .1 p) (at-if1 .if1 .left) refl
+
+pub lowered-by-spec : {M : Type 1} → statement M
+lowered-by-spec =
+    tie.close
+    (tie.spec kind-requires returns mul-cost array-read-cost sub-result returns-2 returns-3)
