@@ -367,16 +367,20 @@ module _ (p : List ℕ) (t : Trailer) where
         let e : ended s M log ≡ R = sym halts ∙ g .rest in
         let same : g .observed ≡ R .log .trace = ap (λ (z : Result). z .log .trace) e in
         record {
-          counts = λ i. record {
-            stop = e i .stop;
-            observations = (sym (g .count) ∙ ap length same) i;
-            steps = e i .log .steps;
-            rollbacks = e i .log .rollbacks;
+          ends = record {
+            reports = record {
+              counts = λ i. record {
+                stop = e i .stop;
+                observations = (sym (g .count) ∙ ap length same) i;
+                steps = e i .log .steps;
+                rollbacks = e i .log .rollbacks;
+              };
+              full = ap (λ (z : Result). z .log .full) e;
+              plain = ap (λ (z : Result). z .log .plain) e;
+            };
+            trace = rw same at (g .trace);
+            state = ap (λ (z : Result). z .last .state) e;
           };
-          full = ap (λ (z : Result). z .log .full) e;
-          plain = ap (λ (z : Result). z .log .plain) e;
-          trace = rw same at (g .trace);
-          state = ap (λ (z : Result). z .last .state) e;
           frame = g .frame;
           size = same-size (x .work) w₀ (g .frame) (r .steady .fits .room);
         }

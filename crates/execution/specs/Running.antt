@@ -153,12 +153,20 @@ reportOf s c = record {
   plain = c .plain;
 }
 
--- The run R as it has ended: what is reported, and what is left in the areas.
-pub record RanTo (t : Trailer) (w₀ a₀ w area : List ℕ) (r : Ran) (R : Result) : Type 0 where
+-- the report is that of the run R
+pub record Reports (r : Ran) (R : Result) : Type 0 where
   pub counts : r .counts ≡ counts R
   pub full : r .full ≡ R .log .full
   pub plain : r .plain ≡ R .log .plain
+
+-- The run R has ended in the words w and the area, which was a₀: what is reported, the trace, and the last state.
+pub record EndsAs (t : Trailer) (a₀ w area : List ℕ) (r : Ran) (R : Result) : Type 0 where
+  pub reports : Reports r R
   pub trace : area ≡ written (traceWords (R .log .trace)) a₀
   pub state : stateIn w (locations t) ≡ R .last .state
+
+-- and the words from the table of labels on are as they were
+pub record RanTo (t : Trailer) (w₀ a₀ w area : List ℕ) (r : Ran) (R : Result) : Type 0 where
+  pub ends : EndsAs t a₀ w area r R
   pub frame : drop labels w ≡ drop labels w₀
   pub size : length w ≡ length w₀

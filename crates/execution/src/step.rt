@@ -7,6 +7,8 @@ use location::Label;
 use rules::Tagged;
 use rules::Trailer;
 use stepping::Progress;
+ghost use mathlib.Core.List.{List};
+ghost use Prim.Native.Nat.{ℕ};
 ghost use Rattle.rules.specs.Rules.JobFile.{locations};
 ghost use Rattle.descriptor.specs.Descriptors.{instructionIn, Valid};
 ghost use Rattle.stepping.specs.Progress.{standing};
@@ -61,19 +63,15 @@ pub enum Opening {
 }
 
 // What the instruction of a descriptor opens in one of the two runs: a branch, in the mispredicting one.
-fn opening_of(p: &[u8], mode: Mode, d: Descriptor) -> Opening
-    requires { ⌜ Valid (now p) d ⌝ }
-    ensures { λ x. ⌜ Opens mode (instructionIn (now (p .entry)) d) x ⌝ }
+fn opening_of(mode: Mode, d: Descriptor) -> Opening
+    ensures { λ x. ⌜ ((p : List ℕ) → Valid p d → Opens mode (instructionIn p d) x) ⌝ }
 {
     if d.shape != descriptor::BRANCH {
         return Opening::Nothing;
     }
     match mode {
         Mode::Plain => Opening::Nothing,
-        Mode::Mispredicting => {
-            let l = Label::new(token::number(p, d.at + 2, 2) as usize);
-            Opening::Branch(d.first, l)
-        }
+        Mode::Mispredicting => Opening::Branch(d.first, Label::new(d.label)),
     }
 }
 
@@ -94,7 +92,7 @@ fn advance(
     let label = Label::new(control.place);
     let d = program::fetch(&work[..], work::LABELS, label);
     let a = effect::source_value(p, &work[..], d);
-    match opening_of(p, mode, d) {
+    match opening_of(mode, d) {
         Opening::Branch(r, l) => {
             stepping::open_branch(&mut work[..], &mut trace[..], c, r, l, a, t.window)
         }

@@ -12,12 +12,18 @@ use Rattle.rules.specs.declared.Refusal.the-variants as refusals
 use Rattle.rules.specs.Rules.Expressions.{Expr}
 use Rattle.rules.specs.Rules.Instructions.{Instr, skip, assign, load, store, jmp, beqz, cassign, spbarr}
 use Rattle.rules.specs.Rules.JobFile.{Read, got, refused, andThen, refuse, byte, register, wordOf, expr, withRegister, jump, branch, conditional, fields, instr}
-<<<<<<<< HEAD:crates/effect/specs/Registers.antt
-use Rattle.instruction.specs.Registers.{RegistersBelow}
-use Rattle.expression.specs.Registers.{Holds, then, always}
-========
 use Rattle.rules.specs.Theorems.Readers.{valueOr, Holds, then, always, holds-value}
->>>>>>>> h3:crates/instruction/specs/Registers.antt
+
+-- the register that an instruction names, beside those of its expressions
+abbrev pub RegistersBelow : ℕ → Instr → Type 0
+RegistersBelow n skip = Unit
+RegistersBelow n (assign r e) = r < n
+RegistersBelow n (load r e) = r < n
+RegistersBelow n (store r e) = r < n
+RegistersBelow n (jmp e) = Unit
+RegistersBelow n (beqz r l) = r < n
+RegistersBelow n (cassign r c e) = r < n
+RegistersBelow n spbarr = Unit
 
 abbrev Below : Instr → Type 0
 Below = RegistersBelow registers

@@ -1,40 +1,137 @@
--- How the run of a job in lent areas comes from the run of a state.
+-- How the run of a state is put together, and how the run of a job in lent areas comes from it.
 -- Assumes nothing.
-use mathlib.Core.Path.{_≡_}
-use mathlib.Core.List.{List}
-use Prim.Native.Nat.{ℕ, _-_}
+use mathlib.Core.Path.{_≡_, refl, sym, ap, _∙_, subst}
+use mathlib.Core.Bool.{true}
+use mathlib.Core.List.{List, [], _∷_, _++_}
+use Prim.Native.Nat.{ℕ, suc, _+_, _-_, _≤_}
 use native.Mathlib.Omega.{arith}
-use lib.ListN.{take, drop, replicate}
-use Rattle.rules.specs.declared.Stop.{Stop}
+use lib.Dec.{leb}
+use lib.ListN.{length, take, drop, set, replicate, length-take, length-replicate}
+use lib.Seq.{sets, length-sets, take-set-le}
+use borrow.Author.Tests.{leb-true}
+use Rattle.location.specs.Sets.{limit}
+use Rattle.location.specs.SetLaws.{and-right}
 use Rattle.rules.specs.declared.Trailer.{Trailer}
-use Rattle.rules.specs.Rules.Plain.{values}
-use Rattle.rules.specs.Rules.Runs.{Job}
-use Rattle.rules.specs.Rules.JobFile.{accepted, parse, locations}
-use Rattle.rules.specs.Rules.Calls.{lent, written, workingWords, room}
+use Rattle.rules.specs.Rules.Limits.{maxBytes, trailerSize}
+use Rattle.rules.specs.Rules.Plain.{State, ownFrom, values}
+use Rattle.rules.specs.Rules.Runs.{Job, Result}
+use Rattle.rules.specs.Rules.JobFile.{got, accepted, parse, trailer, sized, locations, wordsAt, program, programOf}
+use Rattle.rules.specs.Rules.Calls.{lent, written, workingWords, room, areasAfter}
+use Rattle.rules.specs.Rules.Pairs.{withState}
+use Rattle.rules.specs.Theorems.JobLaws.{passed, Passed, limits-hold}
+use Rattle.descriptor.specs.Descriptors.{offsets}
+use Rattle.program.specs.Words.{wordsFrom, length-words}
+use Rattle.program.specs.Programs.{programIn, Describes, table-written}
 use Rattle.job.specs.Answers.{Accepts}
+use Rattle.work.specs.Layout.{labels, labelBase}
 use Rattle.work.specs.Machines.{stateIn}
-use Rattle.stepping.specs.declared.Progress.{Progress}
+use Rattle.work.proofs.Ranges.{drop-past, drop-sets}
+use Rattle.transfer.specs.States.{state-same}
+use Rattle.transfer.specs.Loads.{StateLoaded, state-loaded-after}
 use Rattle.execution.specs.declared.Mode.{Mode}
-use Rattle.execution.specs.Turns.{RanTo}
-use Rattle.job_run.specs.Accepted.{accepted-state}
+use Rattle.execution.specs.declared.Mode.the-variants as modes
+use Rattle.execution.specs.declared.Ran.{Ran}
+use Rattle.execution.specs.Running.{Loaded, EndsAs, RanTo}
+use Rattle.execution.specs.Starts.{whole, whole-mispredicting, whole-plain}
+use Rattle.job_run.specs.Accepted.{accepted-limits, accepted-state}
 use Rattle.job_run.specs.JobRuns.{resultOf, RunOf, RunIn}
-use Rattle.job_run.specs.Reports.{areas-same}
 
 -- the part of a list that the code takes from 0 on
 pub same-part : (n : ℕ) (xs : List ℕ) → take (n - 0) (drop 0 xs) ≡ take n xs
 same-part n xs = let z : n - 0 ≡ n = omega arith in rw z
 
-module _ {bs : List ℕ} {t : Trailer} (k : Accepts bs t) (mode : Mode) {w w′ a a′ : List ℕ} {x : Stop} {c : Progress} where
-  -- the run with the job's own state
-  pub own-run : (o : RunOf bs t mode bs (t .state) w w′ a a′ x c) (job : Job) → parse bs ≡ accepted job
-      → RanTo t (o .words) a w′ a′ x c (resultOf mode job (room a))
+-- cleared words keep only those past them
+pub cleared-same : (n : ℕ) (w before : List ℕ) → drop n w ≡ drop n before → written (replicate n 0) w ≡ written (replicate n 0) before
+unfolding written
+cleared-same n w before f =
+    ap (λ (d : List ℕ). replicate n 0 ++ d)
+    (ap (λ (k : ℕ). drop k w) (length-replicate {A = ℕ} n 0) ∙ f ∙ sym (ap (λ (k : ℕ). drop k before) (length-replicate {A = ℕ} n 0)))
+
+-- ---- the words of the labels, written into the words w
+sized-most : (bs : List ℕ) → sized (length bs) ≡ true → length bs ≤ maxBytes
+unfolding sized
+sized-most bs h = leb-true (length bs) maxBytes (and-right (leb trailerSize (length bs)) (leb (length bs) maxBytes) h)
+
+take-sets : (vs w : List ℕ) (i n : ℕ) → n ≤ i → take n (sets w i vs) ≡ take n w
+take-sets [] w i n h = refl
+take-sets (a ∷ vs) w i n h = take-sets vs (set w i a) (suc i) n (omega arith) ∙ take-set-le n w i a h
+
+module _ {bs : List ℕ} {t : Trailer} (k : Accepts bs t) {p w w′ : List ℕ} (ep : p ≡ take (t .state) bs) (fits : labelBase (t .count) ≤ length w)
+    (ew : w′ ≡ sets w labels (wordsFrom (t .count) p 0)) where
+  -- they describe the job's program
+  described : (job : Job) → parse bs ≡ accepted job
+      → (programIn p (t .count) (drop labels w′) ≡ job .code .prog) × Describes p (t .count) (drop labels w′)
+  unfolding programOf
+  described job e =
+      let q = passed bs job e in
+      let s = sized-most bs (q .sized) in
+      let l = length-take (t .state) bs in
+      let read : program (t .count) (t .count) 0 (take (t .state) bs) 0 ≡ got (job .code .prog) (q .next) = rw (k .trailer) (q .read) in
+      rw (ew, ep) (table-written (t .count) (take (t .state) bs) read (omega arith) w labels fits)
+
+  pub job-loaded : Loaded p t w′
+  job-loaded = record { limits = accepted-limits k; described = described (k .job) (k .parsed) .1 }
+
+  -- the operands stand before them
+  state-kept : (n : ℕ) → n ≤ limit → stateIn w′ n ≡ stateIn w n
+  state-kept n h = state-same w′ w labels n (omega arith) (ap (take labels) ew ∙ take-sets (wordsFrom (t .count) p 0) w labels labels (omega arith))
+
+  past-kept : drop workingWords w′ ≡ drop workingWords w
+  past-kept =
+      let m = accepted-limits k .count-most in
+      let s = length-words (t .count) p 0 in
+      ap (drop workingWords) ew ∙ drop-sets (wordsFrom (t .count) p 0) w labels workingWords (omega arith)
+
+  size-kept : length w′ ≡ length w
+  size-kept = ap length ew ∙ length-sets w labels (wordsFrom (t .count) p 0)
+
+  -- the whole run from there is the rules' run of the job with the state that was loaded
+  module _ (job : Job) (e : parse bs ≡ accepted job) (a vs : List ℕ) (h : stateIn w (locations t) ≡ ownFrom 0 vs) where
+    same-result : (mode : Mode) → whole p t mode w′ a ≡ resultOf mode (withState job vs) (room a)
+    same-result mode = rw (k .trailer) (go mode)
+      where
+        holds : stateIn w′ (locations (trailer bs)) ≡ ownFrom 0 vs
+        holds = rw (k .trailer) at (state-kept (locations t) (let m = accepted-limits k .cells in omega arith) ∙ h)
+
+        table : programIn p (trailer bs .count) (drop labels w′) ≡ job .code .prog
+        table = rw (k .trailer) at (described job e .0)
+
+        go : (mode : Mode) → whole p (trailer bs) mode w′ a ≡ resultOf mode (withState job vs) (room a)
+        go modes.Plain = whole-plain (passed bs job e) p w′ a vs table holds
+        go modes.Mispredicting = whole-mispredicting (passed bs job e) p w′ a vs table holds
+
+-- ---- the run of a state
+pub run-of : {bs p : List ℕ} {t : Trailer} {mode : Mode} {states : List ℕ} {at : ℕ} {w w₁ w₂ w′ a a′ : List ℕ} {r : Ran} (k : Accepts bs t)
+    → p ≡ take (t .state) bs → labelBase (t .count) ≤ length w₁ → StateLoaded states at (locations t) w w₁
+    → w₂ ≡ sets w₁ labels (wordsFrom (t .count) p 0) → RanTo t w₂ a w′ a′ r (whole p t mode w₂ a) → RunOf bs t mode states at w w′ a a′ r
+run-of {t = t} {mode} {states} {at} {w₁ = w₁} {w₂} {w′} {a} {a′} {r} k ep h s ew o = record {
+  ran = λ job e.
+      subst (EndsAs t a w′ a′ r) (same-result k ep h ew job e a (wordsAt (locations t) states at) (s .state) mode) (o .ends);
+  past =
+      let m = accepted-limits k .cells in
+      drop-past w′ w₂ labels workingWords (omega arith) (o .frame)
+      ∙ past-kept k ep h ew
+      ∙ state-loaded-after s workingWords (omega arith);
+  size = o .size ∙ size-kept k ep h ew ∙ s .size;
+}
+
+-- ---- the run of a job
+module _ {bs : List ℕ} {t : Trailer} (k : Accepts bs t) (mode : Mode) {w w′ a a′ : List ℕ} {r : Ran} where
+  -- with the job's own state
+  pub own-run : RunOf bs t mode bs (t .state) w w′ a a′ r → (job : Job) → parse bs ≡ accepted job
+      → EndsAs t a w′ a′ r (resultOf mode job (room a))
   own-run o job p = rw (accepted-state (record { job = job; parsed = p; trailer = k .trailer })) at (o .ran job p)
 
-  pub run-in : {e e′ w″ : List ℕ} → RunOf bs t mode bs (t .state) w w′ a a′ x c → e′ ≡ written (values (stateIn w′ (locations t))) e
-      → w″ ≡ written (replicate workingWords 0) w′ → RunIn bs t mode (lent a e w) (lent a′ e′ w″) x c
-  run-in {e} o ee ew = record {
-    words = o .words;
-    final = w′;
-    ran = own-run o;
-    areas = λ job p. rw (ee, ew) (areas-same (own-run o job p) w e (o .past));
-  }
+  pub run-in : {e e′ w″ : List ℕ} → RunOf bs t mode bs (t .state) w w′ a a′ r → e′ ≡ written (values (stateIn w′ (locations t))) e
+      → w″ ≡ written (replicate workingWords 0) w′ → RunIn bs t mode (lent a e w) (lent a′ e′ w″) r
+  run-in {e} {e′} {w″} o ee ew = record { reports = λ job p. own-run o job p .reports; areas = left }
+    where
+      left : (job : Job) → parse bs ≡ accepted job → lent a′ e′ w″ ≡ areasAfter (resultOf mode job (room a)) (lent a e w)
+      unfolding areasAfter
+      left job p =
+          let x = own-run o job p in
+          λ i. record {
+            trace = x .trace i;
+            end = (ee ∙ ap (λ (σ : State). written (values σ) e) (x .state)) i;
+            work = (ew ∙ cleared-same workingWords w′ w (o .past)) i;
+          }

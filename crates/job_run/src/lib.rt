@@ -1,16 +1,14 @@
 // One run of an accepted job over lent areas: the plain or the mispredicting one, from the job's own state or from another.
 use execution::Mode;
 use execution::Ran;
-use rules::Counts;
 use rules::Trailer;
 ghost use mathlib.Core.Path.{_≡_};
 ghost use mathlib.Core.Bool.{_&&_};
-ghost use Prim.Native.Nat.{_≤_};
 ghost use lib.Dec.{leb};
 ghost use lib.ListN.{length};
 ghost use Rattle.rules.specs.Rules.Calls.{workingWords};
 ghost use Rattle.rules.specs.Rules.Promises.{areasAtEntry, areasAtExit};
-ghost use Rattle.job_run.specs.JobRuns.{countsOf, Runnable, RunOf, AreasFit, RunIn};
+ghost use Rattle.job_run.specs.JobRuns.{Runnable, RunOf, AreasFit, RunIn};
 
 // The run with the state that stands at an offset of some bytes.
 pub fn run_state(
@@ -23,13 +21,13 @@ pub fn run_state(
     trace: &mut [u64],
 ) -> Ran
     requires { ⌜ Runnable (now job) t (now states) at (now work) ⌝ }
-    ensures { λ r. ⌜ RunOf (now (job .entry)) t mode (now (states .entry)) at (now (work .entry)) (now (work .exit)) (now (trace .entry)) (now (trace .exit)) (r .stop) (r .progress) ⌝ }
+    ensures { λ r. ⌜ RunOf (now (job .entry)) t mode (now (states .entry)) at (now (work .entry)) (now (work .exit)) (now (trace .entry)) (now (trace .exit)) r ⌝ }
 {
     let n = t.locations();
     transfer::load_state(states, at, n, &mut work[..]);
     let s = t.state;
     let p = &job[0..s];
-    transfer::load_labels(p, t.count, &mut work[..]);
+    program::write_words(p, t.count, &mut work[..], work::LABELS);
     execution::run(p, t, mode, &mut work[..], &mut trace[..])
 }
 
@@ -53,27 +51,11 @@ pub fn run_in_areas(
     work: &mut [u64],
 ) -> Ran
     requires { ⌜ AreasFit (now job) t (now end) (now work) ⌝ }
-    ensures { λ r. ⌜ RunIn (now (job .entry)) t mode (areasAtEntry trace end work) (areasAtExit trace end work) (r .stop) (r .progress) ⌝ }
+    ensures { λ r. ⌜ RunIn (now (job .entry)) t mode (areasAtEntry trace end work) (areasAtExit trace end work) r ⌝ }
 {
     let r = run_state(job, t, mode, job, t.state, &mut work[..], &mut trace[..]);
     let n = t.locations();
     transfer::save_values(&work[..], n, &mut end[..]);
     work::clear(&mut work[..]);
     r
-}
-
-// What a run counts. Every branch that was opened is open or rolled back.
-pub fn counts_of(r: Ran) -> Counts
-    requires { ⌜ r .progress .control .depth ≤ r .progress .control .opened ⌝ }
-    ensures { λ x. ⌜ x ≡ countsOf (r .stop) (r .progress) ⌝ }
-{
-    let stop = r.stop;
-    let c = r.progress;
-    let control = c.control;
-    Counts {
-        stop,
-        observations: c.observations,
-        steps: c.steps,
-        rollbacks: control.opened - control.depth,
-    }
 }

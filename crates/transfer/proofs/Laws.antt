@@ -8,8 +8,8 @@ use native.Mathlib.Nat.{zero-add}
 use native.Mathlib.Numerals.{add-one}
 use native.Mathlib.Omega.{arith}
 use lib.Dec.{eqb}
-use lib.ListN.{length, getD, take, drop, set, replicate, length-set, length-replicate}
-use lib.Seq.{sets, length-sets, sets-eq, take-set-le}
+use lib.ListN.{length, drop, set, replicate, length-set, length-replicate}
+use lib.Seq.{sets, length-sets, sets-eq}
 use Rattle.location.specs.declared.LocationSet.{LocationSet}
 use Rattle.location.specs.Sets.{none, only, single, member}
 use Rattle.rules.specs.Rules.Expressions.{tagged}
@@ -17,15 +17,14 @@ use Rattle.rules.specs.Rules.Plain.{State, ownFrom, values}
 use Rattle.rules.specs.Rules.JobFile.{little, wordsAt}
 use Rattle.rules.specs.Rules.Calls.{written}
 use Rattle.rules.specs.Rules.Pairs.{alikeFrom}
-use Rattle.program.specs.Offsets.{wordsFrom, length-words, table-word}
-use Rattle.work.specs.Layout.{operandBase, labels, labelBase}
+use Rattle.work.specs.Layout.{operandBase}
 use Rattle.work.specs.Words.{taggedAt, stored}
 use Rattle.work.specs.Machines.{stateFrom, stateIn}
 use Rattle.work.proofs.Ranges.{drop-sets}
 use Rattle.work.proofs.States.{state-more}
 use Rattle.rules.specs.Theorems.Sizes.{values-length}
 use Rattle.transfer.specs.States.{state-length}
-use Rattle.transfer.specs.Loads.{StateLoaded, LabelsLoaded}
+use Rattle.transfer.specs.Loads.{StateLoaded}
 
 -- ---- a state loaded: the locations before l hold their words, and with the words left they are the whole state
 pub record Loading (bs : List ℕ) (at n : ℕ) (w w′ : List ℕ) (l : ℕ) : Type 0 where
@@ -75,23 +74,6 @@ loading-all bs at n w w′ l known h =
     let z : n - l ≡ 0 = omega arith in
     let whole : stateIn w′ l ++ [] ≡ ownFrom 0 (wordsAt n bs at) = rw z at (known .state) in
     record { state = ap (stateIn w′) (sym e) ∙ sym (append-nil (stateIn w′ l)) ∙ whole; after = known .after; size = known .size }
-
--- ---- the table of labels: what stands before the words that were stored
-take-sets : (vs w : List ℕ) (i n : ℕ) → n ≤ i → take n (sets w i vs) ≡ take n w
-take-sets [] w i n h = refl
-take-sets (a ∷ vs) w i n h = take-sets vs (set w i a) (suc i) n (omega arith) ∙ take-set-le n w i a h
-
-pub labels-loaded : (p : List ℕ) (count : ℕ) (w w′ : List ℕ) → labelBase count ≤ length w → w′ ≡ sets w labels (wordsFrom count p 0)
-    → LabelsLoaded p count w w′
-labels-loaded p count w w′ f e =
-    let vs = wordsFrom count p 0 in
-    let s : length vs ≡ count = length-words count p 0 in
-    record {
-      entry = λ i h. ap (λ (u : List ℕ). getD u (labelBase i) 0) e ∙ table-word count p w labels i f h;
-      before = ap (take labels) e ∙ take-sets vs w labels labels (omega arith);
-      after = ap (drop (labelBase count)) e ∙ drop-sets vs w labels (labelBase count) (omega arith);
-      size = ap length e ∙ length-sets w labels vs;
-    }
 
 -- ---- values saved: storing the values left gives what storing all of them gives
 pub save-more : (w a a₁ : List ℕ) (n l k x : ℕ) → l < n → k ≡ l → x ≡ taggedAt w k .value → a₁ ≡ set a l x

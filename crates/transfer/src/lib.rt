@@ -12,9 +12,9 @@ ghost use Rattle.rules.specs.Rules.Plain.{values};
 ghost use Rattle.rules.specs.Rules.JobFile.{little, wordsAt};
 ghost use Rattle.rules.specs.Rules.Calls.{written};
 ghost use Rattle.rules.specs.Rules.Pairs.{alikeFrom};
-ghost use Rattle.work.specs.Layout.{operandBase, labelBase};
+ghost use Rattle.work.specs.Layout.{operandBase};
 ghost use Rattle.work.specs.Machines.{stateIn};
-ghost use Rattle.transfer.specs.Loads.{StateLoaded, LabelsLoaded};
+ghost use Rattle.transfer.specs.Loads.{StateLoaded};
 
 // The bytes of a word in a state.
 const WORD_BYTES: usize = 8;
@@ -39,14 +39,6 @@ pub fn load_state(bytes: &[u8], at: usize, n: usize, work: &mut [u64])
         work::store(&mut work[..], Location::new(loaded), Tagged { value, deps });
         loaded += 1;
     }
-}
-
-// The table of labels takes the words of a program's instructions.
-pub fn load_labels(p: &[u8], count: usize, work: &mut [u64])
-    requires { ⌜ labelBase count ≤ length (now work) ⌝ }
-    ensures { λ _. ⌜ LabelsLoaded (now (p .entry)) count (now (work .entry)) (now (work .exit)) ⌝ }
-{
-    program::write_words(p, count, &mut work[..], work::LABELS);
 }
 
 // Registers then cells as they are now, from the front of an area.

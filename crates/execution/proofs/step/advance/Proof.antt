@@ -41,15 +41,10 @@ source-value-requires c κs =
     let a = at-start .args in
     let v = fetched-valid (a .p .now) (a .t) (a .mode) (a .work .now) (a .c .control) (at-start .pre .ready .steady) (at-start .pre .inside) (at-new .new .ensures) (at-fetch .fetch .ensures) in
     let r = at-start .pre .ready .steady .fits .room in
-    (record { sound = v .sound; shaped = v .shaped }, omega arith)
+    (v, omega arith)
 
 opening-of-requires : tie.Need-opening-of-requires
-opening-of-requires c κs =
-    let at-fetch = c .before .before in
-    let at-new = at-fetch .before .before in
-    let at-start = at-new .before .before .before .before .before in
-    let a = at-start .args in
-    fetched-valid (a .p .now) (a .t) (a .mode) (a .work .now) (a .c .control) (at-start .pre .ready .steady) (at-start .pre .inside) (at-new .new .ensures) (at-fetch .fetch .ensures)
+opening-of-requires c κs = search needs
 
 enum-known-r : tie.Need-enum-known-r
 enum-known-r c = search needs
@@ -64,8 +59,8 @@ open-branch-requires c κs =
     let at-start = at-new .before .before .before .before .before in
     let a = at-start .args in
     let k = a .c .control in
-    let o = rw (at-r .r .given .1) at (at-opening-of .opening-of .ensures) in
     let v = fetched-valid (a .p .now) (a .t) (a .mode) (a .work .now) (a .c .control) (at-start .pre .ready .steady) (at-start .pre .inside) (at-new .new .ensures) (at-fetch .fetch .ensures) in
+    let o = rw (at-r .r .given .1) at (at-opening-of .opening-of .ensures (a .p .now) v) in
     let same = fetched-same (a .p .now) (a .t) (a .mode) (a .work .now) (a .c .control) (at-start .pre .ready .steady) (at-start .pre .inside) (at-new .new .ensures) (at-fetch .fetch .ensures) in
     let g = still-going (at-start .pre .inside) (at-start .pre .window) in
     let l = at-start .pre .ready .steady .loaded .limits .count-most in
@@ -102,8 +97,8 @@ carry-out-requires c κs =
     let w = a .work .now in
     let code = codeIn (a .p .now) (a .t) (drop labels w) in
     let M = machineOf w k (locations (a .t)) in
-    let o = rw (at-enum-told .enum-told .given .1) at (at-opening-of .opening-of .ensures) in
     let v = fetched-valid (a .p .now) (a .t) (a .mode) (a .work .now) (a .c .control) (at-start .pre .ready .steady) (at-start .pre .inside) (at-new .new .ensures) (at-fetch .fetch .ensures) in
+    let o = rw (at-enum-told .enum-told .given .1) at (at-opening-of .opening-of .ensures (a .p .now) v) in
     let same = fetched-same (a .p .now) (a .t) (a .mode) (a .work .now) (a .c .control) (at-start .pre .ready .steady) (at-start .pre .inside) (at-new .new .ensures) (at-fetch .fetch .ensures) in
     let e = at-instruction-of .instruction-of .ensures in
     let g = still-going (at-start .pre .inside) (at-start .pre .window) in
@@ -138,7 +133,8 @@ returns c =
     let k = a .c .control in
     let w = a .work .now in
     let n = locations (a .t) in
-    let o = rw (at-r .r .given .1) at (at-opening-of .opening-of .ensures) in
+    let v = fetched-valid (a .p .now) (a .t) (a .mode) (a .work .now) (a .c .control) (at-start .pre .ready .steady) (at-start .pre .inside) (at-new .new .ensures) (at-fetch .fetch .ensures) in
+    let o = rw (at-r .r .given .1) at (at-opening-of .opening-of .ensures (a .p .now) v) in
     let same = fetched-same (a .p .now) (a .t) (a .mode) (a .work .now) (a .c .control) (at-start .pre .ready .steady) (at-start .pre .inside) (at-new .new .ensures) (at-fetch .fetch .ensures) in
     let limits = at-start .pre .ready .steady .loaded .limits in
     let most = locations-most limits in
@@ -165,7 +161,8 @@ returns-2 c =
     let k = a .c .control in
     let w = a .work .now in
     let n = locations (a .t) in
-    let o = rw (at-enum-told .enum-told .given .1) at (at-opening-of .opening-of .ensures) in
+    let v = fetched-valid (a .p .now) (a .t) (a .mode) (a .work .now) (a .c .control) (at-start .pre .ready .steady) (at-start .pre .inside) (at-new .new .ensures) (at-fetch .fetch .ensures) in
+    let o = rw (at-enum-told .enum-told .given .1) at (at-opening-of .opening-of .ensures (a .p .now) v) in
     let same = fetched-same (a .p .now) (a .t) (a .mode) (a .work .now) (a .c .control) (at-start .pre .ready .steady) (at-start .pre .inside) (at-new .new .ensures) (at-fetch .fetch .ensures) in
     let code = codeIn (a .p .now) (a .t) (drop labels w) in
     let step = other-step (a .p .now) (a .t) (a .mode) w k (still-going (at-start .pre .inside) (at-start .pre .window)) same o in
