@@ -9,7 +9,6 @@ use lib.Dec.{leb}
 use lib.ListN.{length}
 use Rattle.location.specs.declared.LocationSet.{LocationSet}
 use Rattle.location.specs.SetLaws.{and-left, and-right}
-use Rattle.rules.specs.declared.Stop.{Stop}
 use Rattle.rules.specs.declared.Trailer.{Trailer}
 use Rattle.rules.specs.declared.Refusal.{Refusal}
 use Rattle.rules.specs.declared.Refusal.the-variants as refusals
@@ -22,11 +21,11 @@ use Rattle.rules.specs.Rules.Calls.{Areas, Called, lent, workingWords, room, lo
 use Rattle.rules.specs.Rules.Pairs.{PairAreas, pairRefused, pairParsed, pairCall}
 use Rattle.rules.specs.Rules.Demands.{Exact}
 use Rattle.job.specs.Answers.{Accepts}
-use Rattle.stepping.specs.declared.Progress.{Progress}
 use Rattle.execution.specs.declared.Mode.the-variants as modes
+use Rattle.execution.specs.declared.Ran.{Ran}
 use Rattle.job_run.specs.Accepted.{accepted-size, accepted-public}
 use Rattle.job_run.specs.JobRuns.{AreasFit, RunIn}
-use Rattle.checker.specs.Reports.{reportOf, plainReportOf, report-same, plain-report-same, run-short, plain-short, run-rejected, plain-rejected}
+use Rattle.checker.specs.Reports.{answerOf, plainAnswerOf, report-same, plain-report-same, run-short, plain-short, run-rejected, plain-rejected}
 
 -- ---- each way that a call ends
 exact-of : {A B : Type 0} {called : Called A B} {r : A} {after : B} (answer : A) (areas : B)
@@ -59,22 +58,22 @@ module _ {bs : List ℕ} {t : Trailer} (k : Accepts bs t) (a e w : List ℕ) whe
           end = leb-true (locations t) (length e) (and-right q q′ (sym h ∙ l));
         }
 
-    pub exact-ran : {after : Areas} {x : Stop} {c : Progress} {public : LocationSet} {r : RunAnswer} → RunIn bs t modes.Mispredicting (lent a e w) after x c → public ≡ publicOf t bs
-        → r ≡ reportOf public x c → Exact (runCall bs (lent a e w)) r after
+    pub exact-ran : {after : Areas} {r : Ran} {public : LocationSet} {x : RunAnswer} → RunIn bs t modes.Mispredicting (lent a e w) after r
+        → public ≡ publicOf t bs → x ≡ answerOf public r → Exact (runCall bs (lent a e w)) x after
     unfolding runCall runParsed
-    exact-ran {x = x} {c = c} o ep er =
+    exact-ran {r = r} o ep ex =
         let R = mispredictingRun (k .job) (room a) in
         exact-of (runReport (k .job) R) (areasAfter R (lent a e w)) (rw (k .parsed, fitting h ∙ l, runParsed))
-        (er ∙ ap (λ (l : LocationSet). reportOf l x c) (ep ∙ accepted-public k) ∙ report-same (o .ran (k .job) (k .parsed)) (k .job))
+        (ex ∙ ap (λ (s : LocationSet). answerOf s r) (ep ∙ accepted-public k) ∙ report-same (o .reports (k .job) (k .parsed)) (k .job))
         (o .areas (k .job) (k .parsed))
 
-    pub plain-ran : {after : Areas} {x : Stop} {c : Progress} {r : PlainAnswer} → RunIn bs t modes.Plain (lent a e w) after x c → r ≡ plainReportOf x c
-        → Exact (plainCall bs (lent a e w)) r after
+    pub plain-ran : {after : Areas} {r : Ran} {x : PlainAnswer} → RunIn bs t modes.Plain (lent a e w) after r → x ≡ plainAnswerOf r
+        → Exact (plainCall bs (lent a e w)) x after
     unfolding plainCall plainParsed
-    plain-ran o er =
+    plain-ran o ex =
         let R = plainRun (k .job) (room a) in
         exact-of (plainReport R) (areasAfter R (lent a e w)) (rw (k .parsed, fitting h ∙ l, plainParsed))
-        (er ∙ plain-report-same (o .ran (k .job) (k .parsed))) (o .areas (k .job) (k .parsed))
+        (ex ∙ plain-report-same (o .reports (k .job) (k .parsed))) (o .areas (k .job) (k .parsed))
 
 -- ---- a refused job
 module _ (bs : List ℕ) (n : Refusal) (p : parse bs ≡ rejected n) (a : Areas) where

@@ -5,8 +5,6 @@ use mathlib.Core.Bool.{false}
 use mathlib.Core.List.{List}
 use Prim.Native.Nat.{ℕ}
 use Rattle.location.specs.declared.LocationSet.{LocationSet}
-use Rattle.rules.specs.declared.Stop.{Stop}
-use Rattle.rules.specs.declared.Trailer.{Trailer}
 use Rattle.rules.specs.declared.Refusal.{Refusal}
 use Rattle.rules.specs.declared.Refusal.the-variants as refusals
 use Rattle.rules.specs.declared.RunOutcome.the-variants as runs
@@ -16,37 +14,27 @@ use Rattle.rules.specs.declared.PlainAnswer.{PlainAnswer}
 use Rattle.rules.specs.Rules.Runs.{Result, Job, judge, verdict}
 use Rattle.rules.specs.Rules.JobFile.{accepted, rejected, parse}
 use Rattle.rules.specs.Rules.Calls.{Areas, longEnough, counts, runReport, runRefused, runParsed, runCall, plainReport, plainRefused, plainParsed, plainCall}
-use Rattle.stepping.specs.declared.Progress.{Progress}
-use Rattle.execution.specs.Turns.{RanTo}
-use Rattle.job_run.specs.JobRuns.{countsOf}
-use Rattle.job_run.specs.Reports.{steps-same, rollbacks-same, full-same, plain-same}
+use Rattle.execution.specs.declared.Ran.{Ran}
+use Rattle.execution.specs.Running.{Reports}
 
--- ---- what is returned
-abbrev pub reportOf : LocationSet → Stop → Progress → RunAnswer
-reportOf public x c = record { outcome = runs.Ran (countsOf x c) (judge public x (c .full) (c .plain)); full = c .full; plain = c .plain }
+-- ---- what is returned of a run that has ended
+abbrev pub answerOf : LocationSet → Ran → RunAnswer
+answerOf public r = record { outcome = runs.Ran (r .counts) (judge public (r .counts .stop) (r .full) (r .plain)); full = r .full; plain = r .plain }
 
-abbrev pub plainReportOf : Stop → Progress → PlainAnswer
-plainReportOf x c = record {
-  outcome = plains.Ran (record { stop = x; observations = c .observations; steps = c .steps });
-  plain = c .plain;
+abbrev pub plainAnswerOf : Ran → PlainAnswer
+plainAnswerOf r = record {
+  outcome = plains.Ran (record { stop = r .counts .stop; observations = r .counts .observations; steps = r .counts .steps });
+  plain = r .plain;
 }
 
-module _ {t : Trailer} {w₀ a₀ w a : List ℕ} {x : Stop} {c : Progress} {R : Result} (r : RanTo t w₀ a₀ w a x c R) where
-  pub report-same : (job : Job) → reportOf (job .public) x c ≡ runReport job R
+module _ {r : Ran} {R : Result} (e : Reports r R) where
+  pub report-same : (job : Job) → answerOf (job .public) r ≡ runReport job R
   unfolding runReport counts verdict
-  report-same job = λ i. record {
-    outcome = runs.Ran (record { stop = r .stop i; observations = r .count i; steps = steps-same r i; rollbacks = rollbacks-same r i })
-        (judge (job .public) (r .stop i) (full-same r i) (plain-same r i));
-    full = full-same r i;
-    plain = plain-same r i;
-  }
+  report-same job = λ i. answerOf (job .public) (record { counts = e .counts i; full = e .full i; plain = e .plain i })
 
-  pub plain-report-same : plainReportOf x c ≡ plainReport R
-  unfolding plainReport
-  plain-report-same = λ i. record {
-    outcome = plains.Ran (record { stop = r .stop i; observations = r .count i; steps = steps-same r i });
-    plain = plain-same r i;
-  }
+  pub plain-report-same : plainAnswerOf r ≡ plainReport R
+  unfolding plainReport counts
+  plain-report-same = λ i. plainAnswerOf (record { counts = e .counts i; full = e .full i; plain = e .plain i })
 
 -- ---- the calls
 module _ (bs : List ℕ) (a : Areas) where

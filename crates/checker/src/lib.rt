@@ -16,12 +16,11 @@ use rules::RunAnswer;
 use rules::RunOutcome;
 use rules::Trailer;
 ghost use mathlib.Core.Path.{_≡_};
-ghost use Prim.Native.Nat.{_≤_};
 ghost use Rattle.rules.specs.Rules.Calls.{runRefused, plainRefused, runCall, plainCall};
 ghost use Rattle.rules.specs.Rules.Demands.{Exact};
 ghost use Rattle.rules.specs.Rules.Promises.{RunPromise, PlainPromise, PairPromise, areasAtEntry, areasAtExit, pairAtEntry, pairAtExit};
 ghost use Rattle.job.specs.Answers.{Accepts};
-ghost use Rattle.checker.specs.Reports.{reportOf, plainReportOf};
+ghost use Rattle.checker.specs.Reports.{answerOf, plainAnswerOf};
 
 fn run_refused(n: Refusal) -> RunAnswer
     ensures { λ r. ⌜ r ≡ runRefused n ⌝ }
@@ -44,14 +43,12 @@ fn plain_refused(n: Refusal) -> PlainAnswer
 
 // What a run returns.
 fn report(public: LocationSet, r: Ran) -> RunAnswer
-    requires { ⌜ r .progress .control .depth ≤ r .progress .control .opened ⌝ }
-    ensures { λ x. ⌜ x ≡ reportOf public (r .stop) (r .progress) ⌝ }
+    ensures { λ x. ⌜ x ≡ answerOf public r ⌝ }
 {
-    let counts = job_run::counts_of(r);
+    let counts = r.counts;
     let stop = counts.stop;
-    let c = r.progress;
-    let full = c.full;
-    let plain = c.plain;
+    let full = r.full;
+    let plain = r.plain;
     let verdict = judgement::verdict_of(public, stop, full, plain);
     RunAnswer {
         outcome: RunOutcome::Ran(counts, verdict),
@@ -62,18 +59,18 @@ fn report(public: LocationSet, r: Ran) -> RunAnswer
 
 // What a plain run returns.
 fn plain_report(r: Ran) -> PlainAnswer
-    ensures { λ x. ⌜ x ≡ plainReportOf (r .stop) (r .progress) ⌝ }
+    ensures { λ x. ⌜ x ≡ plainAnswerOf r ⌝ }
 {
-    let stop = r.stop;
-    let c = r.progress;
-    let plain = c.plain;
-    let counts = PlainCounts {
+    let counts = r.counts;
+    let stop = counts.stop;
+    let plain = r.plain;
+    let reported = PlainCounts {
         stop,
-        observations: c.observations,
-        steps: c.steps,
+        observations: counts.observations,
+        steps: counts.steps,
     };
     PlainAnswer {
-        outcome: PlainOutcome::Ran(counts),
+        outcome: PlainOutcome::Ran(reported),
         plain,
     }
 }

@@ -56,7 +56,7 @@ take-sets : (vs w : List ℕ) (i n : ℕ) → n ≤ i → take n (sets w i vs) �
 take-sets [] w i n h = refl
 take-sets (a ∷ vs) w i n h = take-sets vs (set w i a) (suc i) n (omega arith) ∙ take-set-le n w i a h
 
-module _ {bs : List ℕ} {t : Trailer} (k : Accepts bs t) {p w w′ : List ℕ} (ep : p ≡ take (t .state) bs) (fits : labelBase (t .count) ≤ length w)
+module _ {bs : List ℕ} {t : Trailer} (k : Accepts bs t) (w : List ℕ) {p w′ : List ℕ} (ep : p ≡ take (t .state) bs) (fits : labelBase (t .count) ≤ length w)
     (ew : w′ ≡ sets w labels (wordsFrom (t .count) p 0)) where
   -- they describe the job's program
   described : (job : Job) → parse bs ≡ accepted job
@@ -69,7 +69,7 @@ module _ {bs : List ℕ} {t : Trailer} (k : Accepts bs t) {p w w′ : List ℕ} 
       let read : program (t .count) (t .count) 0 (take (t .state) bs) 0 ≡ got (job .code .prog) (q .next) = rw (k .trailer) (q .read) in
       rw (ew, ep) (table-written (t .count) (take (t .state) bs) read (omega arith) w labels fits)
 
-  pub job-loaded : Loaded p t w′
+  job-loaded : Loaded p t w′
   job-loaded = record { limits = accepted-limits k; described = described (k .job) (k .parsed) .1 }
 
   -- the operands stand before them
@@ -101,18 +101,24 @@ module _ {bs : List ℕ} {t : Trailer} (k : Accepts bs t) {p w w′ : List ℕ} 
         go modes.Mispredicting = whole-mispredicting (passed bs job e) p w′ a vs table holds
 
 -- ---- the run of a state
+-- what is loaded
+pub loaded : {bs p : List ℕ} {t : Trailer} {states : List ℕ} {at n : ℕ} {w w₁ w₂ : List ℕ} (k : Accepts bs t) → p ≡ take (t .state) bs
+    → labelBase (t .count) ≤ length w₁ → StateLoaded states at n w w₁ → w₂ ≡ sets w₁ labels (wordsFrom (t .count) p 0)
+    → workingWords ≤ length w → Loaded p t w₂ × (workingWords ≤ length w₂)
+loaded {w₁ = w₁} k ep h s ew m = (job-loaded k w₁ ep h ew, let a = size-kept k w₁ ep h ew in let b = s .size in omega arith)
+
 pub run-of : {bs p : List ℕ} {t : Trailer} {mode : Mode} {states : List ℕ} {at : ℕ} {w w₁ w₂ w′ a a′ : List ℕ} {r : Ran} (k : Accepts bs t)
     → p ≡ take (t .state) bs → labelBase (t .count) ≤ length w₁ → StateLoaded states at (locations t) w w₁
     → w₂ ≡ sets w₁ labels (wordsFrom (t .count) p 0) → RanTo t w₂ a w′ a′ r (whole p t mode w₂ a) → RunOf bs t mode states at w w′ a a′ r
 run-of {t = t} {mode} {states} {at} {w₁ = w₁} {w₂} {w′} {a} {a′} {r} k ep h s ew o = record {
   ran = λ job e.
-      subst (EndsAs t a w′ a′ r) (same-result k ep h ew job e a (wordsAt (locations t) states at) (s .state) mode) (o .ends);
+      subst (EndsAs t a w′ a′ r) (same-result k w₁ ep h ew job e a (wordsAt (locations t) states at) (s .state) mode) (o .ends);
   past =
       let m = accepted-limits k .cells in
       drop-past w′ w₂ labels workingWords (omega arith) (o .frame)
-      ∙ past-kept k ep h ew
+      ∙ past-kept k w₁ ep h ew
       ∙ state-loaded-after s workingWords (omega arith);
-  size = o .size ∙ size-kept k ep h ew ∙ s .size;
+  size = o .size ∙ size-kept k w₁ ep h ew ∙ s .size;
 }
 
 -- ---- the run of a job
@@ -124,10 +130,10 @@ module _ {bs : List ℕ} {t : Trailer} (k : Accepts bs t) (mode : Mode) {w w′ 
 
   pub run-in : {e e′ w″ : List ℕ} → RunOf bs t mode bs (t .state) w w′ a a′ r → e′ ≡ written (values (stateIn w′ (locations t))) e
       → w″ ≡ written (replicate workingWords 0) w′ → RunIn bs t mode (lent a e w) (lent a′ e′ w″) r
+  unfolding areasAfter
   run-in {e} {e′} {w″} o ee ew = record { reports = λ job p. own-run o job p .reports; areas = left }
     where
       left : (job : Job) → parse bs ≡ accepted job → lent a′ e′ w″ ≡ areasAfter (resultOf mode job (room a)) (lent a e w)
-      unfolding areasAfter
       left job p =
           let x = own-run o job p in
           λ i. record {

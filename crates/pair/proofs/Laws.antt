@@ -10,7 +10,6 @@ use borrow.Author.Tests.{eq-eqb, ne-eqb, le-leb, lt-leb}
 use lib.ListN.{length, take, drop, replicate}
 use lib.Seq.{take-at}
 use Rattle.location.specs.declared.LocationSet.{LocationSet}
-use Rattle.rules.specs.declared.Stop.{Stop}
 use Rattle.rules.specs.declared.Trailer.{Trailer}
 use Rattle.rules.specs.declared.Counts.{Counts}
 use Rattle.rules.specs.declared.Refusal.{Refusal}
@@ -28,21 +27,24 @@ use Rattle.rules.specs.Theorems.RunLaws.{mispredicting-trace}
 use Rattle.rules.specs.Theorems.CallLaws.{length-traceWords}
 use Rattle.rules.specs.Theorems.PairLaws.{Pairs, pair-runs}
 use Rattle.job.specs.Answers.{Accepts}
-use Rattle.stepping.specs.declared.Progress.{Progress}
 use Rattle.execution.specs.declared.Mode.the-variants as modes
-use Rattle.execution.specs.Turns.{RanTo}
-use Rattle.execution.specs.TurnLaws.{written-length}
+use Rattle.execution.specs.declared.Ran.{Ran}
+use Rattle.execution.specs.Running.{EndsAs}
+use Rattle.execution.proofs.TraceArea.{written-length}
 use Rattle.job_run.specs.Accepted.{accepted-size, accepted-public, accepted-init}
-use Rattle.job_run.specs.JobRuns.{countsOf, RunOf}
-use Rattle.job_run.specs.Reports.{counts-same, cleared-same}
-use Rattle.job_run.proofs.Laws.{same-part, own-run}
+use Rattle.job_run.specs.JobRuns.{RunOf}
+use Rattle.job_run.proofs.Laws.{same-part, cleared-same, own-run}
 use Rattle.judgement.specs.Words.{pairWordOf, word-same}
 use Rattle.pair.specs.Runs.{comparedOf, Comparable}
 
 -- ---- a run that has ended: what it wrote fits, and stands from the front
-module _ {t : Trailer} {w₀ a w a′ : List ℕ} {x : Stop} {c : Progress} (job : Job) (r : RanTo t w₀ a w a′ x c (mispredictingRun job (room a))) where
+module _ {t : Trailer} {a w a′ : List ℕ} {r : Ran} (job : Job) (e : EndsAs t a w a′ r (mispredictingRun job (room a))) where
   abbrev trace : List Observation
   trace = mispredictingRun job (room a) .log .trace
+
+  counted : r .counts .observations ≡ length trace
+  unfolding counts
+  counted = ap (λ (n : Counts). n .observations) (e .reports .counts)
 
   fits : 2 * length trace ≤ length a
   unfolding room
@@ -50,31 +52,29 @@ module _ {t : Trailer} {w₀ a w a′ : List ℕ} {x : Stop} {c : Progress} (job
 
   same-length : length a′ ≡ length a
   same-length =
-      ap length (r .trace) ∙ written-length (traceWords trace) a (let e = length-traceWords trace in let f = fits in omega arith)
+      ap length (e .trace) ∙ written-length (traceWords trace) a (let n = length-traceWords trace in let f = fits in omega arith)
 
-  pub observed-fits : 2 * c .observations ≤ length a′
-  observed-fits = let e = r .count in let f = fits in let g = same-length in omega arith
+  pub observed-fits : 2 * r .counts .observations ≤ length a′
+  observed-fits = let c = counted in let f = fits in let g = same-length in omega arith
 
-  pub observed-words : take (2 * c .observations) a′ ≡ traceWords trace
+  pub observed-words : take (2 * r .counts .observations) a′ ≡ traceWords trace
   unfolding written
   observed-words =
-      ap (λ (n : ℕ). take (2 * n) a′) (r .count) ∙ ap (take (2 * length trace)) (r .trace)
+      ap (λ (n : ℕ). take (2 * n) a′) counted ∙ ap (take (2 * length trace)) (e .trace)
       ∙ take-at (traceWords trace) _ (2 * length trace) (length-traceWords trace)
 
 -- ---- the answer on two runs, of what the code has found
-pub compared-same : (bs : List ℕ) (t : Trailer) (second a b : List ℕ) (x x′ : Stop) (c c′ : Progress) {word : PairWord} {alike : Bool}
-    {public : LocationSet} {n n′ : Counts}
-    → n ≡ countsOf x c → n′ ≡ countsOf x′ c′ → public ≡ publicOf t bs
-    → alike ≡ alikeFrom public 0 (wordsAt (locations t) bs (t .state)) (wordsAt (locations t) second 0)
+pub compared-same : (bs : List ℕ) (t : Trailer) (second a b : List ℕ) (n n′ : Counts) {word : PairWord} {alike : Bool} {public : LocationSet}
+    → public ≡ publicOf t bs → alike ≡ alikeFrom public 0 (wordsAt (locations t) bs (t .state)) (wordsAt (locations t) second 0)
     → word ≡ pairWordOf alike (n .stop) (n′ .stop) (take (2 * n .observations - 0) (drop 0 a)) (take (2 * n′ .observations - 0) (drop 0 b))
-    → answers.Compared word n n′ ≡ comparedOf bs t second x c x′ c′ a b
-compared-same bs t second a b x x′ c c′ en en′ ep ea ew =
-    rw (ew, ea, ep, en, en′, same-part (2 * c .observations) a, same-part (2 * c′ .observations) b)
+    → answers.Compared word n n′ ≡ comparedOf bs t second n n′ a b
+compared-same bs t second a b n n′ ep ea ew =
+    rw (ew, ea, ep, same-part (2 * n .observations) a, same-part (2 * n′ .observations) b)
 
 -- ---- both runs
-module _ {bs : List ℕ} {t : Trailer} {second a b w w₁ w₂ a′ b′ : List ℕ} {x x′ : Stop} {c c′ : Progress}
-    (q : Comparable bs t second a b w) (o : RunOf bs t modes.Mispredicting bs (t .state) w w₁ a a′ x c)
-    (o′ : RunOf bs t modes.Mispredicting second 0 w₁ w₂ b b′ x′ c′) where
+module _ {bs : List ℕ} {t : Trailer} {second a b w w₁ w₂ a′ b′ : List ℕ} {r r′ : Ran}
+    (q : Comparable bs t second a b w) (o : RunOf bs t modes.Mispredicting bs (t .state) w w₁ a a′ r)
+    (o′ : RunOf bs t modes.Mispredicting second 0 w₁ w₂ b b′ r′) where
   abbrev job : Job
   job = q .accepts .job
 
@@ -94,30 +94,24 @@ module _ {bs : List ℕ} {t : Trailer} {second a b w w₁ w₂ a′ b′ : List 
     enough = rw (le-leb workingWords (length w) (q .work), eq-eqb (length a) (length b) (q .traces));
   }
 
-  first-ran : RanTo t (o .words) a w₁ a′ x c (mispredictingRun job (room a))
+  first-ran : EndsAs t a w₁ a′ r (mispredictingRun job (room a))
   first-ran = own-run (q .accepts) modes.Mispredicting o job (q .accepts .parsed)
 
   second-words : wordsAt (locations t) second 0 ≡ vs
   second-words = ap (λ (n : ℕ). wordsAt n second 0) (sym (accepted-size (q .accepts)))
 
-  second-ran : RanTo t (o′ .words) b w₂ b′ x′ c′ (mispredictingRun (withState job vs) (room b))
+  second-ran : EndsAs t b w₂ b′ r′ (mispredictingRun (withState job vs) (room b))
   second-ran = rw second-words at (o′ .ran job (q .accepts .parsed))
 
   same-room : room b ≡ room a
   unfolding room
   same-room = ap (λ (n : ℕ). n / 2) (sym (q .traces))
 
-  pub first-fits : 2 * c .observations ≤ length a′
+  pub first-fits : 2 * r .counts .observations ≤ length a′
   first-fits = observed-fits job first-ran
 
-  pub second-fits : 2 * c′ .observations ≤ length b′
+  pub second-fits : 2 * r′ .counts .observations ≤ length b′
   second-fits = observed-fits (withState job vs) second-ran
-
-  pub first-depth : c .control .depth ≤ c .control .opened
-  first-depth = first-ran .depth
-
-  pub second-depth : c′ .control .depth ≤ c′ .control .opened
-  second-depth = second-ran .depth
 
   abbrev run₁ : Result
   run₁ = mispredictingRun job (room a)
@@ -126,19 +120,24 @@ module _ {bs : List ℕ} {t : Trailer} {second a b w w₁ w₂ a′ b′ : List 
   run₂ = mispredictingRun (withState job vs) (room b)
 
   -- the answer is that of the rules' two runs
-  answer-same : comparedOf bs t second x c x′ c′ a′ b′
+  answer-same : comparedOf bs t second (r .counts) (r′ .counts) a′ b′
       ≡ answers.Compared
       (pairWordOf (alikeFrom (job .public) 0 (job .init) vs) (run₁ .stop) (run₂ .stop) (traceWords (run₁ .log .trace)) (traceWords (run₂ .log .trace)))
       (counts run₁) (counts run₂)
-  answer-same = λ i. answers.Compared
-      (pairWordOf (alikeFrom (accepted-public (q .accepts) i) 0 (accepted-init (q .accepts) i) (second-words i)) (first-ran .stop i)
-      (second-ran .stop i) (observed-words job first-ran i) (observed-words (withState job vs) second-ran i))
-      (counts-same first-ran i) (counts-same second-ran i)
+  unfolding counts
+  answer-same =
+      let n = first-ran .reports .counts in
+      let n′ = second-ran .reports .counts in
+      λ i. answers.Compared
+      (pairWordOf (alikeFrom (accepted-public (q .accepts) i) 0 (accepted-init (q .accepts) i) (second-words i)) (n i .stop) (n′ i .stop)
+      (observed-words job first-ran i) (observed-words (withState job vs) second-ran i))
+      (n i) (n′ i)
 
-  pub exact-compared : {r : PairAnswer} {w₃ : List ℕ} → w₃ ≡ written (replicate workingWords 0) w₂ → r ≡ comparedOf bs t second x c x′ c′ a′ b′
-      → Exact (pairCall bs second (pairLent a b w)) r (pairLent a′ b′ w₃)
+  pub exact-compared : {x : PairAnswer} {w₃ : List ℕ} → w₃ ≡ written (replicate workingWords 0) w₂
+      → x ≡ comparedOf bs t second (r .counts) (r′ .counts) a′ b′
+      → Exact (pairCall bs second (pairLent a b w)) x (pairLent a′ b′ w₃)
   unfolding pairAccepted pairAfter compares
-  exact-compared {r} ew er =
+  exact-compared ew er =
       rw (pair-runs compares)
       (record {
         answer = er ∙ rw same-room at answer-same

@@ -4,8 +4,8 @@ use mathlib.Core.Path.{_≡_}
 use mathlib.Core.List.{List}
 use Prim.Native.Nat.{ℕ, _*_, _≤_}
 use lib.ListN.{length, take}
-use Rattle.rules.specs.declared.Stop.{Stop}
 use Rattle.rules.specs.declared.Trailer.{Trailer}
+use Rattle.rules.specs.declared.Counts.{Counts}
 use Rattle.rules.specs.declared.PairAnswer.{PairAnswer}
 use Rattle.rules.specs.declared.PairAnswer.the-variants as answers
 use Rattle.rules.specs.Rules.JobFile.{locations, publicOf, wordsAt}
@@ -13,26 +13,21 @@ use Rattle.rules.specs.Rules.Calls.{workingWords}
 use Rattle.rules.specs.Rules.Pairs.{alikeFrom}
 use Rattle.judgement.specs.Words.{pairWordOf}
 use Rattle.job.specs.Answers.{Accepts}
-use Rattle.stepping.specs.declared.Progress.{Progress}
-use Rattle.job_run.specs.JobRuns.{countsOf}
 
--- The job was accepted, the second state has its size, each trace area is as long as what was written there, and no run has more
--- branches open than it opened.
-pub record BothRan (bs : List ℕ) (t : Trailer) (second : List ℕ) (c c′ : Progress) (a b : List ℕ) : Type 0 where
+-- The job was accepted, the second state has its size, and each trace area is as long as what was written there.
+pub record BothRan (bs : List ℕ) (t : Trailer) (second : List ℕ) (c c′ : Counts) (a b : List ℕ) : Type 0 where
   pub accepts : Accepts bs t
   pub sized : length second ≡ 8 * locations t
   pub first-fits : 2 * c .observations ≤ length a
   pub second-fits : 2 * c′ .observations ≤ length b
-  pub first-depth : c .control .depth ≤ c .control .opened
-  pub second-depth : c′ .control .depth ≤ c′ .control .opened
 
 -- the answer on two runs
-abbrev pub comparedOf : List ℕ → Trailer → List ℕ → Stop → Progress → Stop → Progress → List ℕ → List ℕ → PairAnswer
-comparedOf bs t second x c x′ c′ a b =
+abbrev pub comparedOf : List ℕ → Trailer → List ℕ → Counts → Counts → List ℕ → List ℕ → PairAnswer
+comparedOf bs t second c c′ a b =
     answers.Compared
-    (pairWordOf (alikeFrom (publicOf t bs) 0 (wordsAt (locations t) bs (t .state)) (wordsAt (locations t) second 0)) x x′
+    (pairWordOf (alikeFrom (publicOf t bs) 0 (wordsAt (locations t) bs (t .state)) (wordsAt (locations t) second 0)) (c .stop) (c′ .stop)
     (take (2 * c .observations) a) (take (2 * c′ .observations) b))
-    (countsOf x c) (countsOf x′ c′)
+    c c′
 
 -- The job was accepted, and nothing of what is lent is refused.
 pub record Comparable (bs : List ℕ) (t : Trailer) (second a b w : List ℕ) : Type 0 where

@@ -21,14 +21,14 @@ fn compared(
     first_trace: &[u64],
     second_trace: &[u64],
 ) -> PairAnswer
-    requires { ⌜ BothRan (now job) t (now second) (r .progress) (s .progress) (now «first_trace») (now «second_trace») ⌝ }
-    ensures { λ x. ⌜ x ≡ comparedOf (now (job .entry)) t (now (second .entry)) (r .stop) (r .progress) (s .stop) (s .progress) (now («first_trace» .entry)) (now («second_trace» .entry)) ⌝ }
+    requires { ⌜ BothRan (now job) t (now second) (r .counts) (s .counts) (now «first_trace») (now «second_trace») ⌝ }
+    ensures { λ x. ⌜ x ≡ comparedOf (now (job .entry)) t (now (second .entry)) (r .counts) (s .counts) (now («first_trace» .entry)) (now («second_trace» .entry)) ⌝ }
 {
     let public = job::public_list(job, t);
     let n = t.locations();
     let alike = transfer::alike_bytes(public, job, t.state, second, n);
-    let c = job_run::counts_of(r);
-    let d = job_run::counts_of(s);
+    let c = r.counts;
+    let d = s.counts;
     let first_stop = c.stop;
     let second_stop = d.stop;
     let k = 2 * c.observations;

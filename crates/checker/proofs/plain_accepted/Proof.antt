@@ -8,7 +8,9 @@ use Rattle.checker.proofs.plain_accepted.Statement.{statement}
 use Rattle.checker.proofs.plain_accepted.Tie as tie
 
 locations-requires : tie.Need-locations-requires
-locations-requires c κs = let l = accepted-limits (c .before .before .before .before .pre) .cells in omega arith
+locations-requires c κs =
+    let at-start = c .before .before .before .before in
+    let l = accepted-limits (at-start .pre) .cells in omega arith
 
 areas-fit-requires : tie.Need-areas-fit-requires
 areas-fit-requires c κs = search needs
@@ -18,13 +20,21 @@ plain-refused-requires c κs = search needs
 
 returns : tie.Need-returns
 returns c =
-    let a = c .before .before .before .before .before .before .before .before .before .before .args in
-    plain-short-areas (c .before .before .before .before .before .before .before .before .before .before .pre) (a .trace .now) (a .end .now) (a .work .now) (rw (c .before .before .before .before .before .locations .ensures) at (c .before .before .areas-fit .ensures)) (not-true _ (c .before .if1 .taken)) (c .plain-refused .ensures)
+    let at-if1 = c .before in
+    let at-areas-fit = at-if1 .before in
+    let at-locations = at-areas-fit .before .before .before in
+    let at-start = at-locations .before .before .before .before .before in
+    let a = at-start .args in
+    plain-short-areas (at-start .pre) (a .trace .now) (a .end .now) (a .work .now) (rw (at-locations .locations .ensures) at (at-areas-fit .areas-fit .ensures)) (not-true _ (at-if1 .if1 .taken)) (c .plain-refused .ensures)
 
 run-in-areas-requires : tie.Need-run-in-areas-requires
 run-in-areas-requires c κs =
-    let a = c .before .before .before .before .before .before .before .before .before .before .before .before .args in
-    areas-fit (c .before .before .before .before .before .before .before .before .before .before .before .before .pre) (a .trace .now) (a .end .now) (a .work .now) (rw (c .before .before .before .before .before .before .before .locations .ensures) at (c .before .before .before .before .areas-fit .ensures)) (not-false _ (c .before .before .before .if1 .left))
+    let at-if1 = c .before .before .before in
+    let at-areas-fit = at-if1 .before in
+    let at-locations = at-areas-fit .before .before .before in
+    let at-start = at-locations .before .before .before .before .before in
+    let a = at-start .args in
+    areas-fit (at-start .pre) (a .trace .now) (a .end .now) (a .work .now) (rw (at-locations .locations .ensures) at (at-areas-fit .areas-fit .ensures)) (not-false _ (at-if1 .if1 .left))
 
 plain-report-requires : tie.Need-plain-report-requires
 plain-report-requires c κs = search needs
@@ -46,8 +56,13 @@ same-length-5 c = search needs
 
 returns-2 : tie.Need-returns-2
 returns-2 c =
-    let a = c .before .before .before .before .before .before .before .before .before .before .before .before .before .before .before .before .before .before .before .before .args in
-    plain-ran (c .before .before .before .before .before .before .before .before .before .before .before .before .before .before .before .before .before .before .before .before .pre) (a .trace .now) (a .end .now) (a .work .now) (rw (c .before .before .before .before .before .before .before .before .before .before .before .before .before .before .before .locations .ensures) at (c .before .before .before .before .before .before .before .before .before .before .before .before .areas-fit .ensures)) (not-false _ (c .before .before .before .before .before .before .before .before .before .before .before .if1 .left)) (c .before .before .before .before .before .before .before .run-in-areas .ensures) (c .plain-report .ensures)
+    let at-run-in-areas = c .before .before .before .before .before .before .before in
+    let at-if1 = at-run-in-areas .before .before .before .before in
+    let at-areas-fit = at-if1 .before in
+    let at-locations = at-areas-fit .before .before .before in
+    let at-start = at-locations .before .before .before .before .before in
+    let a = at-start .args in
+    plain-ran (at-start .pre) (a .trace .now) (a .end .now) (a .work .now) (rw (at-locations .locations .ensures) at (at-areas-fit .areas-fit .ensures)) (not-false _ (at-if1 .if1 .left)) (at-run-in-areas .run-in-areas .ensures) (c .plain-report .ensures)
 
 pub plain-accepted-spec : {M : Type 1} → statement M
 plain-accepted-spec =

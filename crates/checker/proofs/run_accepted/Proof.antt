@@ -8,7 +8,9 @@ use Rattle.checker.proofs.run_accepted.Statement.{statement}
 use Rattle.checker.proofs.run_accepted.Tie as tie
 
 locations-requires : tie.Need-locations-requires
-locations-requires c κs = let l = accepted-limits (c .before .before .before .before .pre) .cells in omega arith
+locations-requires c κs =
+    let at-start = c .before .before .before .before in
+    let l = accepted-limits (at-start .pre) .cells in omega arith
 
 areas-fit-requires : tie.Need-areas-fit-requires
 areas-fit-requires c κs = search needs
@@ -18,19 +20,29 @@ run-refused-requires c κs = search needs
 
 returns : tie.Need-returns
 returns c =
-    let a = c .before .before .before .before .before .before .before .before .before .before .args in
-    exact-short (c .before .before .before .before .before .before .before .before .before .before .pre) (a .trace .now) (a .end .now) (a .work .now) (rw (c .before .before .before .before .before .locations .ensures) at (c .before .before .areas-fit .ensures)) (not-true _ (c .before .if1 .taken)) (c .run-refused .ensures)
+    let at-if1 = c .before in
+    let at-areas-fit = at-if1 .before in
+    let at-locations = at-areas-fit .before .before .before in
+    let at-start = at-locations .before .before .before .before .before in
+    let a = at-start .args in
+    exact-short (at-start .pre) (a .trace .now) (a .end .now) (a .work .now) (rw (at-locations .locations .ensures) at (at-areas-fit .areas-fit .ensures)) (not-true _ (at-if1 .if1 .taken)) (c .run-refused .ensures)
 
 run-in-areas-requires : tie.Need-run-in-areas-requires
 run-in-areas-requires c κs =
-    let a = c .before .before .before .before .before .before .before .before .before .before .before .before .args in
-    areas-fit (c .before .before .before .before .before .before .before .before .before .before .before .before .pre) (a .trace .now) (a .end .now) (a .work .now) (rw (c .before .before .before .before .before .before .before .locations .ensures) at (c .before .before .before .before .areas-fit .ensures)) (not-false _ (c .before .before .before .if1 .left))
+    let at-if1 = c .before .before .before in
+    let at-areas-fit = at-if1 .before in
+    let at-locations = at-areas-fit .before .before .before in
+    let at-start = at-locations .before .before .before .before .before in
+    let a = at-start .args in
+    areas-fit (at-start .pre) (a .trace .now) (a .end .now) (a .work .now) (rw (at-locations .locations .ensures) at (at-areas-fit .areas-fit .ensures)) (not-false _ (at-if1 .if1 .left))
 
 public-list-requires : tie.Need-public-list-requires
-public-list-requires c κs = let f = accepted-length (c .before .before .before .before .before .before .before .before .before .before .before .before .before .before .before .before .before .before .before .pre) in omega arith
+public-list-requires c κs =
+    let at-start = c .before .before .before .before .before .before .before .before .before .before .before .before .before .before .before .before .before .before .before in
+    let f = accepted-length (at-start .pre) in omega arith
 
 report-requires : tie.Need-report-requires
-report-requires c κs = let k = c .before .before .before .before .before .before .before .before .before .before .before .before .before .before .before .before .before .before .before .before .pre in c .before .before .before .before .before .before .before .run-in-areas .ensures .ran (k .job) (k .parsed) .depth
+report-requires c κs = search needs
 
 same-length : tie.Need-same-length
 same-length c = search needs
@@ -49,8 +61,14 @@ same-length-5 c = search needs
 
 returns-2 : tie.Need-returns-2
 returns-2 c =
-    let a = c .before .before .before .before .before .before .before .before .before .before .before .before .before .before .before .before .before .before .before .before .before .args in
-    exact-ran (c .before .before .before .before .before .before .before .before .before .before .before .before .before .before .before .before .before .before .before .before .before .pre) (a .trace .now) (a .end .now) (a .work .now) (rw (c .before .before .before .before .before .before .before .before .before .before .before .before .before .before .before .before .locations .ensures) at (c .before .before .before .before .before .before .before .before .before .before .before .before .before .areas-fit .ensures)) (not-false _ (c .before .before .before .before .before .before .before .before .before .before .before .before .if1 .left)) (c .before .before .before .before .before .before .before .before .run-in-areas .ensures) (c .before .public-list .ensures) (c .report .ensures)
+    let at-public-list = c .before in
+    let at-run-in-areas = at-public-list .before .before .before .before .before .before .before in
+    let at-if1 = at-run-in-areas .before .before .before .before in
+    let at-areas-fit = at-if1 .before in
+    let at-locations = at-areas-fit .before .before .before in
+    let at-start = at-locations .before .before .before .before .before in
+    let a = at-start .args in
+    exact-ran (at-start .pre) (a .trace .now) (a .end .now) (a .work .now) (rw (at-locations .locations .ensures) at (at-areas-fit .areas-fit .ensures)) (not-false _ (at-if1 .if1 .left)) (at-run-in-areas .run-in-areas .ensures) (at-public-list .public-list .ensures) (c .report .ensures)
 
 pub run-accepted-spec : {M : Type 1} → statement M
 run-accepted-spec =

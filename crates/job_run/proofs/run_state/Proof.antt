@@ -1,8 +1,7 @@
 -- `run_state` meets its contract: the state and the labels are loaded, and the run is made from there. Assumes nothing.
 use native.Mathlib.Omega.{arith}
-use Rattle.job_run.specs.JobRuns.{job-loaded, run-of}
 use Rattle.job_run.specs.Accepted.{accepted-limits, accepted-list, accepted-length}
-use Rattle.job_run.proofs.Laws.{same-part}
+use Rattle.job_run.proofs.Laws.{same-part, loaded, run-of}
 use borrow.Author.Needs.{needs}
 use Rattle.job_run.proofs.run_state.Statement.{statement}
 use Rattle.job_run.proofs.run_state.Tie as tie
@@ -12,7 +11,8 @@ locations-requires c κs = search needs
 
 load-state-requires : tie.Need-load-state-requires
 load-state-requires c κs =
-    let r = c .before .before .before .before .before .before .pre in
+    let at-start = c .before .before .before .before .before .before in
+    let r = at-start .pre in
     let l = accepted-limits (r .accepts) .cells in
     let s = r .state in
     let m = r .room in
@@ -26,27 +26,33 @@ part-p-start c = search needs
 
 part-p-end : tie.Need-part-p-end
 part-p-end c =
-    let r = c .before .before .before .before .before .before .before .before .before .pre in
+    let at-start = c .before .before .before .before .before .before .before .before .before in
+    let r = at-start .pre in
     let e = accepted-list (r .accepts) in
     let f = accepted-length (r .accepts) in
     omega arith
 
-load-labels-requires : tie.Need-load-labels-requires
-load-labels-requires c κs =
-    let r = c .before .before .before .before .before .before .before .before .before .before .before .pre in
+write-words-requires : tie.Need-write-words-requires
+write-words-requires c κs =
+    let at-load-state = c .before .before .before .before in
+    let at-start = at-load-state .before .before .before .before .before .before .before in
+    let r = at-start .pre in
     let l = accepted-limits (r .accepts) .count-most in
-    let s = c .before .before .before .before .load-state .ensures .size in
+    let s = at-load-state .load-state .ensures .size in
     let m = r .room in
     omega arith
 
 run-requires : tie.Need-run-requires
 run-requires c κs =
-    let r = c .before .before .before .before .before .before .before .before .before .before .before .before .before .before .before .before .pre in
-    let a = c .before .before .before .before .before .before .before .before .before .before .before .before .before .before .before .before .args in
-    let s = c .before .before .before .before .before .before .before .before .before .load-state .ensures .size in
-    let z = c .before .before .before .before .load-labels .ensures .size in
+    let at-write-words = c .before .before .before .before in
+    let at-load-state = at-write-words .before .before .before .before .before in
+    let at-start = at-load-state .before .before .before .before .before .before .before in
+    let r = at-start .pre in
+    let a = at-start .args in
+    let l = accepted-limits (r .accepts) .count-most in
+    let s = at-load-state .load-state .ensures .size in
     let m = r .room in
-    (job-loaded (r .accepts) (same-part (a .t .state) (a .job .now)) (c .before .before .before .before .load-labels .ensures), omega arith)
+    loaded (r .accepts) (same-part (a .t .state) (a .job .now)) (omega arith) (at-load-state .load-state .ensures) (at-write-words .write-words .ensures) m
 
 same-length : tie.Need-same-length
 same-length c = search needs
@@ -56,8 +62,18 @@ same-length-2 c = search needs
 
 returns : tie.Need-returns
 returns c =
-    let a = c .before .before .before .before .before .before .before .before .before .before .before .before .before .before .before .before .before .before .before .before .before .args in
-    run-of (c .before .before .before .before .before .before .before .before .before .before .before .before .before .before .before .before .before .before .before .before .before .pre .accepts) (same-part (a .t .state) (a .job .now)) (rw (c .before .before .before .before .before .before .before .before .before .before .before .before .before .before .before .before .locations .ensures) at (c .before .before .before .before .before .before .before .before .before .before .before .before .before .before .load-state .ensures)) (c .before .before .before .before .before .before .before .before .before .load-labels .ensures) (c .before .before .before .before .run .ensures)
+    let at-run = c .before .before .before .before in
+    let at-write-words = at-run .before .before .before .before .before in
+    let at-load-state = at-write-words .before .before .before .before .before in
+    let at-locations = at-load-state .before .before in
+    let at-start = at-locations .before .before .before .before .before in
+    let a = at-start .args in
+    let r = at-start .pre in
+    let l = accepted-limits (r .accepts) .count-most in
+    let s = at-load-state .load-state .ensures .size in
+    let m = r .room in
+    run-of (r .accepts) (same-part (a .t .state) (a .job .now)) (omega arith) (rw (at-locations .locations .ensures) at (at-load-state .load-state .ensures))
+    (at-write-words .write-words .ensures) (at-run .run .ensures)
 
 pub run-state-spec : {M : Type 1} → statement M
 run-state-spec =
@@ -68,7 +84,7 @@ run-state-spec =
     sub-p
     part-p-start
     part-p-end
-    load-labels-requires
+    write-words-requires
     run-requires
     same-length
     same-length-2
