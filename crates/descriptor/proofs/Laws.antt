@@ -9,7 +9,7 @@ use borrow.Author.Tests.{ne-eqb}
 use Rattle.rules.specs.Rules.JobFile.{little}
 use Rattle.rules.specs.Theorems.Readers.{readable, unread}
 use Rattle.instruction.specs.Fields.{instr-unknown, instr-read}
-use Rattle.descriptor.specs.Descriptors.{nothingRead, kindShapes, shapeAt, labelAt, Standing}
+use Rattle.descriptor.specs.Descriptors.{nothingRead, kindShapes, shapeAt, labelAt, WithExpression}
 
 -- a kind that is none of 1 to 6
 pub shape-nothing : (p : List ℕ) (at : ℕ) → (getD p at 0 ≡ 1 → ⊥) → (getD p at 0 ≡ 2 → ⊥) → (getD p at 0 ≡ 3 → ⊥)
@@ -41,7 +41,7 @@ label-bytes p at {low} {high} k l h =
     rw (k, z, ← l, ← h) (omega arith)
 
 -- ---- an instruction with an expression whose kind is none of 1 to 4
-pub kind-six : (p : List ℕ) (at : ℕ) → Standing p at → (getD p at 0 ≡ 1 → ⊥) → (getD p at 0 ≡ 2 → ⊥) → (getD p at 0 ≡ 3 → ⊥)
+pub kind-six : (p : List ℕ) (at : ℕ) → WithExpression p at → (getD p at 0 ≡ 1 → ⊥) → (getD p at 0 ≡ 2 → ⊥) → (getD p at 0 ≡ 3 → ⊥)
     → (getD p at 0 ≡ 4 → ⊥) → getD p at 0 ≡ 6
 unfolding readable
 kind-six p at s a b c d = go (getD p at 0) refl

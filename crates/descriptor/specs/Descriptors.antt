@@ -144,7 +144,7 @@ abbrev pub NoBranch : Instr → Type 0
 NoBranch x = (r l : ℕ) → x ≡ beqz r l → ⊥
 
 -- An instruction with an expression stands at an offset.
-pub record Standing (p : List ℕ) (at : ℕ) : Type 0 where
+pub record WithExpression (p : List ℕ) (at : ℕ) : Type 0 where
   pub read : readable (instr p at) ≡ true
   pub kind : (getD p at 0 ≡ 0 → ⊥) × (getD p at 0 ≡ 5 → ⊥) × (getD p at 0 ≡ 7 → ⊥)
   pub other : NoBranch (valueOr skip (instr p at))
@@ -158,18 +158,18 @@ General p at x =
 -- What the shapes say of the bytes and of the instruction x at an offset, whose first register is r.
 abbrev pub ShapeMeans : ℕ → List ℕ → ℕ → ℕ → Instr → Type 0
 ShapeMeans zero p at r x = Unit
-ShapeMeans (suc zero) p at r x = Standing p at × (firstTokens x ≡ reg r ∷ []) × (r < registers)
-ShapeMeans (suc (suc zero)) p at r x = Standing p at × (firstTokens x ≡ const (little p (at + 4) 8) ∷ []) × (at + 12 ≤ length p)
+ShapeMeans (suc zero) p at r x = WithExpression p at × (firstTokens x ≡ reg r ∷ []) × (r < registers)
+ShapeMeans (suc (suc zero)) p at r x = WithExpression p at × (firstTokens x ≡ const (little p (at + 4) 8) ∷ []) × (at + 12 ≤ length p)
 ShapeMeans (suc (suc (suc zero))) p at r x =
-    Standing p at × (firstTokens x ≡ reg r ∷ const (little p (at + 5) 8) ∷ operatorOf (getD p (at + 13) 0) ∷ [])
+    WithExpression p at × (firstTokens x ≡ reg r ∷ const (little p (at + 5) 8) ∷ operatorOf (getD p (at + 13) 0) ∷ [])
     × (r < registers) × (at + 14 ≤ length p) × (19 ≤ getD p (at + 13) 0)
 ShapeMeans (suc (suc (suc (suc zero)))) p at r x =
-    Standing p at × (firstTokens x ≡ reg r ∷ reg (getD p (at + 4) 0) ∷ operatorOf (getD p (at + 5) 0) ∷ [])
+    WithExpression p at × (firstTokens x ≡ reg r ∷ reg (getD p (at + 4) 0) ∷ operatorOf (getD p (at + 5) 0) ∷ [])
     × (r < registers) × (getD p (at + 4) 0 < registers) × (at + 6 ≤ length p) × (19 ≤ getD p (at + 5) 0)
 ShapeMeans (suc (suc (suc (suc (suc zero))))) p at r x =
-    Standing p at × (firstTokens x ≡ const (little p (at + 3) 8) ∷ []) × (at + 11 ≤ length p)
+    WithExpression p at × (firstTokens x ≡ const (little p (at + 3) 8) ∷ []) × (at + 11 ≤ length p)
 ShapeMeans (suc (suc (suc (suc (suc (suc zero)))))) p at r x = Unit
-ShapeMeans (suc (suc (suc (suc (suc (suc (suc n))))))) p at r x = Standing p at × General p at x
+ShapeMeans (suc (suc (suc (suc (suc (suc (suc n))))))) p at r x = WithExpression p at × General p at x
 
 -- A descriptor of an accepted program's instruction: the instruction keeps the postfix rule, names registers below 16, and is what
 -- the shape says.

@@ -20,7 +20,7 @@ use Rattle.instruction.specs.Registers.{RegistersBelow, instr-below}
 use Rattle.descriptor.specs.declared.Descriptor.{Descriptor}
 use Rattle.descriptor.specs.Descriptors.{oneShape, threeShape, expressionShape, jumpShape, nothingRead, kindShapes, shapeAt, firstBy, firstAt, labelBy, labelAt, countAt}
 use Rattle.descriptor.specs.Descriptors.{offsets, shapes, firsts, wordAt, descriptorIn, bare, instructionBy, instructionIn}
-use Rattle.descriptor.specs.Descriptors.{operatorOf, firstTokens, NoBranch, Standing, General, ShapeMeans, Valid}
+use Rattle.descriptor.specs.Descriptors.{operatorOf, firstTokens, NoBranch, WithExpression, General, ShapeMeans, Valid}
 
 -- ---- tokens by their bytes; q is the offset after the token
 register-token : (p : List ℕ) (at q : ℕ) → q ≡ at + 1 → readable (token p at) ≡ true → getD p at 0 < 16 → token p at ≡ got (reg (getD p at 0)) q
@@ -130,7 +130,7 @@ stands-by : (s : ℕ) (p : List ℕ) (at r l : ℕ) → (s ≡ 0 → ⊥) → (s
 stands-by s p at r l a b = rw (ne-eqb s 0 a, ne-eqb s 6 b)
 
 -- tokens that stand three bytes after the instruction's offset
-of-tokens : (s : ℕ) (p : List ℕ) (at l : ℕ) (x : Instr) → valueOr skip (instr p at) ≡ x → Standing p at → General p at x
+of-tokens : (s : ℕ) (p : List ℕ) (at l : ℕ) (x : Instr) → valueOr skip (instr p at) ≡ x → WithExpression p at → General p at x
     → TokensMean s p (at + 3) (firstTokens x) → Meant s p at (getD p (at + 3) 0 % firsts) l x
 of-tokens zero p at l x e t g m = absurd m
 of-tokens (suc zero) p at l x e t g m =
@@ -162,7 +162,7 @@ of-tokens (suc (suc (suc (suc (suc (suc (suc s))))))) p at l x e t g m =
     (stands-by k p at (getD p (at + 3) 0 % firsts) l (λ z. omega arith) (λ z. omega arith) ∙ e, (t, g))
 
 -- an expression whose token count stands two bytes after the instruction's offset
-of-expression : (p : List ℕ) (at l : ℕ) (x : Instr) → countAt p at ≡ at + 2 → valueOr skip (instr p at) ≡ x → Standing p at → General p at x
+of-expression : (p : List ℕ) (at l : ℕ) (x : Instr) → countAt p at ≡ at + 2 → valueOr skip (instr p at) ≡ x → WithExpression p at → General p at x
     → Meant (expressionShape p (at + 2)) p at (getD p (at + 3) 0 % firsts) l x
 of-expression p at l x n e t g =
     let z : at + 2 + 1 ≡ at + 3 = omega arith in
@@ -170,7 +170,7 @@ of-expression p at l x n e t g =
     of-tokens (expressionShape p (at + 2)) p at l x e t g (rw (← z, f) (expression-means p (at + 2) (rw n at (g .1))))
 
 -- a jump's expression, whose token count stands one byte after the instruction's offset
-of-jump : (p : List ℕ) (at l : ℕ) (x : Instr) → countAt p at ≡ at + 1 → valueOr skip (instr p at) ≡ x → Standing p at → General p at x
+of-jump : (p : List ℕ) (at l : ℕ) (x : Instr) → countAt p at ≡ at + 1 → valueOr skip (instr p at) ≡ x → WithExpression p at → General p at x
     → Meant (jumpShape p (at + 1)) p at (getD p (at + 2) 0 % firsts) l x
 of-jump p at l x n e t g =
     let h = rw n at (g .1) in
@@ -209,7 +209,7 @@ module _ (p : List ℕ) (at : ℕ) (h : readable (instr p at) ≡ true) where
   settle s r l x e m = (m .0 ∙ sym e, rw e (m .1))
 
   standing : (k : ℕ) (x : Instr) → getD p at 0 ≡ k → (k ≡ 0 → ⊥) → (k ≡ 5 → ⊥) → (k ≡ 7 → ⊥) → valueOr skip (instr p at) ≡ x → NoBranch x
-      → Standing p at
+      → WithExpression p at
   standing k x e n₀ n₅ n₇ v n =
       record { read = h; kind = ((λ z. n₀ (sym e ∙ z)), (λ z. n₅ (sym e ∙ z)), λ z. n₇ (sym e ∙ z)); other = rw v n }
 
@@ -379,7 +379,7 @@ other-shaped {p} {d} v n = other-by (d .shape) p (d .at) (d .first) (d .label) (
 
 -- ---- the other shapes
 -- a shape that is neither of those that describe their instruction alone
-standing-by : (s : ℕ) (p : List ℕ) (at r : ℕ) (x : Instr) → (s ≡ 0 → ⊥) → (s ≡ 6 → ⊥) → ShapeMeans s p at r x → Standing p at
+standing-by : (s : ℕ) (p : List ℕ) (at r : ℕ) (x : Instr) → (s ≡ 0 → ⊥) → (s ≡ 6 → ⊥) → ShapeMeans s p at r x → WithExpression p at
 standing-by zero p at r x a b m = absurd (a refl)
 standing-by (suc zero) p at r x a b m = m .0
 standing-by (suc (suc zero)) p at r x a b m = m .0
@@ -390,7 +390,7 @@ standing-by (suc (suc (suc (suc (suc (suc zero)))))) p at r x a b m = absurd (b 
 standing-by (suc (suc (suc (suc (suc (suc (suc s))))))) p at r x a b m = m .0
 
 pub standing-shaped : {p : List ℕ} {d : Descriptor} → Valid p d → (d .shape ≡ 0 → ⊥) → (d .shape ≡ 6 → ⊥)
-    → Standing p (d .at) × (instructionIn p d ≡ valueOr skip (instr p (d .at)))
+    → WithExpression p (d .at) × (instructionIn p d ≡ valueOr skip (instr p (d .at)))
 unfolding instructionIn
 standing-shaped {p} {d} v a b =
     (standing-by (d .shape) p (d .at) (d .first) (instructionIn p d) a b (v .shaped), stands-by (d .shape) p (d .at) (d .first) (d .label) a b)

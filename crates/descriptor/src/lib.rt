@@ -13,7 +13,7 @@ ghost use Rattle.rules.specs.Rules.Instructions.{skip};
 ghost use Rattle.rules.specs.Rules.JobFile.{little, tokens, expr, withRegister, jump, conditional, instr};
 ghost use Rattle.rules.specs.Theorems.Readers.{readable, valueOr};
 ghost use Rattle.instruction.specs.Meaning.{meaning, withRegisterOf};
-ghost use Rattle.descriptor.specs.Descriptors.{oneShape, threeShape, expressionShape, jumpShape, shapeAt, firstAt, labelAt, countAt, wordAt, descriptorIn, constantPlace, operatorPlace, bare, instructionIn, Standing, Valid};
+ghost use Rattle.descriptor.specs.Descriptors.{oneShape, threeShape, expressionShape, jumpShape, shapeAt, firstAt, labelAt, countAt, wordAt, descriptorIn, constantPlace, operatorPlace, bare, instructionIn, WithExpression, Valid};
 
 // `at` is the instruction's offset, `shape` what the instruction reads first. In the shapes that do not name them, `first` and `label`
 // mean nothing; nor does `at` where nothing is read, or by a branch.
@@ -308,7 +308,7 @@ fn conditional_at(p: &[u8], at: usize) -> Instruction
 
 // The instruction at an offset where one with an expression stands: its fields are taken as they are, with no test.
 fn instruction_at(p: &[u8], at: usize) -> Instruction
-    requires { ⌜ Standing (now p) at ⌝ }
+    requires { ⌜ WithExpression (now p) at ⌝ }
     ensures { λ i. ⌜ meaning (now (p .entry)) i ≡ valueOr skip (instr (now (p .entry)) at) ⌝ }
 {
     let k = p[at];

@@ -21,7 +21,7 @@ use Rattle.instruction.specs.declared.Instruction.the-variants.{Skip, Assign, L
 use Rattle.instruction.specs.Meaning.{meaning}
 use Rattle.work.specs.Words.{taggedAt}
 use Rattle.work.specs.Machines.{stateIn}
-use Rattle.effect.proofs.Laws.{register-at, value-in}
+use Rattle.evaluation.proofs.Laws.{register-at, value-in}
 use Rattle.stepping.specs.Progress.{Standing, machineAt}
 use Rattle.stepping.specs.Steps.{Made, CarriedOut}
 use Rattle.execution.specs.Running.{Executing, Performed}

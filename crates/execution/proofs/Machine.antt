@@ -14,9 +14,9 @@ use Rattle.rules.specs.Rules.Mispredicting.{Branch, Machine, Step, expired, rol
 use Rattle.rules.specs.Rules.Runs.{overOn, over}
 use Rattle.rules.specs.Theorems.StepLaws.{branch-or-other, forward-other}
 use Rattle.rules.specs.Rules.Changes.{Change}
-use Rattle.work.specs.declared.BranchEntry.{BranchEntry}
+use Rattle.work.specs.declared.OpenBranch.{OpenBranch}
 use Rattle.work.specs.declared.machine.Control.{Control}
-use Rattle.work.specs.Words.{changeAt, entryAt}
+use Rattle.work.specs.Words.{changeAt, branchAt}
 use Rattle.work.specs.Machines.{stateIn, branchesOf, branches-length, machineOf, WindowBound, Fit}
 use Rattle.execution.specs.declared.Mode.{Mode}
 use Rattle.execution.specs.declared.Mode.the-variants as modes
@@ -40,7 +40,7 @@ closed-inside zero last p h = lt-leb last p h
 closed-inside (suc d) last p h = refl
 
 module _ (code : Code) where
-  over-branches : (e : ℕ → BranchEntry) (g : ℕ → Change) (σ : State) (v k d p : ℕ)
+  over-branches : (e : ℕ → OpenBranch) (g : ℕ → Change) (σ : State) (v k d p : ℕ)
       → overOn code p (branchesOf e g σ v k d) ≡ closedAt d (endPlace code) p
   unfolding overOn
   over-branches e g σ v k zero p = refl
@@ -48,10 +48,10 @@ module _ (code : Code) where
 
   pub over-closed : (w : List ℕ) (c : Control) (n : ℕ) → over code (machineOf w c n) ≡ closedAt (c .depth) (endPlace code) (c .place)
   unfolding over
-  over-closed w c n = over-branches (entryAt w) (changeAt w) (stateIn w n) (c .window) (c .log) (c .depth) (c .place)
+  over-closed w c n = over-branches (branchAt w) (changeAt w) (stateIn w n) (c .window) (c .log) (c .depth) (c .place)
 
 -- ---- rule 1, by the control's numbers
-module _ (e : ℕ → BranchEntry) (g : ℕ → Change) (σ : State) (v k : ℕ) where
+module _ (e : ℕ → OpenBranch) (g : ℕ → Change) (σ : State) (v k : ℕ) where
   expired-depth : (d n p : ℕ) → expiredOn n p (branchesOf e g σ v k d) ≡ true → 0 < d
   expired-depth zero n p h = absurd (true≢false (sym h))
   expired-depth (suc d) n p h = omega arith
@@ -84,17 +84,17 @@ module _ (c : Control) (last : ℕ) (w : List ℕ) (n : ℕ) where
   pub names-end : last ≤ c .place → (c .depth ≡ 0 → ⊥) → rule.RollBack ≡ ruleAt last (c .depth) (machineOf w c n)
   names-end h o =
       named (sym (closed-open (c .depth) last (c .place) o))
-      (expired-end (entryAt w) (changeAt w) (stateIn w n) (c .window) (c .log) (c .depth) last (c .place) o h)
+      (expired-end (branchAt w) (changeAt w) (stateIn w n) (c .window) (c .log) (c .depth) last (c .place) o h)
 
   pub names-spent : (c .depth ≡ 0 → 0 < c .window) → c .place < last → c .window ≡ 0 → rule.RollBack ≡ ruleAt last (c .depth) (machineOf w c n)
   names-spent some h z =
       named (closed-inside (c .depth) last (c .place) h)
-      (expired-spent (entryAt w) (changeAt w) (stateIn w n) (c .window) (c .log) (c .depth) last (c .place) (λ d. let k = some d in omega arith) z)
+      (expired-spent (branchAt w) (changeAt w) (stateIn w n) (c .window) (c .log) (c .depth) last (c .place) (λ d. let k = some d in omega arith) z)
 
   pub names-advance : c .place < last → (c .window ≡ 0 → ⊥) → rule.Advance ≡ ruleAt last (c .depth) (machineOf w c n)
   names-advance h o =
       named (closed-inside (c .depth) last (c .place) h)
-      (expired-not (entryAt w) (changeAt w) (stateIn w n) (c .window) (c .log) (c .depth) last (c .place) o h)
+      (expired-not (branchAt w) (changeAt w) (stateIn w n) (c .window) (c .log) (c .depth) last (c .place) o h)
 
   -- and what the names say
   pub over-named : rule.Over ≡ ruleAt last (c .depth) (machineOf w c n) → closedAt (c .depth) last (c .place) ≡ true
@@ -127,11 +127,11 @@ module _ (c : Control) (last : ℕ) (w : List ℕ) (n : ℕ) where
       go false false a b h = record { on = a; top = b }
 
   pub open-back : Going true → 0 < c .depth
-  open-back g = expired-depth (entryAt w) (changeAt w) (stateIn w n) (c .window) (c .log) (c .depth) last (c .place) (g .top)
+  open-back g = expired-depth (branchAt w) (changeAt w) (stateIn w n) (c .window) (c .log) (c .depth) last (c .place) (g .top)
 
 -- with nothing open the window is not 0
 pub closed-window : {w : List ℕ} (c : Control) → Fit w c → c .depth ≡ 0 → 0 < c .window
-closed-window {w} c f z = subst (λ (d : ℕ). WindowBound (entryAt w) (c .window) d (c .log)) z (f .bound) .1
+closed-window {w} c f z = subst (λ (d : ℕ). WindowBound (branchAt w) (c .window) d (c .log)) z (f .bound) .1
 
 -- where the instruction at the place is next there is some window left, and the place is one of the program's
 module _ (c : Control) (last : ℕ) (w : List ℕ) (n : ℕ) where
@@ -147,7 +147,7 @@ module _ (c : Control) (last : ℕ) (w : List ℕ) (n : ℕ) where
           eqb-not zero e = absurd (true≢false e)
           eqb-not (suc v) e = omega arith
 
-      go : (d : ℕ) → expiredOn last (c .place) (branchesOf (entryAt w) (changeAt w) (stateIn w n) (c .window) (c .log) d) ≡ false → 0 < d
+      go : (d : ℕ) → expiredOn last (c .place) (branchesOf (branchAt w) (changeAt w) (stateIn w n) (c .window) (c .log) d) ≡ false → 0 < d
           → (0 < c .window) × (c .place < last)
       go zero h lt = absurd (omega arith)
       go (suc d) h lt = pick (c .window) (eqb (c .window) 0) (leb last (c .place)) refl refl h
@@ -175,7 +175,7 @@ module _ {c : Control} {last : ℕ} {w : List ℕ} {n : ℕ} where
   pub still-going : c .place < last → 0 < c .window → Going c last w n false
   still-going h v = record {
     on = closed-inside (c .depth) last (c .place) h;
-    top = expired-not (entryAt w) (changeAt w) (stateIn w n) (c .window) (c .log) (c .depth) last (c .place) (λ z. omega arith) h;
+    top = expired-not (branchAt w) (changeAt w) (stateIn w n) (c .window) (c .log) (c .depth) last (c .place) (λ z. omega arith) h;
   }
 
 -- ---- the rules' step: a top branch that has expired, or not
@@ -220,7 +220,7 @@ pub plain-closed : (code : Code) (w w′ : List ℕ) (c c′ : Control) (n : ℕ
     → machineOf w′ c′ n ≡ plainStep code (machineOf w c n) .next → c′ .depth ≡ 0
 unfolding plainStep ordinary lower
 plain-closed code w w′ c c′ n d e =
-    sym (branches-length (entryAt w′) (changeAt w′) (stateIn w′ n) (c′ .window) (c′ .log) (c′ .depth))
+    sym (branches-length (branchAt w′) (changeAt w′) (stateIn w′ n) (c′ .window) (c′ .log) (c′ .depth))
     ∙ ap (λ (M : Machine). length (M .branches)) (rw d at e)
 
 -- ---- what an instruction opens: one that is no branch is rule 3's

@@ -17,7 +17,7 @@ use Rattle.rules.specs.Rules.Instructions.{Instr, Observation}
 use Rattle.rules.specs.Rules.Plain.{Code, endPlace, fetch}
 use Rattle.rules.specs.Rules.Mispredicting.{Machine, Step, rolling, opening, ordinary, forward}
 use Rattle.rules.specs.Rules.Loop.{ended}
-use Rattle.rules.specs.Rules.Runs.{Log, Result, fits, over, run}
+use Rattle.rules.specs.Rules.Runs.{Gathered, Result, fits, over, run}
 use Rattle.rules.specs.Rules.JobFile.{locations}
 use Rattle.rules.specs.Rules.Calls.{written, traceWords, workingWords, counts}
 use Rattle.rules.specs.Theorems.RunLaws.{run-over, run-spent, run-full, run-step}
@@ -29,7 +29,7 @@ use Rattle.work.specs.declared.machine.Control.{Control}
 use Rattle.work.specs.Layout.{labels}
 use Rattle.work.specs.Machines.{machineOf}
 use Rattle.stepping.specs.declared.Progress.{Progress}
-use Rattle.stepping.specs.Progress.{Standing, standing, machineAt, logOf}
+use Rattle.stepping.specs.Progress.{Standing, standing, machineAt, gatheredOf}
 use Rattle.stepping.specs.Steps.{Made, RolledBackTo}
 use Rattle.execution.specs.declared.Mode.{Mode}
 use Rattle.execution.specs.declared.Mode.the-variants as modes
@@ -86,7 +86,7 @@ module _ (p : List ℕ) (t : Trailer) where
       pub halts-finished : closedAt (control .depth) (t .count) (control .place) ≡ true → Halts p t mode x Finished
       halts-finished h = record {
         stops = λ os e.
-            run-over (stepBy mode code) code room (t .budget - x .progress .steps) machine (logOf os (x .progress)) (over-tested ∙ h);
+            run-over (stepBy mode code) code room (t .budget - x .progress .steps) machine (gatheredOf os (x .progress)) (over-tested ∙ h);
       }
 
       module _ (on : closedAt (control .depth) (t .count) (control .place) ≡ false) where
@@ -96,13 +96,13 @@ module _ (p : List ℕ) (t : Trailer) where
         pub halts-spent : t .budget ≤ x .progress .steps → Halts p t mode x Spent
         halts-spent b =
             let z : t .budget - x .progress .steps ≡ 0 = omega arith in
-            record { stops = λ os e. rw z (run-spent (stepBy mode code) code room machine (logOf os (x .progress)) still-on) }
+            record { stops = λ os e. rw z (run-spent (stepBy mode code) code room machine (gatheredOf os (x .progress)) still-on) }
 
         pub permitted : x .progress .steps < t .budget → x .progress .observations + length (nextStep p t mode x .obs) ≤ room → Permitted p t mode x
         permitted b h = record { on = still-on; left = b; room = h }
 
         not-fitting : (os : List Observation) → length os ≡ x .progress .observations
-            → room < x .progress .observations + length (nextStep p t mode x .obs) → fits room (nextStep p t mode x) (logOf os (x .progress)) ≡ false
+            → room < x .progress .observations + length (nextStep p t mode x .obs) → fits room (nextStep p t mode x) (gatheredOf os (x .progress)) ≡ false
         unfolding fits
         not-fitting os e h = lt-leb (length os + length (nextStep p t mode x .obs)) room (rw e h)
 
@@ -112,7 +112,7 @@ module _ (p : List ℕ) (t : Trailer) where
             let k : t .budget - x .progress .steps ≡ suc (t .budget - (x .progress .steps + 1)) = omega arith in
             record {
               stops = λ os e.
-                  rw k (run-full (stepBy mode code) code room (t .budget - (x .progress .steps + 1)) machine (logOf os (x .progress)) still-on
+                  rw k (run-full (stepBy mode code) code room (t .budget - (x .progress .steps + 1)) machine (gatheredOf os (x .progress)) still-on
                   (not-fitting os e h));
             }
 
@@ -230,7 +230,7 @@ module _ (p : List ℕ) (t : Trailer) where
           }
 
       fitting : (a₀ : List ℕ) (os : List Observation) (s : Step) → length os ≡ x .progress .observations
-          → x .progress .observations + length (s .obs) ≤ length a₀ / 2 → fits (length a₀ / 2) s (logOf os (x .progress)) ≡ true
+          → x .progress .observations + length (s .obs) ≤ length a₀ / 2 → fits (length a₀ / 2) s (gatheredOf os (x .progress)) ≡ true
       unfolding fits
       fitting a₀ os s e h = le-leb (length os + length (s .obs)) (length a₀ / 2) (rw e h)
 
@@ -253,11 +253,11 @@ module _ (p : List ℕ) (t : Trailer) where
             size = trace-size ∙ g .size;
             frame = n .frame ∙ g .frame;
             rest =
-                ap₂ (λ (N : Machine) (h : Log). run (stepBy mode begun) begun (length a₀ / 2) (t .budget - y .progress .steps) N h)
-                (n .machine) (n .log os)
-                ∙ sym (run-step (stepBy mode begun) begun (length a₀ / 2) (t .budget - y .progress .steps) M (logOf os (x .progress)) on
+                ap₂ (λ (N : Machine) (h : Gathered). run (stepBy mode begun) begun (length a₀ / 2) (t .budget - y .progress .steps) N h)
+                (n .machine) (n .gathered os)
+                ∙ sym (run-step (stepBy mode begun) begun (length a₀ / 2) (t .budget - y .progress .steps) M (gatheredOf os (x .progress)) on
                 (fitting a₀ os s (g .count) more))
-                ∙ ap (λ (i : ℕ). run (stepBy mode begun) begun (length a₀ / 2) i M (logOf os (x .progress))) (sym k)
+                ∙ ap (λ (i : ℕ). run (stepBy mode begun) begun (length a₀ / 2) i M (gatheredOf os (x .progress))) (sym k)
                 ∙ g .rest;
           }
 
@@ -358,25 +358,25 @@ module _ (p : List ℕ) (t : Trailer) where
     unfolding ended counts
     ends {w₀} {a₀} {x} {s} {R} r g h =
         let M = machineAt x (locations t) in
-        let log = logOf (g .observed) (x .progress) in
+        let log = gatheredOf (g .observed) (x .progress) in
         let begun = codeIn p t (drop labels w₀) in
         let k = t .budget - x .progress .steps in
         let halts : run (stepBy mode begun) begun (length a₀ / 2) k M log ≡ ended s M log =
         subst (λ (ws : List ℕ). run (stepBy mode (codeIn p t ws)) (codeIn p t ws) (length a₀ / 2) k M log ≡ ended s M log) (g .frame)
         (rw (g .size) at (h .stops (g .observed) (g .count))) in
         let e : ended s M log ≡ R = sym halts ∙ g .rest in
-        let same : g .observed ≡ R .log .trace = ap (λ (z : Result). z .log .trace) e in
+        let same : g .observed ≡ R .gathered .trace = ap (λ (z : Result). z .gathered .trace) e in
         record {
           ends = record {
             reports = record {
               counts = λ i. record {
                 stop = e i .stop;
                 observations = (sym (g .count) ∙ ap length same) i;
-                steps = e i .log .steps;
-                rollbacks = e i .log .rollbacks;
+                steps = e i .gathered .steps;
+                rollbacks = e i .gathered .rollbacks;
               };
-              full = ap (λ (z : Result). z .log .full) e;
-              plain = ap (λ (z : Result). z .log .plain) e;
+              full = ap (λ (z : Result). z .gathered .full) e;
+              plain = ap (λ (z : Result). z .gathered .plain) e;
             };
             trace = rw same at (g .trace);
             state = ap (λ (z : Result). z .last .state) e;

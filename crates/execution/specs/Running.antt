@@ -29,7 +29,7 @@ use Rattle.work.specs.Layout.{labels}
 use Rattle.work.specs.Words.{taggedAt}
 use Rattle.work.specs.Machines.{stateIn, machineOf, Fit}
 use Rattle.stepping.specs.declared.Progress.{Progress}
-use Rattle.stepping.specs.Progress.{Standing, machineAt, logOf, rolledBack}
+use Rattle.stepping.specs.Progress.{Standing, machineAt, gatheredOf, rolledBack}
 use Rattle.stepping.specs.Steps.{Counted, Made, Unexpired}
 use Rattle.execution.specs.declared.Mode.{Mode}
 use Rattle.execution.specs.declared.Mode.the-variants as modes
@@ -90,8 +90,8 @@ pub record Permitted (p : List ℕ) (t : Trailer) (mode : Mode) (x : Standing) :
 pub record Halts (p : List ℕ) (t : Trailer) (mode : Mode) (x : Standing) (s : Stop) : Type 0 where
   pub stops : (os : List Observation) → length os ≡ x .progress .observations
       → run (stepBy mode (codeAt p t x)) (codeAt p t x) (length (x .trace) / 2) (t .budget - x .progress .steps) (machineAt x (locations t))
-      (logOf os (x .progress))
-      ≡ ended s (machineAt x (locations t)) (logOf os (x .progress))
+      (gatheredOf os (x .progress))
+      ≡ ended s (machineAt x (locations t)) (gatheredOf os (x .progress))
 
 -- what halts it, if anything does
 abbrev pub HaltOf : List ℕ → Trailer → Mode → Standing → Halt → Type 0
@@ -136,7 +136,7 @@ pub record Running (p : List ℕ) (t : Trailer) (mode : Mode) (w₀ a₀ : List 
   pub size : length (x .trace) ≡ length a₀
   pub frame : drop labels (x .work) ≡ drop labels w₀
   pub rest : run (stepBy mode (codeIn p t (drop labels w₀))) (codeIn p t (drop labels w₀)) (length a₀ / 2) (t .budget - x .progress .steps)
-      (machineAt x (locations t)) (logOf observed (x .progress))
+      (machineAt x (locations t)) (gatheredOf observed (x .progress))
       ≡ R
 
 -- The run goes on from x to y, by one step at least.
@@ -156,13 +156,13 @@ reportOf s c = record {
 -- the report is that of the run R
 pub record Reports (r : Ran) (R : Result) : Type 0 where
   pub counts : r .counts ≡ counts R
-  pub full : r .full ≡ R .log .full
-  pub plain : r .plain ≡ R .log .plain
+  pub full : r .full ≡ R .gathered .full
+  pub plain : r .plain ≡ R .gathered .plain
 
 -- The run R has ended in the words w and the area, which was a₀: what is reported, the trace, and the last state.
 pub record EndsAs (t : Trailer) (a₀ w area : List ℕ) (r : Ran) (R : Result) : Type 0 where
   pub reports : Reports r R
-  pub trace : area ≡ written (traceWords (R .log .trace)) a₀
+  pub trace : area ≡ written (traceWords (R .gathered .trace)) a₀
   pub state : stateIn w (locations t) ≡ R .last .state
 
 -- and the words from the table of labels on are as they were

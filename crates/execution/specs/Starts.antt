@@ -17,7 +17,7 @@ use Rattle.program.specs.Programs.{programIn}
 use Rattle.work.specs.Layout.{labels}
 use Rattle.work.specs.Machines.{stateIn, machineOf}
 use Rattle.stepping.specs.declared.Progress.{Progress}
-use Rattle.stepping.specs.Progress.{logOf}
+use Rattle.stepping.specs.Progress.{gatheredOf}
 use Rattle.execution.specs.declared.Mode.{Mode}
 use Rattle.execution.specs.declared.Mode.the-variants as modes
 use Rattle.execution.specs.Next.{stepBy}
@@ -37,7 +37,7 @@ beginning = record {
 unfoldable pub whole : List ℕ → Trailer → Mode → List ℕ → List ℕ → Result
 whole p t mode w a =
     let code = codeIn p t (drop labels w) in
-    run (stepBy mode code) code (length a / 2) (t .budget) (machineOf w (beginning .control) (locations t)) (logOf [] beginning)
+    run (stepBy mode code) code (length a / 2) (t .budget) (machineOf w (beginning .control) (locations t)) (gatheredOf [] beginning)
 
 -- ---- of an accepted job, whose program the words describe
 module _ {bs : List ℕ} {job : Job} (q : Passed bs job) where

@@ -41,15 +41,15 @@ fn carry_out(
             stepping::store(&mut work[..], &mut trace[..], c, i, cells, r, a)
         }
         Instruction::Jump(_) => {
-            let place = effect::jump_to(a.value, t.count);
+            let place = evaluation::jump_to(a.value, t.count);
             stepping::go_to(&mut trace[..], c, i, place, a)
         }
         Instruction::BranchZero(_, l) => {
-            let place = effect::branch_to(a, l, next);
+            let place = evaluation::branch_to(a, l, next);
             stepping::go_to(&mut trace[..], c, i, place, a)
         }
         Instruction::AssignIf(r, _, e) => {
-            let v = effect::chosen(p, &work[..], r, a, e);
+            let v = evaluation::chosen(p, &work[..], r, a, e);
             stepping::assign(&mut work[..], c, i, r, v)
         }
         Instruction::Barrier => stepping::skip(c, i),
@@ -91,7 +91,7 @@ fn advance(
     let control = c.control;
     let label = Label::new(control.place);
     let d = program::fetch(&work[..], work::LABELS, label);
-    let a = effect::source_value(p, &work[..], d);
+    let a = evaluation::source_value(p, &work[..], d);
     match opening_of(mode, d) {
         Opening::Branch(r, l) => {
             stepping::open_branch(&mut work[..], &mut trace[..], c, r, l, a, t.window)

@@ -29,21 +29,21 @@ fits-same true true p q s h = ap (λ (z : Bool). firstThatFits true true z s) (h
 module _ (job : Job) (k : ℕ) where
   -- where a run has finished, its trace struck out is the plain run's
   struck-plain : mispredictingRun job k .stop ≡ Finished
-      → struckWords (traceWords (mispredictingRun job k .log .trace)) ≡ traceWords (plainRun job k .log .trace)
-  struck-plain e = struck-trace (mispredictingRun job k .log .trace) ∙ ap traceWords (sym (demand2 job k e .trace))
+      → struckWords (traceWords (mispredictingRun job k .gathered .trace)) ≡ traceWords (plainRun job k .gathered .trace)
+  struck-plain e = struck-trace (mispredictingRun job k .gathered .trace) ∙ ap traceWords (sym (demand2 job k e .trace))
 
 pub word-same : (job : Job) (vs : List ℕ) (k : ℕ)
     → pairWordOf (alikeFrom (job .public) 0 (job .init) vs) (mispredictingRun job k .stop) (mispredictingRun (withState job vs) k .stop)
-    (traceWords (mispredictingRun job k .log .trace)) (traceWords (mispredictingRun (withState job vs) k .log .trace))
+    (traceWords (mispredictingRun job k .gathered .trace)) (traceWords (mispredictingRun (withState job vs) k .gathered .trace))
     ≡ pairWord job vs k
 unfolding pairWord sameTrace
 word-same job vs k =
     let r = mispredictingRun job k in
     let r′ = mispredictingRun (withState job vs) k in
     fits-same (alikeFrom (job .public) 0 (job .init) vs) (isFinished (r .stop) && isFinished (r′ .stop))
-    (sameWords (struckWords (traceWords (r .log .trace))) (struckWords (traceWords (r′ .log .trace))))
-    (sameWords (traceWords (plainRun job k .log .trace)) (traceWords (plainRun (withState job vs) k .log .trace)))
-    (sameWords (traceWords (r .log .trace)) (traceWords (r′ .log .trace)))
+    (sameWords (struckWords (traceWords (r .gathered .trace))) (struckWords (traceWords (r′ .gathered .trace))))
+    (sameWords (traceWords (plainRun job k .gathered .trace)) (traceWords (plainRun (withState job vs) k .gathered .trace)))
+    (sameWords (traceWords (r .gathered .trace)) (traceWords (r′ .gathered .trace)))
     (λ e.
     let x = isFinished (r .stop) in
     let y = isFinished (r′ .stop) in

@@ -28,10 +28,10 @@ printed-words n os rest a e =
 
 -- what a run reports, with its trace area after the call
 pub printed-report : (n : ℕ) (job : Job) (r : Result) (area : List ℕ)
-    → printed n (runReport job r) (written (traceWords (r .log .trace)) area) ≡ answerLines n (r .log .trace) (runReport job r)
+    → printed n (runReport job r) (written (traceWords (r .gathered .trace)) area) ≡ answerLines n (r .gathered .trace) (runReport job r)
 unfolding written runReport counts
 printed-report n job r area =
-    printed-words n (r .log .trace) (drop (length (traceWords (r .log .trace))) area) (runReport job r) refl
+    printed-words n (r .gathered .trace) (drop (length (traceWords (r .gathered .trace))) area) (runReport job r) refl
 
 -- a refused job, whatever stands in the area
 pub printed-refused : (n : ℕ) (cause : Refusal) (trace : List ℕ) → printed n (runRefused cause) trace ≡ answerLines 0 [] (runRefused cause)

@@ -40,7 +40,7 @@ use Rattle.pair.specs.Runs.{comparedOf, Comparable}
 -- ---- a run that has ended: what it wrote fits, and stands from the front
 module _ {t : Trailer} {a w a′ : List ℕ} {r : Ran} (job : Job) (e : EndsAs t a w a′ r (mispredictingRun job (room a))) where
   abbrev trace : List Observation
-  trace = mispredictingRun job (room a) .log .trace
+  trace = mispredictingRun job (room a) .gathered .trace
 
   counted : r .counts .observations ≡ length trace
   unfolding counts
@@ -122,7 +122,7 @@ module _ {bs : List ℕ} {t : Trailer} {second a b w w₁ w₂ a′ b′ : List 
   -- the answer is that of the rules' two runs
   answer-same : comparedOf bs t second (r .counts) (r′ .counts) a′ b′
       ≡ answers.Compared
-      (pairWordOf (alikeFrom (job .public) 0 (job .init) vs) (run₁ .stop) (run₂ .stop) (traceWords (run₁ .log .trace)) (traceWords (run₂ .log .trace)))
+      (pairWordOf (alikeFrom (job .public) 0 (job .init) vs) (run₁ .stop) (run₂ .stop) (traceWords (run₁ .gathered .trace)) (traceWords (run₂ .gathered .trace)))
       (counts run₁) (counts run₂)
   unfolding counts
   answer-same =

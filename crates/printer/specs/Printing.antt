@@ -19,7 +19,7 @@ instructionCount (accepted job) = endPlace (job .code)
 -- the trace area after the run: "written observations stand from the front", all other words keep their contents
 unfoldable pub traceAfter : Parsed → List ℕ → List ℕ
 traceAfter (rejected r) trace = trace
-traceAfter (accepted job) trace = written (traceWords (mispredictingRun job (room trace) .log .trace)) trace
+traceAfter (accepted job) trace = written (traceWords (mispredictingRun job (room trace) .gathered .trace)) trace
 
 -- a run printed: its trace area, and its lines from the front of an area of bytes as far as they fit, with their length
 pub record Prints (job trace trace′ out out′ : List ℕ) (r : ℕ) : Type 0 where

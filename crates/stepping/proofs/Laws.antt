@@ -16,9 +16,9 @@ use Rattle.rules.specs.Rules.Changes.{Change}
 use Rattle.rules.specs.Theorems.Undo.{remaining-less, windowCosts-positive}
 use Rattle.instruction.specs.declared.Instruction.{Instruction}
 use Rattle.instruction.specs.Meaning.{meaning}
-use Rattle.work.specs.declared.BranchEntry.{BranchEntry}
+use Rattle.work.specs.declared.OpenBranch.{OpenBranch}
 use Rattle.work.specs.declared.machine.Control.{Control}
-use Rattle.work.specs.Words.{entryAt, changeAt, windowAt}
+use Rattle.work.specs.Words.{branchAt, changeAt, windowAt}
 use Rattle.work.specs.Machines.{stateIn, branchesOf, branches-length, machineOf, Left}
 use Rattle.work.specs.Moves.{lowerTo, windowOn}
 use Rattle.work.proofs.Moves.{at-above}
@@ -33,7 +33,7 @@ pub keeps-plain : (d : ℕ) (plain s : LocationSet) → (d ≡ 0 → ⊥) → pl
 keeps-plain zero plain s h = absurd (h refl)
 keeps-plain (suc d) plain s h = refl
 
-pub gathered : (e : ℕ → BranchEntry) (g : ℕ → Change) (σ : State) (v k d : ℕ) (plain s : LocationSet)
+pub gathered : (e : ℕ → OpenBranch) (g : ℕ → Change) (σ : State) (v k d : ℕ) (plain s : LocationSet)
     → gatherAt d plain s ≡ gather (branchesOf e g σ v k d) plain s
 unfolding gather
 gathered e g σ v k zero plain s = refl
@@ -42,7 +42,7 @@ gathered e g σ v k (suc d) plain s = refl
 -- ---- the rollbacks
 -- how many branches are open, in the machine
 pub depth-of : (w : List ℕ) (c : Control) (n : ℕ) → c .depth ≡ length (machineOf w c n .branches)
-depth-of w c n = sym (branches-length (entryAt w) (changeAt w) (stateIn w n) (c .window) (c .log) (c .depth))
+depth-of w c n = sym (branches-length (branchAt w) (changeAt w) (stateIn w n) (c .window) (c .log) (c .depth))
 
 pub length-lower : (code : Code) (i : Instr) (bs : List Branch) → length (lower code i bs) ≡ length bs
 unfolding lower
@@ -64,14 +64,14 @@ stored-twice t t₁ t₂ k a b x y e₁ e₂ =
 
 -- ---- the window
 -- what is left of the top's, where it was v
-pub top-lowered : (code : Code) (i : Instr) (e : ℕ → BranchEntry) (g : ℕ → Change) (σ : State) (v k d : ℕ)
+pub top-lowered : (code : Code) (i : Instr) (e : ℕ → OpenBranch) (g : ℕ → Change) (σ : State) (v k d : ℕ)
     → lowerTo (windowAt d v (remaining code i v)) (branchesOf e g σ v k d) ≡ lower code i (branchesOf e g σ v k d)
 unfolding lower
 top-lowered code i e g σ v k zero = refl
 top-lowered code i e g σ v k (suc d) = refl
 
 -- a new branch's window
-pub window-lowered : (code : Code) (i : Instr) (e : ℕ → BranchEntry) (g : ℕ → Change) (σ : State) (v k d : ℕ)
+pub window-lowered : (code : Code) (i : Instr) (e : ℕ → OpenBranch) (g : ℕ → Change) (σ : State) (v k d : ℕ)
     → windowOn (branchesOf e g σ v k d) (code .window) (windowAt d v (remaining code i v)) ≡ newWindow code (lower code i (branchesOf e g σ v k d))
 unfolding lower newWindow
 window-lowered code i e g σ v k zero = refl

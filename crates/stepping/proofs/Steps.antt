@@ -23,13 +23,13 @@ use Rattle.instruction.specs.Meaning.{meaning}
 use Rattle.work.specs.declared.machine.Control.{Control}
 use Rattle.work.specs.declared.machine.RolledBack.{RolledBack}
 use Rattle.work.specs.Layout.{labels}
-use Rattle.work.specs.Words.{taggedAt, entryAt, changeAt}
+use Rattle.work.specs.Words.{taggedAt, branchAt, changeAt}
 use Rattle.work.specs.Machines.{stateIn, machineOf, Fit}
 use Rattle.work.specs.Moves.{lowerTo, windowOn, ordinaryNext, gone, openingNext, Moves, MovesAt, RollsBack}
 use Rattle.work.proofs.States.{state-at}
 use Rattle.work.proofs.Moves.{go-law}
 use Rattle.stepping.specs.declared.Progress.{Progress}
-use Rattle.stepping.specs.Progress.{standing, logOf, rolledBack, progressAfter}
+use Rattle.stepping.specs.Progress.{standing, gatheredOf, rolledBack, progressAfter}
 use Rattle.stepping.specs.Steps.{Made, leftBy, Leaves, RolledBackTo, OpenedTo, CarriedOut, StateKept, Unexpired}
 use Rattle.stepping.proofs.Laws.{gathered, counted-back, depth-of, length-lower, top-lowered, window-lowered, left-some}
 
@@ -37,11 +37,11 @@ use Rattle.stepping.proofs.Laws.{gathered, counted-back, depth-of, leng
 module _ (w w′ t t′ : List ℕ) (c c′ : Progress) (n : ℕ) (s : Step) (control : Control)
     (counted : c′ ≡ progressAfter c control (length (s .obs)) (s .seen)) where
   -- the counts and sets are the rules' log after the step
-  noted : rolledBack control ≡ rolledBack (c .control) + s .back → (os : List Observation) → logOf (os ++ s .obs) c′ ≡ note (machineOf w (c .control) n) s (logOf os c)
+  noted : rolledBack control ≡ rolledBack (c .control) + s .back → (os : List Observation) → gatheredOf (os ++ s .obs) c′ ≡ note (machineOf w (c .control) n) s (gatheredOf os c)
   unfolding note
   noted R os =
-      let P = gathered (entryAt w) (changeAt w) (stateIn w n) (c .control .window) (c .control .log) (c .control .depth) (c .plain) (s .seen) in
-      ap (logOf (os ++ s .obs)) counted
+      let P = gathered (branchAt w) (changeAt w) (stateIn w n) (c .control .window) (c .control .log) (c .control .depth) (c .plain) (s .seen) in
+      ap (gatheredOf (os ++ s .obs)) counted
       ∙ (λ i. record {
         trace = os ++ s .obs;
         steps = add-one (c .steps) i;
@@ -65,7 +65,7 @@ module _ (w w′ t t′ : List ℕ) (c c′ : Progress) (n : ℕ) (s : Step) (co
         frame = r;
         trace = e;
         observations = ap (λ (x : Progress). x .observations) counted;
-        log = noted (counted-back (c .control .opened) (c .control .depth) (control .opened) (control .depth) (s .back) (omega arith) h);
+        gathered = noted (counted-back (c .control .opened) (c .control .depth) (control .opened) (control .depth) (s .back) (omega arith) h);
         opened = omega arith;
         steps = ap (λ (x : Progress). x .steps) counted;
       }
@@ -93,12 +93,12 @@ module _ (w : List ℕ) (c : Control) (n v : ℕ) (i : Instr) (code : Code) (lef
 
   branches-left : lowerTo v open-branches ≡ lower code i open-branches
   branches-left =
-      ap (λ (u : ℕ). lowerTo u open-branches) left ∙ top-lowered code i (entryAt w) (changeAt w) (stateIn w n) (c .window) (c .log) (c .depth)
+      ap (λ (u : ℕ). lowerTo u open-branches) left ∙ top-lowered code i (branchAt w) (changeAt w) (stateIn w n) (c .window) (c .log) (c .depth)
 
   new-left : windowOn open-branches (code .window) v ≡ newWindow code (lower code i open-branches)
   new-left =
       ap (windowOn open-branches (code .window)) left
-      ∙ window-lowered code i (entryAt w) (changeAt w) (stateIn w n) (c .window) (c .log) (c .depth)
+      ∙ window-lowered code i (branchAt w) (changeAt w) (stateIn w n) (c .window) (c .log) (c .depth)
 
 -- ---- rule 2
 pub opened : {w w′ t t′ : List ℕ} {c c′ : Progress} {r window wrong target v : ℕ} {l : Label} {x : Tagged} {control : Control} → r < registers

@@ -6,7 +6,7 @@ use Rattle.location.specs.declared.LocationSet.{LocationSet}
 use Rattle.location.specs.Sets.{union}
 use Rattle.rules.specs.Rules.Instructions.{Observation}
 use Rattle.rules.specs.Rules.Mispredicting.{Machine}
-use Rattle.rules.specs.Rules.Runs.{Log}
+use Rattle.rules.specs.Rules.Runs.{Gathered}
 use Rattle.work.specs.declared.machine.Control.{Control}
 use Rattle.work.specs.Machines.{machineOf}
 use Rattle.stepping.specs.declared.Progress.{Progress}
@@ -29,8 +29,8 @@ abbrev pub rolledBack : Control → ℕ
 rolledBack k = k .opened - k .depth
 
 -- the rules' log, with the observations that stand in the trace area
-abbrev pub logOf : List Observation → Progress → Log
-logOf os c = record { trace = os; steps = c .steps; rollbacks = rolledBack (c .control); full = c .full; plain = c .plain }
+abbrev pub gatheredOf : List Observation → Progress → Gathered
+gatheredOf os c = record { trace = os; steps = c .steps; rollbacks = rolledBack (c .control); full = c .full; plain = c .plain }
 
 -- the plain set, with so many branches open
 abbrev pub gatherAt : ℕ → LocationSet → LocationSet → LocationSet

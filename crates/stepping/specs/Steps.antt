@@ -22,7 +22,7 @@ use Rattle.work.specs.Moves.{gone}
 use Rattle.instruction.specs.declared.Instruction.{Instruction}
 use Rattle.instruction.specs.Meaning.{meaning}
 use Rattle.stepping.specs.declared.Progress.{Progress}
-use Rattle.stepping.specs.Progress.{Standing, machineAt, logOf, progressAfter}
+use Rattle.stepping.specs.Progress.{Standing, machineAt, gatheredOf, progressAfter}
 
 -- The counts stay far below 2 ^ 64: no more branches were opened than steps made, and the trace area has the observations made.
 pub record Counted (x : Standing) : Type 0 where
@@ -37,7 +37,7 @@ pub record Made (n : ℕ) (s : Step) (x y : Standing) : Type 0 where
   pub frame : drop labels (y .work) ≡ drop labels (x .work)
   pub trace : y .trace ≡ sets (x .trace) (2 * x .progress .observations) (traceWords (s .obs))
   pub observations : y .progress .observations ≡ x .progress .observations + length (s .obs)
-  pub log : (os : List Observation) → logOf (os ++ s .obs) (y .progress) ≡ note (machineAt x n) s (logOf os (x .progress))
+  pub gathered : (os : List Observation) → gatheredOf (os ++ s .obs) (y .progress) ≡ note (machineAt x n) s (gatheredOf os (x .progress))
   pub opened : y .progress .control .opened ≤ x .progress .control .opened + 1
   pub steps : y .progress .steps ≡ x .progress .steps + 1
 

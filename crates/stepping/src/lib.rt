@@ -121,8 +121,8 @@ pub fn open_branch(
 {
     let control = c.control;
     let next = control.place + 1;
-    let target = effect::branch_to(t, l, next);
-    let wrong = effect::branch_to(t, Label::new(next), l.index());
+    let target = evaluation::branch_to(t, l, next);
+    let wrong = evaluation::branch_to(t, Label::new(next), l.index());
     let remaining = remaining_window(control, Instruction::BranchZero(r, l));
     let opened = work::machine::open_branch(&mut work[..], control, wrong, target, w, remaining);
     observe_branch(&mut trace[..], c.observations, START, control.opened, wrong);
@@ -170,7 +170,7 @@ pub fn load(
 {
     let control = c.control;
     let remaining = remaining_window(control, i);
-    let v = effect::loaded_from(&work[..], cells, a);
+    let v = evaluation::loaded_from(&work[..], cells, a);
     let to = Location::register(r);
     let place = control.place + 1;
     let next = work::machine::assign(&mut work[..], control, to, v, place, remaining);
@@ -199,7 +199,7 @@ fn store_word(
     }
     let deps = a.deps;
     let l = Location::cell(Address::new(value));
-    let v = effect::joined(work::load(&work[..], Location::register(r)), deps);
+    let v = evaluation::joined(work::load(&work[..], Location::register(r)), deps);
     work::machine::assign(&mut work[..], c, l, v, place, remaining)
 }
 

@@ -11,16 +11,16 @@ use Rattle.rules.specs.declared.Tagged.{Tagged}
 use Rattle.rules.specs.Rules.Calls.{workingWords}
 use Rattle.rules.specs.Rules.Plain.{State}
 use Rattle.rules.specs.Rules.Changes.{Change, restore}
-use Rattle.work.specs.declared.BranchEntry.{BranchEntry}
+use Rattle.work.specs.declared.OpenBranch.{OpenBranch}
 use Rattle.work.specs.Layout.{changeBase, branchBase, firstBranch}
-use Rattle.work.specs.Words.{changeAt, changed, entryAt, entryStored}
+use Rattle.work.specs.Words.{changeAt, changed, branchAt, branchStored}
 use Rattle.work.specs.Machines.{stateIn, lastChanges, savedAt, branchesOf, maxWindow, WindowBound}
 use Rattle.work.specs.Moves.{lowerTo}
-use Rattle.work.proofs.Ranges.{same-before, same-after, change-same, entry-same, entry-stored}
-use Rattle.work.proofs.States.{state-before, changes-agree, changed-before, changed-entry, changed-saved}
+use Rattle.work.proofs.Ranges.{same-before, same-after, change-same, branch-same, branch-stored}
+use Rattle.work.proofs.States.{state-before, changes-agree, changed-before, changed-branch, changed-saved}
 
 -- ---- branches with the same entries, and with the same changes below the log's length, are the same
-pub branches-agree : (e e′ : ℕ → BranchEntry) (g g′ : ℕ → Change) (σ : State) (v k d : ℕ) → ((j : ℕ) → j < d → e j ≡ e′ j)
+pub branches-agree : (e e′ : ℕ → OpenBranch) (g g′ : ℕ → Change) (σ : State) (v k d : ℕ) → ((j : ℕ) → j < d → e j ≡ e′ j)
     → ((j : ℕ) → j < k → g j ≡ g′ j) → WindowBound e v d k → branchesOf e g σ v k d ≡ branchesOf e′ g′ σ v k d
 branches-agree e e′ g g′ σ v k zero he hg h = refl
 branches-agree e e′ g g′ σ v k (suc d) he hg h =
@@ -28,24 +28,24 @@ branches-agree e e′ g g′ σ v k (suc d) he hg h =
     let l = h .0 in
     let E = he d (le-refl (suc d)) in
     let C = changes-agree g g′ k (k - m) hg in
-    let S : savedAt g σ k m ≡ savedAt g′ σ k (e′ d .mark) = ap (λ (us : List Change). restore us σ) C ∙ ap (λ (b : BranchEntry). savedAt g′ σ k (b .mark)) E in
+    let S : savedAt g σ k m ≡ savedAt g′ σ k (e′ d .mark) = ap (λ (us : List Change). restore us σ) C ∙ ap (λ (b : OpenBranch). savedAt g′ σ k (b .mark)) E in
     let R = branches-agree e e′ g g′ (savedAt g σ k m) (e d .outer) m d (λ j i. he j (omega arith)) (λ j i. hg j (omega arith)) (h .2) in
     let R′ = R ∙ (λ t. branchesOf e′ g′ (S t) (E t .outer) (E t .mark) d) in
     λ t. record { id = E t .id; saved = S t; target = E t .target; window = v } ∷ R′ t
 
-pub bound-agree : (e e′ : ℕ → BranchEntry) (v k d : ℕ) → ((j : ℕ) → j < d → e j ≡ e′ j) → WindowBound e v d k → WindowBound e′ v d k
+pub bound-agree : (e e′ : ℕ → OpenBranch) (v k d : ℕ) → ((j : ℕ) → j < d → e j ≡ e′ j) → WindowBound e v d k → WindowBound e′ v d k
 bound-agree e e′ v k zero he h = h
 bound-agree e e′ v k (suc d) he h =
     let E = he d (le-refl (suc d)) in
-    let h′ = subst (λ (b : BranchEntry). (b .mark ≤ k) × (k + d + v ≤ maxWindow) × WindowBound e (b .outer) d (b .mark)) E h in
+    let h′ = subst (λ (b : OpenBranch). (b .mark ≤ k) × (k + d + v ≤ maxWindow) × WindowBound e (b .outer) d (b .mark)) E h in
     (h′ .0, h′ .1, bound-agree e e′ (e′ d .outer) (e′ d .mark) d (λ j i. he j (omega arith)) (h′ .2))
 
 -- ---- with v left of the top's window
-pub top-left : (e : ℕ → BranchEntry) (g : ℕ → Change) (σ : State) (u v k d : ℕ) → branchesOf e g σ v k d ≡ lowerTo v (branchesOf e g σ u k d)
+pub top-left : (e : ℕ → OpenBranch) (g : ℕ → Change) (σ : State) (u v k d : ℕ) → branchesOf e g σ v k d ≡ lowerTo v (branchesOf e g σ u k d)
 top-left e g σ u v k zero = refl
 top-left e g σ u v k (suc d) = refl
 
-pub bound-left : (e : ℕ → BranchEntry) (u v d k : ℕ) → (0 < d → v < u) → (d ≡ 0 → 0 < v) → WindowBound e u d k → WindowBound e v d k
+pub bound-left : (e : ℕ → OpenBranch) (u v d k : ℕ) → (0 < d → v < u) → (d ≡ 0 → 0 < v) → WindowBound e u d k → WindowBound e v d k
 bound-left e u v zero k l s h = (h .0, s refl)
 bound-left e u v (suc d) k l s h =
     let a = h .1 in
@@ -54,66 +54,66 @@ bound-left e u v (suc d) k l s h =
 
 -- ---- location l given x and its operand of before logged as change number k, where the top is branch number d and has the window u
 module _ (w : List ℕ) (n k d l u : ℕ) (x : Tagged) (room : workingWords ≤ length w) (hn : n ≤ limit) (hl : l < limit)
-    (e : length (x .deps .words) ≡ 4) (apart : 6 * k + 6 + 4 * d ≤ firstBranch) (h : WindowBound (entryAt w) u (suc d) k) where
+    (e : length (x .deps .words) ≡ 4) (apart : 6 * k + 6 + 4 * d ≤ firstBranch) (h : WindowBound (branchAt w) u (suc d) k) where
   abbrev w₁ : List ℕ
   w₁ = changed w k l x
 
   fits : changeBase k + 6 ≤ length w
   fits = omega arith
 
-  entries : (j : ℕ) → j ≤ d → entryAt w₁ j ≡ entryAt w j
-  entries j i = changed-entry w n k l x hn hl fits e j (omega arith)
+  entries : (j : ℕ) → j ≤ d → branchAt w₁ j ≡ branchAt w j
+  entries j i = changed-branch w n k l x hn hl fits e j (omega arith)
 
-  below : (j : ℕ) → j < d → entryAt w j ≡ entryAt w₁ j
+  below : (j : ℕ) → j < d → branchAt w j ≡ branchAt w₁ j
   below j i = sym (entries j (omega arith))
 
-  top : entryAt w₁ d ≡ entryAt w d
+  top : branchAt w₁ d ≡ branchAt w d
   top = entries d (le-refl d)
 
   -- what the top saved
   abbrev m : ℕ
-  m = entryAt w d .mark
+  m = branchAt w d .mark
 
   abbrev σ : State
   σ = savedAt (changeAt w) (stateIn w n) k m
 
-  saved₁ : savedAt (changeAt w₁) (stateIn w₁ n) (k + 1) (entryAt w₁ d .mark) ≡ σ
+  saved₁ : savedAt (changeAt w₁) (stateIn w₁ n) (k + 1) (branchAt w₁ d .mark) ≡ σ
   saved₁ =
-      ap (λ (b : BranchEntry). savedAt (changeAt w₁) (stateIn w₁ n) (k + 1) (b .mark)) top ∙ changed-saved w n k l x hn hl fits e m (h .0)
+      ap (λ (b : OpenBranch). savedAt (changeAt w₁) (stateIn w₁ n) (k + 1) (b .mark)) top ∙ changed-saved w n k l x hn hl fits e m (h .0)
 
-  rest : branchesOf (entryAt w₁) (changeAt w₁) σ (entryAt w d .outer) m d ≡ branchesOf (entryAt w) (changeAt w) σ (entryAt w d .outer) m d
+  rest : branchesOf (branchAt w₁) (changeAt w₁) σ (branchAt w d .outer) m d ≡ branchesOf (branchAt w) (changeAt w) σ (branchAt w d .outer) m d
   rest =
       let a = h .0 in
-      sym (branches-agree (entryAt w) (entryAt w₁) (changeAt w) (changeAt w₁) σ (entryAt w d .outer) m d below
+      sym (branches-agree (branchAt w) (branchAt w₁) (changeAt w) (changeAt w₁) σ (branchAt w d .outer) m d below
       (λ j i. sym (changed-before w n k l x hn hl fits e j (omega arith))) (h .2))
 
-  pub changed-branches : (v : ℕ) → branchesOf (entryAt w₁) (changeAt w₁) (stateIn w₁ n) v (k + 1) (suc d)
-      ≡ lowerTo v (branchesOf (entryAt w) (changeAt w) (stateIn w n) u k (suc d))
+  pub changed-branches : (v : ℕ) → branchesOf (branchAt w₁) (changeAt w₁) (stateIn w₁ n) v (k + 1) (suc d)
+      ≡ lowerTo v (branchesOf (branchAt w) (changeAt w) (stateIn w n) u k (suc d))
   changed-branches v =
-      let R = (λ t. branchesOf (entryAt w₁) (changeAt w₁) (saved₁ t) (top t .outer) (top t .mark) d) ∙ rest in
+      let R = (λ t. branchesOf (branchAt w₁) (changeAt w₁) (saved₁ t) (top t .outer) (top t .mark) d) ∙ rest in
       λ t. record { id = top t .id; saved = saved₁ t; target = top t .target; window = v } ∷ R t
 
-  pub changed-bound : (v : ℕ) → k + 1 + d + v ≤ maxWindow → WindowBound (entryAt w₁) v (suc d) (k + 1)
+  pub changed-bound : (v : ℕ) → k + 1 + d + v ≤ maxWindow → WindowBound (branchAt w₁) v (suc d) (k + 1)
   changed-bound v b =
       let a = h .0 in
       let a₁ : m ≤ k + 1 = omega arith in
-      let H = bound-agree (entryAt w) (entryAt w₁) (entryAt w d .outer) m d below (h .2) in
-      subst (λ (y : BranchEntry). (y .mark ≤ k + 1) × (k + 1 + d + v ≤ maxWindow) × WindowBound (entryAt w₁) (y .outer) d (y .mark)) (sym top) (a₁, b, H)
+      let H = bound-agree (branchAt w) (branchAt w₁) (branchAt w d .outer) m d below (h .2) in
+      subst (λ (y : OpenBranch). (y .mark ≤ k + 1) × (k + 1 + d + v ≤ maxWindow) × WindowBound (branchAt w₁) (y .outer) d (y .mark)) (sym top) (a₁, b, H)
 
 -- ---- an entry pushed as branch number d, with the log's length as its mark
-module _ (w : List ℕ) (n k d : ℕ) (b : BranchEntry) (hn : n ≤ limit) (room : workingWords ≤ length w) (apart : 6 * k + 4 * d ≤ firstBranch)
-    (mark : b .mark ≡ k) (h : WindowBound (entryAt w) (b .outer) d k) where
+module _ (w : List ℕ) (n k d : ℕ) (b : OpenBranch) (hn : n ≤ limit) (room : workingWords ≤ length w) (apart : 6 * k + 4 * d ≤ firstBranch)
+    (mark : b .mark ≡ k) (h : WindowBound (branchAt w) (b .outer) d k) where
   abbrev w₂ : List ℕ
-  w₂ = entryStored w d b
+  w₂ = branchStored w d b
 
   abbrev vs : List ℕ
   vs = b .id ∷ b .target ∷ b .outer ∷ b .mark ∷ []
 
-  new : entryAt w₂ d ≡ b
-  new = entry-stored w d b (omega arith)
+  new : branchAt w₂ d ≡ b
+  new = branch-stored w d b (omega arith)
 
-  old : (j : ℕ) → j < d → entryAt w j ≡ entryAt w₂ j
-  old j l = sym (entry-same j (same-after vs w (branchBase d) (branchBase j) 4 (omega arith)))
+  old : (j : ℕ) → j < d → branchAt w j ≡ branchAt w₂ j
+  old j l = sym (branch-same j (same-after vs w (branchBase d) (branchBase j) 4 (omega arith)))
 
   logs : (j : ℕ) → j < k → changeAt w j ≡ changeAt w₂ j
   logs j l = sym (change-same j (same-before vs w (branchBase d) (changeBase j) 6 (omega arith)))
@@ -121,25 +121,25 @@ module _ (w : List ℕ) (n k d : ℕ) (b : BranchEntry) (hn : n ≤ limit) (room
   pub pushed-state : stateIn w₂ n ≡ stateIn w n
   pushed-state = state-before vs w (branchBase d) 0 n (omega arith)
 
-  mark₂ : entryAt w₂ d .mark ≡ k
-  mark₂ = ap (λ (x : BranchEntry). x .mark) new ∙ mark
+  mark₂ : branchAt w₂ d .mark ≡ k
+  mark₂ = ap (λ (x : OpenBranch). x .mark) new ∙ mark
 
-  saved₂ : savedAt (changeAt w₂) (stateIn w₂ n) k (entryAt w₂ d .mark) ≡ stateIn w n
+  saved₂ : savedAt (changeAt w₂) (stateIn w₂ n) k (branchAt w₂ d .mark) ≡ stateIn w n
   saved₂ =
       let z : k - k ≡ 0 = omega arith in
       ap (savedAt (changeAt w₂) (stateIn w₂ n) k) mark₂
       ∙ ap (λ (x : ℕ). restore (lastChanges (changeAt w₂) k x) (stateIn w₂ n)) z
       ∙ pushed-state
 
-  pub pushed-branches : (v : ℕ) → branchesOf (entryAt w₂) (changeAt w₂) (stateIn w₂ n) v k (suc d)
-      ≡ record { id = b .id; saved = stateIn w n; target = b .target; window = v } ∷ branchesOf (entryAt w) (changeAt w) (stateIn w n) (b .outer) k d
+  pub pushed-branches : (v : ℕ) → branchesOf (branchAt w₂) (changeAt w₂) (stateIn w₂ n) v k (suc d)
+      ≡ record { id = b .id; saved = stateIn w n; target = b .target; window = v } ∷ branchesOf (branchAt w) (changeAt w) (stateIn w n) (b .outer) k d
   pushed-branches v =
-      let A = branches-agree (entryAt w) (entryAt w₂) (changeAt w) (changeAt w₂) (stateIn w n) (b .outer) k d old logs h in
-      let R = (λ t. branchesOf (entryAt w₂) (changeAt w₂) (saved₂ t) (new t .outer) (mark₂ t) d) ∙ sym A in
+      let A = branches-agree (branchAt w) (branchAt w₂) (changeAt w) (changeAt w₂) (stateIn w n) (b .outer) k d old logs h in
+      let R = (λ t. branchesOf (branchAt w₂) (changeAt w₂) (saved₂ t) (new t .outer) (mark₂ t) d) ∙ sym A in
       λ t. record { id = new t .id; saved = saved₂ t; target = new t .target; window = v } ∷ R t
 
-  pub pushed-bound : (v : ℕ) → k + d + v ≤ maxWindow → WindowBound (entryAt w₂) v (suc d) k
+  pub pushed-bound : (v : ℕ) → k + d + v ≤ maxWindow → WindowBound (branchAt w₂) v (suc d) k
   pushed-bound v l =
       let m : b .mark ≤ k = omega arith in
-      let H = subst (WindowBound (entryAt w₂) (b .outer) d) (sym mark) (bound-agree (entryAt w) (entryAt w₂) (b .outer) k d old h) in
-      subst (λ (x : BranchEntry). (x .mark ≤ k) × (k + d + v ≤ maxWindow) × WindowBound (entryAt w₂) (x .outer) d (x .mark)) (sym new) (m, l, H)
+      let H = subst (WindowBound (branchAt w₂) (b .outer) d) (sym mark) (bound-agree (branchAt w) (branchAt w₂) (b .outer) k d old h) in
+      subst (λ (x : OpenBranch). (x .mark ≤ k) × (k + d + v ≤ maxWindow) × WindowBound (branchAt w₂) (x .outer) d (x .mark)) (sym new) (m, l, H)

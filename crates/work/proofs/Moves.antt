@@ -13,25 +13,25 @@ use Rattle.rules.specs.declared.Tagged.{Tagged}
 use Rattle.rules.specs.Rules.Plain.{State, put}
 use Rattle.rules.specs.Rules.Mispredicting.{Branch, Machine, rolling}
 use Rattle.rules.specs.Rules.Changes.{Change}
-use Rattle.work.specs.declared.BranchEntry.{BranchEntry}
+use Rattle.work.specs.declared.OpenBranch.{OpenBranch}
 use Rattle.work.specs.declared.machine.Control.{Control}
 use Rattle.work.specs.declared.machine.RolledBack.{RolledBack}
 use Rattle.work.specs.Layout.{operandBase, changeBase, branchBase, labels, logBase, firstBranch}
-use Rattle.work.specs.Words.{taggedAt, stored, changeAt, changed, undone, entryAt, entryStored, windowAt, taggedWords}
+use Rattle.work.specs.Words.{taggedAt, stored, changeAt, changed, undone, branchAt, branchStored, windowAt, taggedWords}
 use Rattle.work.specs.Machines.{stateIn, savedAt, branchesOf, machineOf, maxWindow, WindowBound, Fit, Left}
 use Rattle.work.specs.Moves.{lowerTo, windowOn, ordinaryNext, gone, openingNext, Moves, RollsBack}
-use Rattle.work.proofs.Ranges.{drop-sets, drop-past, log-same, entries-same}
+use Rattle.work.proofs.Ranges.{drop-sets, drop-past, log-same, branches-same}
 use Rattle.work.proofs.States.{state-stored, drop-undone, length-undone, state-undone, changed-state}
 use Rattle.work.proofs.Laws.{length-changed}
 use Rattle.work.proofs.Branches.{top-left, bound-left, changed-branches, changed-bound, pushed-state, pushed-branches, pushed-bound}
 
-together-bound : (e : ℕ → BranchEntry) (v d k : ℕ) → WindowBound e v d k → k + d ≤ maxWindow + 1
+together-bound : (e : ℕ → OpenBranch) (v d k : ℕ) → WindowBound e v d k → k + d ≤ maxWindow + 1
 together-bound e v zero k h = let z = h .0 in omega arith
 together-bound e v (suc d) k h = let b = h .1 in omega arith
 
 -- how many changes and branches there are together
 pub fit-bound : {w : List ℕ} {c : Control} → Fit w c → c .log + c .depth ≤ maxWindow + 1
-fit-bound {w} {c} f = together-bound (entryAt w) (c .window) (c .depth) (c .log) (f .bound)
+fit-bound {w} {c} f = together-bound (branchAt w) (c .window) (c .depth) (c .log) (f .bound)
 
 -- the same move, to words that are equal
 pub moved-to : {w u u′ : List ℕ} {c c′ : Control} {next : Machine → Machine} → u′ ≡ u → Moves w u c c′ next → Moves w u′ c c′ next
@@ -48,11 +48,11 @@ pub go-law : (w : List ℕ) (c : Control) (p v : ℕ) → Fit w c → Left c v
 go-law w c p v f b =
     record {
       machine = λ n hn.
-          let B = top-left (entryAt w) (changeAt w) (stateIn w n) (c .window) v (c .log) (c .depth) in
+          let B = top-left (branchAt w) (changeAt w) (stateIn w n) (c .window) v (c .log) (c .depth) in
           λ t. record { state = stateIn w n; place = p; branches = B t; opened = c .opened };
       fits = record {
         room = f .room;
-        bound = bound-left (entryAt w) (c .window) v (c .depth) (c .log) (b .less) (b .some) (f .bound);
+        bound = bound-left (branchAt w) (c .window) v (c .depth) (c .log) (b .less) (b .some) (f .bound);
         opened = f .opened;
       };
       frame = refl;
@@ -74,14 +74,14 @@ module _ (w : List ℕ) (c : Control) (l p v : ℕ) (x : Tagged) (f : Fit w c) (
   -- the branches in words w′, with k′ changes logged, are those of w with v left of the top's window, where d are open
   abbrev Lowered : List ℕ → ℕ → ℕ → ℕ → Type 0
   Lowered w′ k′ n d =
-      branchesOf (entryAt w′) (changeAt w′) (stateIn w′ n) v k′ d ≡ lowerTo v (branchesOf (entryAt w) (changeAt w) (stateIn w n) (c .window) k d)
+      branchesOf (branchAt w′) (changeAt w′) (stateIn w′ n) v k′ d ≡ lowerTo v (branchesOf (branchAt w) (changeAt w) (stateIn w n) (c .window) k d)
 
   pub assign-plain : c .depth ≡ 0
       → Moves w (stored w l x) c (record { place = p; depth = c .depth; log = k; opened = c .opened; window = v })
       (λ M. ordinaryNext M (put (M .state) l x) p v)
   assign-plain z =
       let w₁ = stored w l x in
-      let h = subst (λ (d : ℕ). WindowBound (entryAt w) (c .window) d k) z (f .bound) in
+      let h = subst (λ (d : ℕ). WindowBound (branchAt w) (c .window) d k) z (f .bound) in
       record {
         machine = λ n hn.
             let S = state-stored w n l x e (omega (arith, f .room)) in
@@ -89,7 +89,7 @@ module _ (w : List ℕ) (c : Control) (l p v : ℕ) (x : Tagged) (f : Fit w c) (
             λ t. record { state = S t; place = p; branches = B t; opened = c .opened };
         fits = record {
           room = rw (length-sets w (operandBase l) xs) (f .room);
-          bound = subst (λ (d : ℕ). WindowBound (entryAt w₁) v d k) (sym z) (h .0, b .some z);
+          bound = subst (λ (d : ℕ). WindowBound (branchAt w₁) v d k) (sym z) (h .0, b .some z);
           opened = f .opened;
         };
         frame = drop-sets xs w (operandBase l) labels (omega (arith, e));
@@ -104,7 +104,7 @@ module _ (w : List ℕ) (c : Control) (l p v : ℕ) (x : Tagged) (f : Fit w c) (
       let b₁ = b .less (pos-of-ne-zero o) in
       let w₁ = changed w k l x in
       let ls = l ∷ taggedWords (taggedAt w l) in
-      let h : WindowBound (entryAt w) (c .window) (suc d) k = subst (λ (j : ℕ). WindowBound (entryAt w) (c .window) j k) s (f .bound) in
+      let h : WindowBound (branchAt w) (c .window) (suc d) k = subst (λ (j : ℕ). WindowBound (branchAt w) (c .window) j k) s (f .bound) in
       let h₁ = h .1 in
       let a : 6 * k + 6 + 4 * d ≤ firstBranch = omega arith in
       let H = changed-bound w 0 k d l (c .window) x (f .room) (omega arith) hl e a h v (omega arith) in
@@ -115,7 +115,7 @@ module _ (w : List ℕ) (c : Control) (l p v : ℕ) (x : Tagged) (f : Fit w c) (
             λ t. record { state = S t; place = p; branches = B t; opened = c .opened };
         fits = record {
           room = rw (length-changed w k l x) (f .room);
-          bound = subst (λ (j : ℕ). WindowBound (entryAt w₁) v j (k + 1)) (sym s) H;
+          bound = subst (λ (j : ℕ). WindowBound (branchAt w₁) v j (k + 1)) (sym s) H;
           opened = f .opened;
         };
         frame =
@@ -123,23 +123,23 @@ module _ (w : List ℕ) (c : Control) (l p v : ℕ) (x : Tagged) (f : Fit w c) (
       }
 
 -- ---- rule 2
-new-window : (e : ℕ → BranchEntry) (g : ℕ → Change) (σ : State) (x k d u v : ℕ) → windowAt d u v ≡ windowOn (branchesOf e g σ x k d) u v
+new-window : (e : ℕ → OpenBranch) (g : ℕ → Change) (σ : State) (x k d u v : ℕ) → windowAt d u v ≡ windowOn (branchesOf e g σ x k d) u v
 new-window e g σ x k zero u v = refl
 new-window e g σ x k (suc d) u v = refl
 
-new-bound : (e : ℕ → BranchEntry) (x d k u v : ℕ) → WindowBound e x d k → (0 < d → v < x) → u ≤ maxWindow → k + d + windowAt d u v ≤ maxWindow
+new-bound : (e : ℕ → OpenBranch) (x d k u v : ℕ) → WindowBound e x d k → (0 < d → v < x) → u ≤ maxWindow → k + d + windowAt d u v ≤ maxWindow
 new-bound e x zero k u v h b a = let z = h .0 in omega arith
 new-bound e x (suc d) k u v h b a = let y = h .1 in let z = b (omega arith) in omega arith
 
 module _ (w : List ℕ) (c : Control) (p t u v : ℕ) (f : Fit w c) (b : Left c v) (a : u ≤ maxWindow) where
   pub open-bound : c .log + c .depth + windowAt (c .depth) u v ≤ maxWindow
-  open-bound = new-bound (entryAt w) (c .window) (c .depth) (c .log) u v (f .bound) (b .less) a
+  open-bound = new-bound (branchAt w) (c .window) (c .depth) (c .log) u v (f .bound) (b .less) a
 
-  abbrev new : BranchEntry
+  abbrev new : OpenBranch
   new = record { id = c .opened; target = t; outer = v; mark = c .log }
 
   abbrev w₁ : List ℕ
-  w₁ = entryStored w (c .depth) new
+  w₁ = branchStored w (c .depth) new
 
   abbrev deeper : ℕ → Control
   deeper x = record { place = p; depth = c .depth + 1; log = c .log; opened = c .opened + 1; window = x }
@@ -151,21 +151,21 @@ module _ (w : List ℕ) (c : Control) (p t u v : ℕ) (f : Fit w c) (b : Left c 
       let x = windowAt d u v in
       let ns = c .opened ∷ t ∷ v ∷ k ∷ [] in
       let r = f .room in
-      let h = bound-left (entryAt w) (c .window) v d k (b .less) (b .some) (f .bound) in
+      let h = bound-left (branchAt w) (c .window) v d k (b .less) (b .some) (f .bound) in
       let i : 6 * k + 4 * d ≤ firstBranch = omega (arith, open-bound) in
       let H = pushed-bound w 0 k d new (omega arith) r i refl h x open-bound in
       record {
         machine = λ n hn.
             let S = pushed-state w n k d new hn r i refl h in
-            let W = new-window (entryAt w) (changeAt w) (stateIn w n) (c .window) k d u v in
-            let L = top-left (entryAt w) (changeAt w) (stateIn w n) (c .window) v k d in
-            let B₁ = ap (branchesOf (entryAt w₁) (changeAt w₁) (stateIn w₁ n) x k) (add-one d) in
+            let W = new-window (branchAt w) (changeAt w) (stateIn w n) (c .window) k d u v in
+            let L = top-left (branchAt w) (changeAt w) (stateIn w n) (c .window) v k d in
+            let B₁ = ap (branchesOf (branchAt w₁) (changeAt w₁) (stateIn w₁ n) x k) (add-one d) in
             let B₂ = pushed-branches w n k d new hn r i refl h x in
             let B = B₁ ∙ B₂ ∙ (λ j. record { id = c .opened; saved = stateIn w n; target = t; window = W j } ∷ L j) in
             λ j. record { state = S j; place = p; branches = B j; opened = add-one (c .opened) j };
         fits = record {
           room = rw (length-sets w (branchBase d) ns) r;
-          bound = subst (λ (j : ℕ). WindowBound (entryAt w₁) x j k) (sym (add-one d)) H;
+          bound = subst (λ (j : ℕ). WindowBound (branchAt w₁) x j k) (sym (add-one d)) H;
           opened = let o = f .opened in omega arith;
         };
         frame = drop-sets ns w (branchBase d) labels (omega arith);
@@ -175,18 +175,18 @@ module _ (w : List ℕ) (c : Control) (p t u v : ℕ) (f : Fit w c) (b : Left c 
   open-law x e = subst (λ (y : ℕ). Moves w w₁ c (deeper y) (λ M. openingNext M p t u v)) (sym e) opened
 
 -- ---- rule 1
--- the branch of an entry with the window v, whose saved state is what the changes down to its mark give back
-abbrev pub branchOf : BranchEntry → (ℕ → Change) → State → ℕ → ℕ → Branch
+-- the branch of an open branch in the words with the window v, whose saved state is what the changes down to its mark give back
+abbrev pub branchOf : OpenBranch → (ℕ → Change) → State → ℕ → ℕ → Branch
 branchOf y g σ v k = record { id = y .id; saved = savedAt g σ k (y .mark); target = y .target; window = v }
 
 -- where a branch is open, the top and the others
-pub open-branches : (e : ℕ → BranchEntry) (g : ℕ → Change) (σ : State) (v k d : ℕ) → 0 < d
+pub open-branches : (e : ℕ → OpenBranch) (g : ℕ → Change) (σ : State) (v k d : ℕ) → 0 < d
     → branchesOf e g σ v k d
     ≡ branchOf (e (d - 1)) g σ v k ∷ branchesOf e g (savedAt g σ k (e (d - 1) .mark)) (e (d - 1) .outer) (e (d - 1) .mark) (d - 1)
 open-branches e g σ v k zero h = absurd (omega arith)
 open-branches e g σ v k (suc d) h = let s : suc d - 1 ≡ d = omega arith in rw s
 
-rest-bound : (e : ℕ → BranchEntry) (v d k : ℕ) → 0 < d → WindowBound e v d k → WindowBound e (e (d - 1) .outer) (d - 1) (e (d - 1) .mark)
+rest-bound : (e : ℕ → OpenBranch) (v d k : ℕ) → 0 < d → WindowBound e v d k → WindowBound e (e (d - 1) .outer) (d - 1) (e (d - 1) .mark)
 rest-bound e v zero k h t = absurd (omega arith)
 rest-bound e v (suc d) k h t = let s : suc d - 1 ≡ d = omega arith in rw s (t .2)
 
@@ -196,11 +196,11 @@ heads e = cc
 tails : {x y : Branch} {xs ys : List Branch} → x ∷ xs ≡ y ∷ ys → xs ≡ ys
 tails e = cc
 
--- of the entry y that the code read, and of the words w₁ that undoing left
-module _ (w w₁ : List ℕ) (c : Control) (y : BranchEntry) (f : Fit w c) (h : 0 < c .depth) (ey : y ≡ entryAt w (c .depth - 1))
+-- of the open branch y that the code read, and of the words w₁ that undoing left
+module _ (w w₁ : List ℕ) (c : Control) (y : OpenBranch) (f : Fit w c) (h : 0 < c .depth) (ey : y ≡ branchAt w (c .depth - 1))
     (ew : w₁ ≡ undone w (c .log) (c .log - y .mark)) where
-  abbrev top : BranchEntry
-  top = entryAt w (c .depth - 1)
+  abbrev top : OpenBranch
+  top = branchAt w (c .depth - 1)
 
   abbrev after : RolledBack
   after = record {
@@ -216,32 +216,32 @@ module _ (w w₁ : List ℕ) (c : Control) (y : BranchEntry) (f : Fit w c) (h : 
   state-back n =
       ap (λ (u : List ℕ). stateIn u n) ew
       ∙ state-undone w n (c .log) (c .log - y .mark) (omega (arith, f .room))
-      ∙ ap (λ (b : BranchEntry). savedAt (changeAt w) (stateIn w n) (c .log) (b .mark)) ey
+      ∙ ap (λ (b : OpenBranch). savedAt (changeAt w) (stateIn w n) (c .log) (b .mark)) ey
 
   module _ (n : ℕ) (b : Branch) (bs : List Branch) (e : machineOf w c n .branches ≡ b ∷ bs) where
     abbrev σ : State
     σ = savedAt (changeAt w) (stateIn w n) (c .log) (top .mark)
 
-    split : branchOf top (changeAt w) (stateIn w n) (c .window) (c .log) ∷ branchesOf (entryAt w) (changeAt w) σ (top .outer) (top .mark) (c .depth - 1)
+    split : branchOf top (changeAt w) (stateIn w n) (c .window) (c .log) ∷ branchesOf (branchAt w) (changeAt w) σ (top .outer) (top .mark) (c .depth - 1)
         ≡ b ∷ bs
-    split = sym (open-branches (entryAt w) (changeAt w) (stateIn w n) (c .window) (c .log) (c .depth) h) ∙ e
+    split = sym (open-branches (branchAt w) (changeAt w) (stateIn w n) (c .window) (c .log) (c .depth) h) ∙ e
 
     top-is : branchOf top (changeAt w) (stateIn w n) (c .window) (c .log) ≡ b
     top-is = heads split
 
-    others : branchesOf (entryAt w) (changeAt w) σ (top .outer) (top .mark) (c .depth - 1) ≡ bs
+    others : branchesOf (branchAt w) (changeAt w) σ (top .outer) (top .mark) (c .depth - 1) ≡ bs
     others = tails split
 
     id-is : y .id ≡ b .id
-    id-is = ap (λ (x : BranchEntry). x .id) ey ∙ ap (λ (x : Branch). x .id) top-is
+    id-is = ap (λ (x : OpenBranch). x .id) ey ∙ ap (λ (x : Branch). x .id) top-is
 
     target-is : y .target ≡ b .target
-    target-is = ap (λ (x : BranchEntry). x .target) ey ∙ ap (λ (x : Branch). x .target) top-is
+    target-is = ap (λ (x : OpenBranch). x .target) ey ∙ ap (λ (x : Branch). x .target) top-is
 
     rolled : machineOf w₁ (after .control) n ≡ rolling (machineOf w c n) b bs .next
     unfolding rolling
     rolled =
-        let E = entries-same w₁ w past in
+        let E = branches-same w₁ w past in
         let G = log-same w₁ w past in
         let S = state-back n ∙ ap (λ (x : Branch). x .saved) top-is in
         let R = (λ t. branchesOf (E t) (G t) (state-back n t) (ey t .outer) (ey t .mark) (c .depth - 1)) ∙ others in
@@ -249,15 +249,15 @@ module _ (w w₁ : List ℕ) (c : Control) (y : BranchEntry) (f : Fit w c) (h : 
 
   pub roll-law : RollsBack w w₁ c after
   roll-law =
-      let T = rest-bound (entryAt w) (c .window) (c .depth) (c .log) h (f .bound) in
-      let E = entries-same w w₁ (sym past) in
+      let T = rest-bound (branchAt w) (c .window) (c .depth) (c .log) h (f .bound) in
+      let E = branches-same w w₁ (sym past) in
       record {
         machine = rolled;
         id = id-is;
         target = target-is;
         fits = record {
           room = rw (ew, length-undone w (c .log) (c .log - y .mark)) (f .room);
-          bound = subst₂ (λ (e : ℕ → BranchEntry) (b : BranchEntry). WindowBound e (b .outer) (c .depth - 1) (b .mark)) E (sym ey) T;
+          bound = subst₂ (λ (e : ℕ → OpenBranch) (b : OpenBranch). WindowBound e (b .outer) (c .depth - 1) (b .mark)) E (sym ey) T;
           opened = let o = f .opened in omega arith;
         };
         frame = drop-past w₁ w logBase labels (omega arith) past;

@@ -11,9 +11,9 @@ use lib.ListN.{length, getD, drop, set, length-set}
 use lib.Seq.{sets, getD-set-same, getD-set-other, getD-drop, drop-set-lt, drop-drop}
 use Rattle.location.specs.Sets.{limit}
 use Rattle.rules.specs.declared.Tagged.{Tagged}
-use Rattle.work.specs.declared.BranchEntry.{BranchEntry}
+use Rattle.work.specs.declared.OpenBranch.{OpenBranch}
 use Rattle.work.specs.Layout.{changeBase, branchBase, logBase}
-use Rattle.work.specs.Words.{taggedIn, storedIn, changeAt, entryAt, entryStored, taggedWords}
+use Rattle.work.specs.Words.{taggedIn, storedIn, changeAt, branchAt, branchStored, taggedWords}
 use Rattle.work.proofs.Laws.{four}
 
 -- the n words from one on are the same in both
@@ -81,8 +81,8 @@ change-same {w} {w′} k s =
     { word = λ j l. let p : changeBase k + 1 + j ≡ changeBase k + (1 + j) = omega arith in rw p (s .word (1 + j) (omega arith)) } in
     λ t. record { location = e t % limit; before = tagged-same x t }
 
-pub entry-same : {w w′ : List ℕ} (k : ℕ) → SameRange w w′ (branchBase k) 4 → entryAt w k ≡ entryAt w′ k
-entry-same k s =
+pub branch-same : {w w′ : List ℕ} (k : ℕ) → SameRange w w′ (branchBase k) 4 → branchAt w k ≡ branchAt w′ k
+branch-same k s =
     let e₀ = first-same s (lit< tt) in
     let e₁ = s .word 1 (lit< tt) in
     let e₂ = s .word 2 (lit< tt) in
@@ -93,8 +93,8 @@ entry-same k s =
 pub log-same : (w w′ : List ℕ) → drop logBase w ≡ drop logBase w′ → changeAt w ≡ changeAt w′
 log-same w w′ d = fun-ext (λ k. change-same k (same-past w w′ logBase (changeBase k) 6 (omega arith) d))
 
-pub entries-same : (w w′ : List ℕ) → drop logBase w ≡ drop logBase w′ → entryAt w ≡ entryAt w′
-entries-same w w′ d = fun-ext (λ k. entry-same k (same-past w w′ logBase (branchBase k) 4 (omega arith) d))
+pub branches-same : (w w′ : List ℕ) → drop logBase w ≡ drop logBase w′ → branchAt w ≡ branchAt w′
+branches-same w w′ d = fun-ext (λ k. branch-same k (same-past w w′ logBase (branchBase k) 4 (omega arith) d))
 
 -- ---- what is read where it was stored
 first-in : (vs w : List ℕ) (i : ℕ) → 0 < length vs → i + length vs ≤ length w → getD (sets w i vs) i 0 ≡ getD vs 0 0
@@ -124,8 +124,8 @@ change-stored w k l v hl h f =
     ap (taggedIn (sets w i vs)) (add-one i) ∙ tagged-stored (set w i l) (suc i) v h (rw (length-set w i l) (omega arith)) in
     λ t. record { location = e₀ t; before = e₁ t }
 
-pub entry-stored : (w : List ℕ) (k : ℕ) (b : BranchEntry) → branchBase k + 4 ≤ length w → entryAt (entryStored w k b) k ≡ b
-entry-stored w k b f =
+pub branch-stored : (w : List ℕ) (k : ℕ) (b : OpenBranch) → branchBase k + 4 ≤ length w → branchAt (branchStored w k b) k ≡ b
+branch-stored w k b f =
     let vs = b .id ∷ b .target ∷ b .outer ∷ b .mark ∷ [] in
     let i = branchBase k in
     let e₀ = first-in vs w i (lit< tt) f in

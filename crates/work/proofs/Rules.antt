@@ -8,11 +8,11 @@ use lib.Dec.{eqb, leb}
 use borrow.Author.Tests.{le-leb, lt-leb, eq-eqb, ne-eqb}
 use Rattle.rules.specs.Rules.Plain.{State}
 use Rattle.rules.specs.Rules.Changes.{Change}
-use Rattle.work.specs.declared.BranchEntry.{BranchEntry}
+use Rattle.work.specs.declared.OpenBranch.{OpenBranch}
 use Rattle.work.specs.Machines.{branchesOf}
 use Rattle.work.specs.Moves.{expiredOn}
 
-module _ (e : ℕ → BranchEntry) (g : ℕ → Change) (σ : State) (v k : ℕ) where
+module _ (e : ℕ → OpenBranch) (g : ℕ → Change) (σ : State) (v k : ℕ) where
   -- ---- where it is the one
   pub expired-depth : (d n p : ℕ) → expiredOn n p (branchesOf e g σ v k d) ≡ true → 0 < d
   expired-depth zero n p h = absurd (false≢true h)

@@ -14,9 +14,9 @@ use Rattle.rules.specs.Rules.Expressions.{tagged}
 use Rattle.rules.specs.Rules.Plain.{State, at, put}
 use Rattle.rules.specs.Rules.Changes.{Change, restore}
 use Rattle.work.specs.Layout.{operandBase, changeBase, branchBase, logBase}
-use Rattle.work.specs.Words.{taggedAt, stored, changeAt, changed, undone, entryAt, taggedWords}
+use Rattle.work.specs.Words.{taggedAt, stored, changeAt, changed, undone, branchAt, taggedWords}
 use Rattle.work.specs.Machines.{stateFrom, stateIn, lastChanges, savedAt}
-use Rattle.work.proofs.Ranges.{same-before, same-after, tagged-same, change-same, entry-same, log-same, tagged-stored, change-stored, drop-sets}
+use Rattle.work.proofs.Ranges.{same-before, same-after, tagged-same, change-same, branch-same, log-same, tagged-stored, change-stored, drop-sets}
 
 -- ---- one operand stored
 out-stored : (w : List ℕ) (i n l : ℕ) (v : Tagged) → l < i → length (v .deps .words) ≡ 4 → stateFrom (stored w l v) i n ≡ stateFrom w i n
@@ -138,10 +138,10 @@ module _ (w : List ℕ) (n k l : ℕ) (v : Tagged) (hn : n ≤ limit) (hl : l < 
       (λ t. log-same (changed w k l v) logged log-past t j)
       ∙ change-same j (same-before (l ∷ taggedWords (taggedAt w l)) w (changeBase k) (changeBase j) 6 (omega arith))
 
-  pub changed-entry : (j : ℕ) → changeBase k + 6 ≤ branchBase j → entryAt (changed w k l v) j ≡ entryAt w j
-  changed-entry j h =
-      entry-same j (same-after (taggedWords v) logged (operandBase l) (branchBase j) 4 (omega arith))
-      ∙ entry-same j (same-after (l ∷ taggedWords (taggedAt w l)) w (changeBase k) (branchBase j) 4 (omega arith))
+  pub changed-branch : (j : ℕ) → changeBase k + 6 ≤ branchBase j → branchAt (changed w k l v) j ≡ branchAt w j
+  changed-branch j h =
+      branch-same j (same-after (taggedWords v) logged (operandBase l) (branchBase j) 4 (omega arith))
+      ∙ branch-same j (same-after (l ∷ taggedWords (taggedAt w l)) w (changeBase k) (branchBase j) 4 (omega arith))
 
   pub changed-state : stateIn (changed w k l v) n ≡ put (stateIn w n) l v
   changed-state =

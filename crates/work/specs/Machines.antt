@@ -10,9 +10,9 @@ use Rattle.rules.specs.Rules.Calls.{workingWords}
 use Rattle.rules.specs.Rules.Plain.{State}
 use Rattle.rules.specs.Rules.Mispredicting.{Branch, Machine}
 use Rattle.rules.specs.Rules.Changes.{Change, restore}
-use Rattle.work.specs.declared.BranchEntry.{BranchEntry}
+use Rattle.work.specs.declared.OpenBranch.{OpenBranch}
 use Rattle.work.specs.declared.machine.Control.{Control}
-use Rattle.work.specs.Words.{taggedAt, changeAt, entryAt}
+use Rattle.work.specs.Words.{taggedAt, changeAt, branchAt}
 
 -- the operands of n locations from l on, and of the first n
 abbrev pub stateFrom : List ℕ → ℕ → ℕ → State
@@ -34,13 +34,13 @@ savedAt g σ k mark = restore (lastChanges g k (k - mark)) σ
 
 -- the d open branches, the last one first, where e i is the entry of branch number i, the last one's window is v, and the log has
 -- k changes
-abbrev pub branchesOf : (ℕ → BranchEntry) → (ℕ → Change) → State → ℕ → ℕ → ℕ → List Branch
+abbrev pub branchesOf : (ℕ → OpenBranch) → (ℕ → Change) → State → ℕ → ℕ → ℕ → List Branch
 branchesOf e g σ v k zero = []
 branchesOf e g σ v k (suc d) =
     record { id = e d .id; saved = savedAt g σ k (e d .mark); target = e d .target; window = v }
     ∷ branchesOf e g (savedAt g σ k (e d .mark)) (e d .outer) (e d .mark) d
 
-pub branches-length : (e : ℕ → BranchEntry) (g : ℕ → Change) (σ : State) (v k d : ℕ) → length (branchesOf e g σ v k d) ≡ d
+pub branches-length : (e : ℕ → OpenBranch) (g : ℕ → Change) (σ : State) (v k d : ℕ) → length (branchesOf e g σ v k d) ≡ d
 branches-length e g σ v k zero = refl
 branches-length e g σ v k (suc d) = ap suc (branches-length e g _ _ _ d)
 
@@ -49,21 +49,21 @@ abbrev pub machineOf : List ℕ → Control → ℕ → Machine
 machineOf w c n = record {
   state = stateIn w n;
   place = c .place;
-  branches = branchesOf (entryAt w) (changeAt w) (stateIn w n) (c .window) (c .log) (c .depth);
+  branches = branchesOf (branchAt w) (changeAt w) (stateIn w n) (c .window) (c .log) (c .depth);
   opened = c .opened;
 }
 
 -- Of d open branches, the last one with the window v, and a log of k changes: the marks rise with the branches; with nothing open
 -- the log is empty and the window is not 0. A change or a branch costs the top at least 1 of its window, so that there are at most
 -- 200 changes and 201 branches, and changes and branches are at most 201 together.
-abbrev pub WindowBound : (ℕ → BranchEntry) → ℕ → ℕ → ℕ → Type 0
+abbrev pub WindowBound : (ℕ → OpenBranch) → ℕ → ℕ → ℕ → Type 0
 WindowBound e v zero k = (k ≡ 0) × (0 < v)
 WindowBound e v (suc d) k = (e d .mark ≤ k) × (k + d + v ≤ maxWindow) × WindowBound e (e d .outer) d (e d .mark)
 
 -- The working area is long enough, the log and the branches do not meet, and no more branches are open than were opened.
 pub record Fit (w : List ℕ) (c : Control) : Type 0 where
   pub room : workingWords ≤ length w
-  pub bound : WindowBound (entryAt w) (c .window) (c .depth) (c .log)
+  pub bound : WindowBound (branchAt w) (c .window) (c .depth) (c .log)
   pub opened : c .depth ≤ c .opened
 
 -- v may be left of the window: less than there was with a branch open, and not 0 with none.

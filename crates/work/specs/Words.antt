@@ -8,7 +8,7 @@ use lib.Seq.{sets}
 use Rattle.location.specs.Sets.{limit}
 use Rattle.rules.specs.declared.Tagged.{Tagged}
 use Rattle.rules.specs.Rules.Changes.{Change}
-use Rattle.work.specs.declared.BranchEntry.{BranchEntry}
+use Rattle.work.specs.declared.OpenBranch.{OpenBranch}
 use Rattle.work.specs.Layout.{operandBase, changeBase, branchBase}
 
 -- ---- an operand: its value, then the words of its set
@@ -45,16 +45,16 @@ undone w zero (suc j) = w
 undone w (suc k) (suc j) = undone (stored w (changeAt w k .location) (changeAt w k .before)) k j
 
 -- ---- an open branch
-abbrev pub entryAt : List ℕ → ℕ → BranchEntry
-entryAt w k = record {
+abbrev pub branchAt : List ℕ → ℕ → OpenBranch
+branchAt w k = record {
   id = getD w (branchBase k) 0;
   target = getD w (branchBase k + 1) 0;
   outer = getD w (branchBase k + 2) 0;
   mark = getD w (branchBase k + 3) 0;
 }
 
-abbrev pub entryStored : List ℕ → ℕ → BranchEntry → List ℕ
-entryStored w k b = sets w (branchBase k) (b .id ∷ b .target ∷ b .outer ∷ b .mark ∷ [])
+abbrev pub branchStored : List ℕ → ℕ → OpenBranch → List ℕ
+branchStored w k b = sets w (branchBase k) (b .id ∷ b .target ∷ b .outer ∷ b .mark ∷ [])
 
 -- with d branches open: w with none, else v. So the window of a new branch, where w is the job's, and what an instruction leaves,
 -- where w is what there was.

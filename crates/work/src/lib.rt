@@ -12,7 +12,7 @@ ghost use lib.ListN.{length, replicate};
 ghost use lib.Seq.{sets};
 ghost use Rattle.rules.specs.Rules.Calls.{written, workingWords};
 ghost use Rattle.work.specs.Layout.{operandBase, changeBase, firstBranch, branchBase};
-ghost use Rattle.work.specs.Words.{taggedIn, taggedAt, stored, changed, undone, entryAt, entryStored};
+ghost use Rattle.work.specs.Words.{taggedIn, taggedAt, stored, changed, undone, branchAt, branchStored};
 
 // Location l has its operand from OPERAND * l on: the value, then the words of the set.
 pub const OPERAND: usize = 5;
@@ -20,10 +20,10 @@ pub const OPERAND: usize = 5;
 pub const LOG: usize = 1680;
 // How many words a change has.
 pub const CHANGE: usize = 6;
-// Branch k stands from LOG + (BRANCHES - ENTRY * k) on, downwards towards the log and never below LOG.
+// Branch k stands from LOG + (BRANCHES - BRANCH * k) on, downwards towards the log and never below LOG.
 pub const BRANCHES: usize = 1202;
 // How many words a branch has.
-pub const ENTRY: usize = 4;
+pub const BRANCH: usize = 4;
 // Label i has the word of its instruction, as the crate `descriptor` makes it, at LABELS + i.
 pub const LABELS: usize = 3576;
 // How many words there are; those past the table of labels are free.
@@ -31,7 +31,7 @@ pub const WORDS: usize = 4096;
 
 // What the words hold of an open branch: `outer` is what was left of the window of the branch below when it was opened (of the first
 // branch the window with nothing open), and `mark` the length of the log then.
-pub struct BranchEntry {
+pub struct OpenBranch {
     pub id: usize,
     pub target: usize,
     pub outer: usize,
@@ -82,11 +82,11 @@ pub fn change(work: &mut [u64], count: usize, l: Location, v: Tagged)
     requires { ⌜ changeBase count + 6 ≤ length (now work) ⌝ }
     ensures { λ _. ⌜ now (work .exit) ≡ changed (now (work .entry)) count (l .0) v ⌝ }
 {
-    let entry = LOG + CHANGE * count;
+    let at = LOG + CHANGE * count;
     let old = load(&work[..], l);
     let deps = old.deps;
-    work[entry] = l.index() as u64;
-    store_at(&mut work[..], entry + 1, old.value, deps);
+    work[at] = l.index() as u64;
+    store_at(&mut work[..], at + 1, old.value, deps);
     store(&mut work[..], l, v);
 }
 
@@ -98,22 +98,22 @@ pub fn undo(work: &mut [u64], count: usize, mark: usize)
     let mut k = count;
     while mark < k {
         k -= 1;
-        let entry = LOG + CHANGE * k;
-        let before = load_at(&work[..], entry + 1);
+        let at = LOG + CHANGE * k;
+        let before = load_at(&work[..], at + 1);
         let deps = before.deps;
-        let l = (work[entry] as usize) % LocationSet::LIMIT;
+        let l = (work[at] as usize) % LocationSet::LIMIT;
         store_at(&mut work[..], OPERAND * l, before.value, deps);
     }
 }
 
 // What stands as branch number k.
-pub fn load_branch(work: &[u64], k: usize) -> BranchEntry
+pub fn load_branch(work: &[u64], k: usize) -> OpenBranch
     requires { ⌜ 4 * k ≤ firstBranch ⌝ }
     requires { ⌜ branchBase k + 4 ≤ length (now work) ⌝ }
-    ensures { λ r. ⌜ r ≡ entryAt (now (work .entry)) k ⌝ }
+    ensures { λ r. ⌜ r ≡ branchAt (now (work .entry)) k ⌝ }
 {
-    let at = LOG + (BRANCHES - ENTRY * k);
-    BranchEntry {
+    let at = LOG + (BRANCHES - BRANCH * k);
+    OpenBranch {
         id: work[at] as usize,
         target: work[at + 1] as usize,
         outer: work[at + 2] as usize,
@@ -121,12 +121,12 @@ pub fn load_branch(work: &[u64], k: usize) -> BranchEntry
     }
 }
 
-pub fn push_branch(work: &mut [u64], k: usize, b: BranchEntry)
+pub fn push_branch(work: &mut [u64], k: usize, b: OpenBranch)
     requires { ⌜ 4 * k ≤ firstBranch ⌝ }
     requires { ⌜ branchBase k + 4 ≤ length (now work) ⌝ }
-    ensures { λ _. ⌜ now (work .exit) ≡ entryStored (now (work .entry)) k b ⌝ }
+    ensures { λ _. ⌜ now (work .exit) ≡ branchStored (now (work .entry)) k b ⌝ }
 {
-    let at = LOG + (BRANCHES - ENTRY * k);
+    let at = LOG + (BRANCHES - BRANCH * k);
     work[at] = b.id as u64;
     work[at + 1] = b.target as u64;
     work[at + 2] = b.outer as u64;

@@ -1,6 +1,6 @@
 // The mispredicting machine in the working words: document 01's rules as moves from one control to the next. What is left of a
 // window is computed by the caller.
-use super::BranchEntry;
+use super::OpenBranch;
 use location::Location;
 use rules::Tagged;
 ghost use mathlib.Core.Path.{_≡_};
@@ -82,7 +82,7 @@ pub fn open_branch(
     let k = c.depth;
     let log = c.log;
     let opened = c.opened;
-    let b = BranchEntry {
+    let b = OpenBranch {
         id: opened,
         target,
         outer: remaining,

@@ -56,7 +56,7 @@ written ws area = ws ++ drop (length ws) area
 -- the 4,096 working words are 0."
 unfoldable pub areasAfter : Result → Areas → Areas
 areasAfter r a = record {
-  trace = written (traceWords (r .log .trace)) (a .trace);
+  trace = written (traceWords (r .gathered .trace)) (a .trace);
   end = written (values (r .last .state)) (a .end);
   work = written (replicate workingWords 0) (a .work);
 }
@@ -68,11 +68,11 @@ pub record Called (A B : Type 0) : Type 0 where
 
 -- ---- a run
 unfoldable pub counts : Result → Counts
-counts r = record { stop = r .stop; observations = length (r .log .trace); steps = r .log .steps; rollbacks = r .log .rollbacks }
+counts r = record { stop = r .stop; observations = length (r .gathered .trace); steps = r .gathered .steps; rollbacks = r .gathered .rollbacks }
 
 -- "A run returns its stop, observation count, steps, rollbacks, D, plain set and verdict."
 unfoldable pub runReport : Job → Result → RunAnswer
-runReport job r = record { outcome = runs.Ran (counts r) (verdict job r); full = r .log .full; plain = r .log .plain }
+runReport job r = record { outcome = runs.Ran (counts r) (verdict job r); full = r .gathered .full; plain = r .gathered .plain }
 
 -- "number only"
 unfoldable pub runRefused : Refusal → RunAnswer
@@ -94,8 +94,8 @@ runCall file a = runParsed (parse file) a
 -- steps and plain set"
 unfoldable pub plainReport : Result → PlainAnswer
 plainReport r = record {
-  outcome = plains.Ran (record { stop = r .stop; observations = length (r .log .trace); steps = r .log .steps });
-  plain = r .log .plain;
+  outcome = plains.Ran (record { stop = r .stop; observations = length (r .gathered .trace); steps = r .gathered .steps });
+  plain = r .gathered .plain;
 }
 
 unfoldable pub plainRefused : Refusal → PlainAnswer

@@ -91,7 +91,7 @@ unfoldable pub listingOf : ℕ → Parsed → List ℕ
 listingOf k (rejected r) = answerLines 0 [] (runRefused r)
 listingOf k (accepted job) =
     let r = mispredictingRun job k in
-    answerLines (endPlace (job .code)) (r .log .trace) (runReport job r)
+    answerLines (endPlace (job .code)) (r .gathered .trace) (runReport job r)
 
 unfoldable pub listing : List ℕ → List ℕ
 listing file = listingOf printedRoom (parse file)

@@ -19,10 +19,10 @@ ifRoom false = halted TraceFull
 pub record Ended (M G : Type 0) : Type 0 where
   pub stop : Stop
   pub last : M
-  pub log : G
+  pub gathered : G
 
 unfoldable pub ended : {M G : Type 0} → Stop → M → G → Ended M G
-ended x m g = record { stop = x; last = m; log = g }
+ended x m g = record { stop = x; last = m; gathered = g }
 
 module _ {M G : Type 0} (over : M → Bool) (halt : M → G → Halt) (next : M → M) (note : M → G → G) where
   -- at most k steps more

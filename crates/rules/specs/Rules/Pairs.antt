@@ -56,7 +56,7 @@ pairWord job vs k =
     let r = mispredictingRun job k in
     let r′ = mispredictingRun (withState job vs) k in
     firstThatFits (alikeFrom (job .public) 0 (job .init) vs) (isFinished (r .stop) && isFinished (r′ .stop))
-    (sameTrace (plainRun job k .log .trace) (plainRun (withState job vs) k .log .trace)) (sameTrace (r .log .trace) (r′ .log .trace))
+    (sameTrace (plainRun job k .gathered .trace) (plainRun (withState job vs) k .gathered .trace)) (sameTrace (r .gathered .trace) (r′ .gathered .trace))
 
 -- "A pair has two trace areas of equal length and no end area"
 pub record PairAreas : Type 0 where
@@ -71,8 +71,8 @@ pairLent first second work = record { first = first; second = second; work = wor
 -- "Both runs are made and both traces written in every one of these cases"; "all else is left as by a run"
 unfoldable pub pairAfter : Result → Result → PairAreas → PairAreas
 pairAfter r r′ a = record {
-  first = written (traceWords (r .log .trace)) (a .first);
-  second = written (traceWords (r′ .log .trace)) (a .second);
+  first = written (traceWords (r .gathered .trace)) (a .first);
+  second = written (traceWords (r′ .gathered .trace)) (a .second);
   work = written (replicate workingWords 0) (a .work);
 }
 

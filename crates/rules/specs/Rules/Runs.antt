@@ -18,7 +18,7 @@ use Rattle.rules.specs.Rules.Loop.{Halt, ifRoom, Ended, loop}
 
 -- What a run gathers: "A run's trace is the list of all its observations in order"; the steps made, the rollbacks among them,
 -- the full set D and the plain set.
-pub record Log : Type 0 where
+pub record Gathered : Type 0 where
   pub trace : List Observation
   pub steps : ℕ
   pub rollbacks : ℕ
@@ -26,7 +26,7 @@ pub record Log : Type 0 where
   pub plain : LocationSet
 
 abbrev pub Result : Type 0
-Result = Ended Machine Log
+Result = Ended Machine Gathered
 
 -- "the plain set gathers those observed with nothing open, and a branch opened with nothing open belongs to it"
 unfoldable pub gather : List Branch → LocationSet → LocationSet → LocationSet
@@ -35,7 +35,7 @@ gather (b ∷ bs) plain s = plain
 
 -- "Each instruction carried out and each rollback is one step". "The full set D gathers the set of every observed address,
 -- jump value and branch register".
-unfoldable pub note : Machine → Step → Log → Log
+unfoldable pub note : Machine → Step → Gathered → Gathered
 note M s g = record {
   trace = g .trace ++ s .obs;
   steps = suc (g .steps);
@@ -53,16 +53,16 @@ unfoldable pub over : Code → Machine → Bool
 over code M = overOn code (M .place) (M .branches)
 
 -- "else as "trace full" when the next step's observations don't all fit; that step is not made"
-unfoldable pub fits : ℕ → Step → Log → Bool
+unfoldable pub fits : ℕ → Step → Gathered → Bool
 fits room s g = leb (length (g .trace) + length (s .obs)) room
 
-unfoldable pub halt : (Machine → Step) → ℕ → Machine → Log → Halt
+unfoldable pub halt : (Machine → Step) → ℕ → Machine → Gathered → Halt
 halt f room M g = ifRoom (fits room (f M) g)
 
 -- A run by the step function f, of at most k steps more, with room for so many observations in all. "Otherwise the run stops
 -- as "spent" when b steps are made": the loop tries finished, then spent, then trace full.
-unfoldable pub run : (Machine → Step) → Code → ℕ → ℕ → Machine → Log → Result
-run f code room k M g = loop (over code) (halt f room) (λ (N : Machine). f N .next) (λ (N : Machine) (h : Log). note N (f N) h) k M g
+unfoldable pub run : (Machine → Step) → Code → ℕ → ℕ → Machine → Gathered → Result
+run f code room k M g = loop (over code) (halt f room) (λ (N : Machine). f N .next) (λ (N : Machine) (h : Gathered). note N (f N) h) k M g
 
 -- A job: what its steps are given, the words of its state by location, the public list and the budget.
 pub record Job : Type 0 where
@@ -75,7 +75,7 @@ pub record Job : Type 0 where
 unfoldable pub first : Job → Machine
 first job = record { state = ownFrom 0 (job .init); place = 0; branches = []; opened = 0 }
 
-unfoldable pub blank : Log
+unfoldable pub blank : Gathered
 blank = record { trace = []; steps = 0; rollbacks = 0; full = empty; plain = empty }
 
 unfoldable pub mispredictingRun : Job → ℕ → Result
@@ -97,4 +97,4 @@ judge public stop full plain =
     (cond (subset full public) verdicts.Clean (cond (subset full (union public plain)) verdicts.Plain verdicts.Speculative))
 
 unfoldable pub verdict : Job → Result → Verdict
-verdict job r = judge (job .public) (r .stop) (r .log .full) (r .log .plain)
+verdict job r = judge (job .public) (r .stop) (r .gathered .full) (r .gathered .plain)

@@ -42,10 +42,10 @@ module _ {f : List ℕ} {a : Areas} (r : Runs f a) where
   unfolding runCall runParsed
   call-runs = rw (r .parsed, r .enough, runParsed)
 
-  pub trace-runs : traceOf f a ≡ traceWords (result .log .trace)
+  pub trace-runs : traceOf f a ≡ traceWords (result .gathered .trace)
   unfolding traceOf traceIn runReport areasAfter counts written
   trace-runs =
-      let os = result .log .trace in
+      let os = result .gathered .trace in
       rw call-runs (take-at (traceWords os) _ (2 * length os) (length-traceWords os))
 
   -- the plain run that the plain call makes
@@ -56,10 +56,10 @@ module _ {f : List ℕ} {a : Areas} (r : Runs f a) where
   unfolding plainCall plainParsed
   plain-call-runs = rw (r .parsed, r .enough, plainParsed)
 
-  pub plain-trace-runs : plainTraceOf f a ≡ traceWords (plainResult .log .trace)
+  pub plain-trace-runs : plainTraceOf f a ≡ traceWords (plainResult .gathered .trace)
   unfolding plainTraceOf plainReport areasAfter written
   plain-trace-runs =
-      let os = plainResult .log .trace in
+      let os = plainResult .gathered .trace in
       rw plain-call-runs (take-at (traceWords os) _ (2 * length os) (length-traceWords os))
 
 -- "number only", and all areas left as they were

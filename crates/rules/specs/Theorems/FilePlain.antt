@@ -46,10 +46,10 @@ module _ {f : List ℕ} {a a′ : Areas} (r : Runs f a) (h : SameLengths a a′)
   matches m =
       let size : length (plain .last .state) ≡ length (r .job .init) = plain-length (r .job) (room (a′ .trace)) in
       record {
-        counts = record { stop = plain .stop; observations = length (plain .log .trace); steps = plain .log .steps };
+        counts = record { stop = plain .stop; observations = length (plain .gathered .trace); steps = plain .gathered .steps };
         finishes = rw (plain-call-runs other);
         stop = m .stop;
-        observed = result r .log .trace;
+        observed = result r .gathered .trace;
         written = unfold traceOf in trace-runs r;
         trace = plain-trace-runs other ∙ ap traceWords (m .trace);
         states = rw (plain-call-runs other, call-runs r, ← m .state)

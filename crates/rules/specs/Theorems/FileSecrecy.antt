@@ -62,7 +62,7 @@ module _ {f g : List ℕ} {a a′ : Areas} (r : Runs f a) (s : SameButState f g)
   unfolding runReport
   same-reported k =
       let p = passed f (r .job) (r .parsed) in
-      let d : result r .log .full ≡ runCall f a .answer .full = rw (call-runs r) in
+      let d : result r .gathered .full ≡ runCall f a .answer .full = rw (call-runs r) in
       same-call
       (demand3 (r .job) (room (a .trace)) (stateOf (trailer f) g) (init-most p) (same-size f g (r .job) (r .parsed))
       (alike-as d (job-init p) k))

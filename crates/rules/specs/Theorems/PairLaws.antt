@@ -173,10 +173,10 @@ module _ {f second : List ℕ} {a : PairAreas} (r : Pairs f second a) where
 
   -- ---- the plain traces
   abbrev plain₁ : List ℕ
-  plain₁ = traceWords (plainRun (r .job) k .log .trace)
+  plain₁ = traceWords (plainRun (r .job) k .gathered .trace)
 
   abbrev plain₂ : List ℕ
-  plain₂ = traceWords (plainRun other k .log .trace)
+  plain₂ = traceWords (plainRun other k .gathered .trace)
 
   long-enough : (p : Areas) (job : Job) → length (job .init) ≡ length (r .job .init) → RunAreas f a p → longEnough job p ≡ true
   unfolding longEnough
@@ -193,13 +193,13 @@ module _ {f second : List ℕ} {a : PairAreas} (r : Pairs f second a) where
   plain-first : (p : Areas) → RunAreas f a p → plainTraceOf f p ≡ plain₁
   plain-first p h =
       plain-trace-runs (record { job = r .job; parsed = r .parsed; enough = long-enough p (r .job) refl h })
-      ∙ ap (λ (n : ℕ). traceWords (plainRun (r .job) n .log .trace)) (same-room p h)
+      ∙ ap (λ (n : ℕ). traceWords (plainRun (r .job) n .gathered .trace)) (same-room p h)
 
   plain-second : (g : List ℕ) (p : Areas) → SecondJob f second g → RunAreas f a p → plainTraceOf g p ≡ plain₂
   plain-second g p s h =
       let q : parse g ≡ accepted other = parse-other (r .parsed) (s .same) ∙ ap (λ (ws : List ℕ). accepted (withState (r .job) ws)) (s .state ∙ sym second-words) in
       plain-trace-runs (record { job = other; parsed = q; enough = long-enough p other (unfold withState in sym same-size) h })
-      ∙ ap (λ (n : ℕ). traceWords (plainRun other n .log .trace)) (same-room p h)
+      ∙ ap (λ (n : ℕ). traceWords (plainRun other n .gathered .trace)) (same-room p h)
 
   same-plain : sameWords plain₁ plain₂ ≡ true → SamePlain f second a
   same-plain e = record {
@@ -213,10 +213,10 @@ module _ {f second : List ℕ} {a : PairAreas} (r : Pairs f second a) where
 
   -- ---- the full traces
   abbrev full₁ : List ℕ
-  full₁ = traceWords (run₁ .log .trace)
+  full₁ = traceWords (run₁ .gathered .trace)
 
   abbrev full₂ : List ℕ
-  full₂ = traceWords (run₂ .log .trace)
+  full₂ = traceWords (run₂ .gathered .trace)
 
   shown : (os : List Observation) (area : List ℕ) → take (2 * length os) (written (traceWords os) area) ≡ traceWords os
   unfolding written
@@ -225,12 +225,12 @@ module _ {f second : List ℕ} {a : PairAreas} (r : Pairs f second a) where
   same-traces : sameWords full₁ full₂ ≡ true → SameTraces (counts run₁) (counts run₂) (pairAfter run₁ run₂ a)
   unfolding counts pairAfter
   same-traces e = record {
-    same = shown (run₁ .log .trace) (a .first) ∙ same-words-equal full₁ full₂ e ∙ sym (shown (run₂ .log .trace) (a .second));
+    same = shown (run₁ .gathered .trace) (a .first) ∙ same-words-equal full₁ full₂ e ∙ sym (shown (run₂ .gathered .trace) (a .second));
   }
 
   other-traces : sameWords full₁ full₂ ≡ false → SameTraces (counts run₁) (counts run₂) (pairAfter run₁ run₂ a) → ⊥
   unfolding counts pairAfter
-  other-traces e h = other-words full₁ full₂ e (sym (shown (run₁ .log .trace) (a .first)) ∙ h .same ∙ shown (run₂ .log .trace) (a .second))
+  other-traces e h = other-words full₁ full₂ e (sym (shown (run₁ .gathered .trace) (a .first)) ∙ h .same ∙ shown (run₂ .gathered .trace) (a .second))
 
   -- ---- the word
   abbrev PairMeans : PairWord → Type 0

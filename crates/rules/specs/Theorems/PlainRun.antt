@@ -19,7 +19,7 @@ use Rattle.rules.specs.Rules.Instructions.{Instr, skip, assign, load, st
 use Rattle.rules.specs.Rules.Plain.{State, at, Code, fetch, branchTo, exec}
 use Rattle.rules.specs.Rules.Mispredicting.{Branch, Machine, Step, lower, ordinary, opening, forward, rolling, step, plainStep}
 use Rattle.rules.specs.Rules.Loop.{ended}
-use Rattle.rules.specs.Rules.Runs.{Log, Result, gather, note, overOn, over, fits, run, Job, first, blank, mispredictingRun, plainRun}
+use Rattle.rules.specs.Rules.Runs.{Gathered, Result, gather, note, overOn, over, fits, run, Job, first, blank, mispredictingRun, plainRun}
 use Rattle.rules.specs.Rules.Strike.{strike, strikeTo}
 use Rattle.rules.specs.Theorems.RunLaws.{run-over, run-step, run-ind}
 use Rattle.rules.specs.Theorems.StepLaws.{machineWith, branchWith, forward-cases, step-empty, step-open}
@@ -31,13 +31,13 @@ data BottomIs (i : ℕ) (σ : State) (p : ℕ) : List Branch → Type 0 where
   above : {j v t : ℕ} {τ : State} {bs : List Branch} → j ≢ i → BottomIs i σ p bs → BottomIs i σ p (branchWith j τ t v ∷ bs)
 
 -- the logs of the mispredicting and the plain run, with nothing open
-record ClosedLogs (g q : Log) : Type 0 where
+record ClosedLogs (g q : Gathered) : Type 0 where
   plain : g .plain ≡ q .plain
   shorter : length (q .trace) ≤ length (g .trace)
   struck : (rest : List Observation) → strike (g .trace ++ rest) ≡ q .trace ++ strike rest
 
 -- and with branch i at the bottom, which goes back to place p
-record OpenLogs (i p : ℕ) (g q : Log) : Type 0 where
+record OpenLogs (i p : ℕ) (g q : Gathered) : Type 0 where
   plain : g .plain ≡ q .plain
   shorter : length (q .trace) ≤ length (g .trace)
   base : List Observation
@@ -46,10 +46,10 @@ record OpenLogs (i p : ℕ) (g q : Log) : Type 0 where
 
 -- The plain machine beside the mispredicting one: at the same state and place with nothing open; else at the state and place that
 -- the bottom branch goes back to, its last observation being the one that this rollback will make.
-data Simulates : Machine → Log → Machine → Log → Type 0 where
-  nothing-open : {σ : State} {p n n′ : ℕ} {g q : Log} → ClosedLogs g q
+data Simulates : Machine → Gathered → Machine → Gathered → Type 0 where
+  nothing-open : {σ : State} {p n n′ : ℕ} {g q : Gathered} → ClosedLogs g q
       → Simulates (machineWith σ p [] n) g (machineWith σ p [] n′) q
-  branch-open : {σ τ : State} {i p t n n′ : ℕ} {bs : List Branch} {g q : Log} → BottomIs i σ p bs → i < n → OpenLogs i p g q
+  branch-open : {σ τ : State} {i p t n n′ : ℕ} {bs : List Branch} {g q : Gathered} → BottomIs i σ p bs → i < n → OpenLogs i p g q
       → Simulates (machineWith τ t bs n) g (machineWith σ p [] n′) q
 
 module _ (code : Code) where
@@ -95,7 +95,7 @@ module _ (code : Code) where
 
   -- ---- while a branch is open the plain machine waits
   -- the logs after a step whose observations are all struck out
-  open-logs : {i p : ℕ} {g q : Log} (M : Machine) (s : Step) → OpenLogs i p g q
+  open-logs : {i p : ℕ} {g q : Gathered} (M : Machine) (s : Step) → OpenLogs i p g q
       → gather (M .branches) (g .plain) (s .seen) ≡ g .plain
       → ((rest : List Observation) → strikeTo (s .obs ++ rest) i ≡ strikeTo rest i) → OpenLogs i p (note M s g) q
   unfolding note
@@ -108,10 +108,10 @@ module _ (code : Code) where
   }
 
   -- the step s of M, while the plain machine waits
-  abbrev Waits : Machine → Log → Machine → Log → Step → Type 0
+  abbrev Waits : Machine → Gathered → Machine → Gathered → Step → Type 0
   Waits M g N q s = Simulates (s .next) (note M s g) N q
 
-  module _ {σ : State} {p i : ℕ} {bs : List Branch} {g q : Log} (τ : State) (t n n′ : ℕ)
+  module _ {σ : State} {p i : ℕ} {bs : List Branch} {g q : Gathered} (τ : State) (t n n′ : ℕ)
       (o : BottomIs i σ p bs) (lt : i < n) (a : OpenLogs i p g q) where
     open-ordinary : (x : Instr)
         → (let M = machineWith τ t bs n in Waits M g (machineWith σ p [] n′) q (ordinary code M x))
@@ -141,7 +141,7 @@ module _ (code : Code) where
   unfolding strikeTo
   strikeTo-rollback i p rest = rw (eq-eqb i i refl)
 
-  module _ (σ : State) {p i : ℕ} {g q : Log} (τ : State) (t n n′ : ℕ) (lt : i < n) (a : OpenLogs i p g q) where
+  module _ (σ : State) {p i : ℕ} {g q : Gathered} (τ : State) (t n n′ : ℕ) (lt : i < n) (a : OpenLogs i p g q) where
     rolled-logs : (v : ℕ)
         → (let M = machineWith τ t (branchWith i σ p v ∷ []) n in ClosedLogs (note M (rolling M (branchWith i σ p v) []) g) q)
     unfolding rolling note gather
@@ -168,7 +168,7 @@ module _ (code : Code) where
         branch-open o lt (open-logs M (rolling M (branchWith j ρ t′ v) bs) a refl (λ rest. rw (ne-eqb j i ne)))
 
   -- ---- with nothing open both make the same step, or a branch is opened
-  module _ (σ : State) (p n n′ : ℕ) {g q : Log} (a : ClosedLogs g q) where
+  module _ (σ : State) (p n n′ : ℕ) {g q : Gathered} (a : ClosedLogs g q) where
     closed-logs : (x : Instr)
         → (let M = machineWith σ p [] n in let N = machineWith σ p [] n′ in
         ClosedLogs (note M (ordinary code M x) g) (note N (ordinary code N x) q))
@@ -238,13 +238,13 @@ module _ (code : Code) where
         (λ x e. beside-ordinary room x) (beside-opening room)
 
   -- ---- one step: the plain machine waits, or makes a step of its own
-  data Simulated (room : ℕ) (M : Machine) (g : Log) (N : Machine) (q : Log) : Type 0 where
+  data Simulated (room : ℕ) (M : Machine) (g : Gathered) (N : Machine) (q : Gathered) : Type 0 where
     waits : Waits M g N q (step code M) → Simulated room M g N q
     steps : over code N ≡ false → fits room (plainStep code N) q ≡ true
         → Simulates (step code M .next) (note M (step code M) g) (plainStep code N .next) (note N (plainStep code N) q)
         → Simulated room M g N q
 
-  simulated : (room : ℕ) {M N : Machine} {g q : Log} → over code M ≡ false → fits room (step code M) g ≡ true
+  simulated : (room : ℕ) {M N : Machine} {g q : Gathered} → over code M ≡ false → fits room (step code M) g ≡ true
       → Simulates M g N q → Simulated room M g N q
   unfolding plainStep over overOn
   simulated room {g = g} e f (nothing-open {σ = σ} {p = p} {n = n} {n′ = n′} a) =
@@ -266,9 +266,9 @@ module _ (code : Code) where
 -- are equal.": what holds of a mispredicting run r that finished and of the plain run s. An end state has values and sets.
 pub record PlainMatches (r s : Result) : Type 0 where
   pub stop : s .stop ≡ Finished
-  pub trace : s .log .trace ≡ strike (r .log .trace)
+  pub trace : s .gathered .trace ≡ strike (r .gathered .trace)
   pub state : s .last .state ≡ r .last .state
-  pub plain : s .log .plain ≡ r .log .plain
+  pub plain : s .gathered .plain ≡ r .gathered .plain
 
 spent≢finished : Spent ≢ Finished
 spent≢finished e = let z : _≡_ {A = ℕ} 0 1 = cc in omega arith
@@ -278,12 +278,12 @@ full≢finished e = let z : _≡_ {A = ℕ} 0 1 = cc in omega arith
 
 module _ (code : Code) (room : ℕ) where
   -- a plain run of at least as many steps, from any machine that stands beside M
-  abbrev Matched : ℕ → Machine → Log → Result → Type 0
+  abbrev Matched : ℕ → Machine → Gathered → Result → Type 0
   Matched k M g r =
-      r .stop ≡ Finished → (k′ : ℕ) (N : Machine) (q : Log) → k ≤ k′ → Simulates M g N q
+      r .stop ≡ Finished → (k′ : ℕ) (N : Machine) (q : Gathered) → k ≤ k′ → Simulates M g N q
       → PlainMatches r (run (plainStep code) code room k′ N q)
 
-  closed-end : (σ : State) (p n n′ : ℕ) {g q : Log} → ClosedLogs g q
+  closed-end : (σ : State) (p n n′ : ℕ) {g q : Gathered} → ClosedLogs g q
       → PlainMatches (ended Finished (machineWith σ p [] n) g) (ended Finished (machineWith σ p [] n′) q)
   unfolding ended strike
   closed-end σ p n n′ {g} {q} a = record {
@@ -293,13 +293,13 @@ module _ (code : Code) (room : ℕ) where
     plain = sym (a .plain);
   }
 
-  at-end : (k : ℕ) (M : Machine) (g : Log) → over code M ≡ true → Matched k M g (ended Finished M g)
+  at-end : (k : ℕ) (M : Machine) (g : Gathered) → over code M ≡ true → Matched k M g (ended Finished M g)
   unfolding over overOn
   at-end k M g e d k′ N q le (nothing-open {σ = σ} {p = p} {n = n} {n′ = n′} a) =
       rw (run-over (plainStep code) code room k′ (machineWith σ p [] n′) q e) (closed-end σ p n n′ a)
   at-end k M g e d k′ N q le (branch-open {t = t} o lt a) = absurd (true≢false (sym e ∙ bottom-over code t o))
 
-  at-step : (k : ℕ) (M : Machine) (g : Log) → over code M ≡ false → fits room (step code M) g ≡ true
+  at-step : (k : ℕ) (M : Machine) (g : Gathered) → over code M ≡ false → fits room (step code M) g ≡ true
       → (let M′ = step code M .next in let g′ = note M (step code M) g in
       Matched k M′ g′ (run (step code) code room k M′ g′) → Matched (suc k) M g (run (step code) code room k M′ g′))
   at-step k M g e f ih d k′ N q le h = go k′ le (simulated code room e f h)
@@ -314,7 +314,7 @@ module _ (code : Code) (room : ℕ) where
           rw (run-step (plainStep code) code room k′ N q e′ f′)
           (ih d k′ (plainStep code N .next) (note N (plainStep code N) q) (omega arith) s)
 
-  matched : (k : ℕ) (M : Machine) (g : Log) → Matched k M g (run (step code) code room k M g)
+  matched : (k : ℕ) (M : Machine) (g : Gathered) → Matched k M g (run (step code) code room k M g)
   unfolding ended
   matched =
       run-ind (step code) code room Matched at-end

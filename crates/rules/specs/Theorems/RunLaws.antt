@@ -17,15 +17,15 @@ use Rattle.rules.specs.declared.Stop.the-variants.{Finished, Spent, Trac
 use Rattle.rules.specs.Rules.Mispredicting.{Branch, Machine, Step, step, plainStep}
 use Rattle.rules.specs.Rules.Plain.{Code}
 use Rattle.rules.specs.Rules.Loop.{proceed, halted, ifRoom, ended}
-use Rattle.rules.specs.Rules.Runs.{Log, Result, gather, note, over, fits, halt, run, Job, first, blank, mispredictingRun, plainRun}
+use Rattle.rules.specs.Rules.Runs.{Gathered, Result, gather, note, over, fits, halt, run, Job, first, blank, mispredictingRun, plainRun}
 use Rattle.rules.specs.Theorems.LoopLaws.{loop-over, loop-spent, loop-halted, loop-step, loop-ind}
 
 -- ---- what halts the run before a step
-pub halt-fits : (f : Machine → Step) (room : ℕ) (M : Machine) (g : Log) → fits room (f M) g ≡ true → halt f room M g ≡ proceed
+pub halt-fits : (f : Machine → Step) (room : ℕ) (M : Machine) (g : Gathered) → fits room (f M) g ≡ true → halt f room M g ≡ proceed
 unfolding halt
 halt-fits f room M g e = rw e
 
-pub halt-full : (f : Machine → Step) (room : ℕ) (M : Machine) (g : Log) → fits room (f M) g ≡ false → halt f room M g ≡ halted TraceFull
+pub halt-full : (f : Machine → Step) (room : ℕ) (M : Machine) (g : Gathered) → fits room (f M) g ≡ false → halt f room M g ≡ halted TraceFull
 unfolding halt
 halt-full f room M g e = rw e
 
@@ -41,63 +41,63 @@ halted-full true x e = absurd (proceed≢halted x e)
 halted-full false x e = (refl, cc)
 
 module _ (f : Machine → Step) (code : Code) (room : ℕ) where
-  pub run-over : (k : ℕ) (M : Machine) (g : Log) → over code M ≡ true → run f code room k M g ≡ ended Finished M g
+  pub run-over : (k : ℕ) (M : Machine) (g : Gathered) → over code M ≡ true → run f code room k M g ≡ ended Finished M g
   unfolding run
-  run-over k M g e = loop-over (over code) (halt f room) (λ (N : Machine). f N .next) (λ (N : Machine) (h : Log). note N (f N) h) k M g e
+  run-over k M g e = loop-over (over code) (halt f room) (λ (N : Machine). f N .next) (λ (N : Machine) (h : Gathered). note N (f N) h) k M g e
 
-  pub run-spent : (M : Machine) (g : Log) → over code M ≡ false → run f code room zero M g ≡ ended Spent M g
+  pub run-spent : (M : Machine) (g : Gathered) → over code M ≡ false → run f code room zero M g ≡ ended Spent M g
   unfolding run
-  run-spent M g e = loop-spent (over code) (halt f room) (λ (N : Machine). f N .next) (λ (N : Machine) (h : Log). note N (f N) h) M g e
+  run-spent M g e = loop-spent (over code) (halt f room) (λ (N : Machine). f N .next) (λ (N : Machine) (h : Gathered). note N (f N) h) M g e
 
-  pub run-full : (k : ℕ) (M : Machine) (g : Log) → over code M ≡ false → fits room (f M) g ≡ false
+  pub run-full : (k : ℕ) (M : Machine) (g : Gathered) → over code M ≡ false → fits room (f M) g ≡ false
       → run f code room (suc k) M g ≡ ended TraceFull M g
   unfolding run
   run-full k M g e h =
-      loop-halted (over code) (halt f room) (λ (N : Machine). f N .next) (λ (N : Machine) (h : Log). note N (f N) h) k M g TraceFull e
+      loop-halted (over code) (halt f room) (λ (N : Machine). f N .next) (λ (N : Machine) (h : Gathered). note N (f N) h) k M g TraceFull e
       (halt-full f room M g h)
 
-  pub run-step : (k : ℕ) (M : Machine) (g : Log) → over code M ≡ false → fits room (f M) g ≡ true
+  pub run-step : (k : ℕ) (M : Machine) (g : Gathered) → over code M ≡ false → fits room (f M) g ≡ true
       → run f code room (suc k) M g ≡ run f code room k (f M .next) (note M (f M) g)
   unfolding run
   run-step k M g e h =
-      loop-step (over code) (halt f room) (λ (N : Machine). f N .next) (λ (N : Machine) (h : Log). note N (f N) h) k M g e
+      loop-step (over code) (halt f room) (λ (N : Machine). f N .next) (λ (N : Machine) (h : Gathered). note N (f N) h) k M g e
       (halt-fits f room M g h)
 
   -- What holds at each way out, and is carried back over each step made, holds of a run.
   module _
-      (P : ℕ → Machine → Log → Result → Type 0)
-      (at-over : (k : ℕ) (M : Machine) (g : Log) → over code M ≡ true → P k M g (ended Finished M g))
-      (at-spent : (M : Machine) (g : Log) → over code M ≡ false → P zero M g (ended Spent M g))
-      (at-full : (k : ℕ) (M : Machine) (g : Log) → over code M ≡ false → fits room (f M) g ≡ false → P (suc k) M g (ended TraceFull M g))
-      (at-step : (k : ℕ) (M : Machine) (g : Log) → over code M ≡ false → fits room (f M) g ≡ true
+      (P : ℕ → Machine → Gathered → Result → Type 0)
+      (at-over : (k : ℕ) (M : Machine) (g : Gathered) → over code M ≡ true → P k M g (ended Finished M g))
+      (at-spent : (M : Machine) (g : Gathered) → over code M ≡ false → P zero M g (ended Spent M g))
+      (at-full : (k : ℕ) (M : Machine) (g : Gathered) → over code M ≡ false → fits room (f M) g ≡ false → P (suc k) M g (ended TraceFull M g))
+      (at-step : (k : ℕ) (M : Machine) (g : Gathered) → over code M ≡ false → fits room (f M) g ≡ true
       → P k (f M .next) (note M (f M) g) (run f code room k (f M .next) (note M (f M) g))
       → P (suc k) M g (run f code room k (f M .next) (note M (f M) g))) where
-    pub run-ind : (k : ℕ) (M : Machine) (g : Log) → P k M g (run f code room k M g)
+    pub run-ind : (k : ℕ) (M : Machine) (g : Gathered) → P k M g (run f code room k M g)
     unfolding run halt
     run-ind =
-        loop-ind (over code) (halt f room) (λ (N : Machine). f N .next) (λ (N : Machine) (h : Log). note N (f N) h) P at-over at-spent
+        loop-ind (over code) (halt f room) (λ (N : Machine). f N .next) (λ (N : Machine) (h : Gathered). note N (f N) h) P at-over at-spent
         (λ k M g x e q. let d = halted-full (fits room (f M) g) x q in rw (d .1) (at-full k M g e (d .0)))
         (λ k M g e q r. at-step k M g e (proceed-fits (fits room (f M) g) q) r)
 
   -- D only grows
-  pub full-grows : (k : ℕ) (M : Machine) (g : Log) → Within (g .full) (run f code room k M g .log .full)
+  pub full-grows : (k : ℕ) (M : Machine) (g : Gathered) → Within (g .full) (run f code room k M g .gathered .full)
   unfolding ended note
   full-grows =
-      run-ind (λ k M g r. Within (g .full) (r .log .full)) (λ k M g e. within-refl (g .full)) (λ M g e. within-refl (g .full))
+      run-ind (λ k M g r. Within (g .full) (r .gathered .full)) (λ k M g e. within-refl (g .full)) (λ M g e. within-refl (g .full))
       (λ k M g e h. within-refl (g .full)) (λ k M g e h p. within-trans (within-left (g .full) (f M .seen)) p)
 
   -- at most k steps are made
-  pub steps-bound : (k : ℕ) (M : Machine) (g : Log) → run f code room k M g .log .steps ≤ g .steps + k
+  pub steps-bound : (k : ℕ) (M : Machine) (g : Gathered) → run f code room k M g .gathered .steps ≤ g .steps + k
   unfolding ended note
   steps-bound =
-      run-ind (λ k M g r. r .log .steps ≤ g .steps + k) (λ k M g e. omega arith) (λ M g e. omega arith)
+      run-ind (λ k M g r. r .gathered .steps ≤ g .steps + k) (λ k M g e. omega arith) (λ M g e. omega arith)
       (λ k M g e h. omega arith) (λ k M g e h p. omega arith)
 
   -- the trace never outgrows its room
-  pub trace-bound : (k : ℕ) (M : Machine) (g : Log) → length (g .trace) ≤ room → length (run f code room k M g .log .trace) ≤ room
+  pub trace-bound : (k : ℕ) (M : Machine) (g : Gathered) → length (g .trace) ≤ room → length (run f code room k M g .gathered .trace) ≤ room
   unfolding ended note fits
   trace-bound =
-      run-ind (λ k M g r. length (g .trace) ≤ room → length (r .log .trace) ≤ room) (λ k M g e h. h) (λ M g e h. h)
+      run-ind (λ k M g r. length (g .trace) ≤ room → length (r .gathered .trace) ≤ room) (λ k M g e h. h) (λ M g e h. h)
       (λ k M g e h p. p)
       (λ k M g e h p q. p (rw (length-append (g .trace) (f M .obs)) (leb-true (length (g .trace) + length (f M .obs)) room h)))
 
@@ -107,31 +107,31 @@ module _ (f : Machine → Step) (code : Code) (room : ℕ) where
   plain-gathered (b ∷ bs) P F s w = within-trans w (within-left F s)
 
   -- the plain set lies within D
-  pub plain-within : (k : ℕ) (M : Machine) (g : Log) → Within (g .plain) (g .full)
-      → Within (run f code room k M g .log .plain) (run f code room k M g .log .full)
+  pub plain-within : (k : ℕ) (M : Machine) (g : Gathered) → Within (g .plain) (g .full)
+      → Within (run f code room k M g .gathered .plain) (run f code room k M g .gathered .full)
   unfolding ended note
   plain-within =
-      run-ind (λ k M g r. Within (g .plain) (g .full) → Within (r .log .plain) (r .log .full)) (λ k M g e w. w) (λ M g e w. w)
+      run-ind (λ k M g r. Within (g .plain) (g .full) → Within (r .gathered .plain) (r .gathered .full)) (λ k M g e w. w) (λ M g e w. w)
       (λ k M g e h w. w) (λ k M g e h p w. p (plain-gathered (M .branches) (g .plain) (g .full) (f M .seen) w))
 
 -- ---- of a job's mispredicting run
 module _ (job : Job) (room : ℕ) where
-  pub mispredicting-steps : mispredictingRun job room .log .steps ≤ job .budget
+  pub mispredicting-steps : mispredictingRun job room .gathered .steps ≤ job .budget
   unfolding mispredictingRun blank
   mispredicting-steps = let h = steps-bound (step (job .code)) (job .code) room (job .budget) (first job) blank in omega arith
 
-  pub mispredicting-trace : length (mispredictingRun job room .log .trace) ≤ room
+  pub mispredicting-trace : length (mispredictingRun job room .gathered .trace) ≤ room
   unfolding mispredictingRun blank
   mispredicting-trace = trace-bound (step (job .code)) (job .code) room (job .budget) (first job) blank (omega arith)
 
-  pub mispredicting-plain : Within (mispredictingRun job room .log .plain) (mispredictingRun job room .log .full)
+  pub mispredicting-plain : Within (mispredictingRun job room .gathered .plain) (mispredictingRun job room .gathered .full)
   unfolding mispredictingRun blank
   mispredicting-plain = plain-within (step (job .code)) (job .code) room (job .budget) (first job) blank (within-refl empty)
 
-  pub plain-steps : plainRun job room .log .steps ≤ job .budget
+  pub plain-steps : plainRun job room .gathered .steps ≤ job .budget
   unfolding plainRun blank
   plain-steps = let h = steps-bound (plainStep (job .code)) (job .code) room (job .budget) (first job) blank in omega arith
 
-  pub plain-trace : length (plainRun job room .log .trace) ≤ room
+  pub plain-trace : length (plainRun job room .gathered .trace) ≤ room
   unfolding plainRun blank
   plain-trace = trace-bound (plainStep (job .code)) (job .code) room (job .budget) (first job) blank (omega arith)

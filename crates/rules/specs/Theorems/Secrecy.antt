@@ -21,7 +21,7 @@ use Rattle.rules.specs.Rules.Expressions.{tagged}
 use Rattle.rules.specs.Rules.Plain.{at, ownFrom, Code}
 use Rattle.rules.specs.Rules.Mispredicting.{Machine, Step, step}
 use Rattle.rules.specs.Rules.Loop.{ended}
-use Rattle.rules.specs.Rules.Runs.{Log, Result, note, fits, run, Job, first, blank, mispredictingRun, isFinished, judge, verdict}
+use Rattle.rules.specs.Rules.Runs.{Gathered, Result, note, fits, run, Job, first, blank, mispredictingRun, isFinished, judge, verdict}
 use Rattle.rules.specs.Rules.Pairs.{withState}
 use Rattle.rules.specs.Rules.Demands.{AlikeOn}
 use Rattle.rules.specs.Theorems.RunLaws.{run-over, run-spent, run-full, run-step, run-ind, full-grows}
@@ -32,7 +32,7 @@ use Rattle.rules.specs.Theorems.AlikeSteps.{none, Same, SameStep, same-o
 -- ---- runs: "Demand 3 compares two whole runs."
 pub record SameResult (D : LocationSet) (r s : Result) : Type 0 where
   pub stop : r .stop ≡ s .stop
-  pub log : r .log ≡ s .log
+  pub gathered : r .gathered ≡ s .gathered
   pub last : Alike D (r .last .state) (s .last .state)
 
 -- For any step function with two laws: it keeps two machines the same as long as what it observes rests on D, and how many
@@ -40,35 +40,35 @@ pub record SameResult (D : LocationSet) (r s : Result) : Type 0 where
 module _ (f : Machine → Step) (code : Code) (room : ℕ) (D : LocationSet)
     (same : (M N : Machine) → Same D M N → Within (f M .seen) D → SameStep D (f M) (f N))
     (count : (M N : Machine) → Same D M N → length (f M .obs) ≡ length (f N .obs)) where
-  same-fits : {M N : Machine} (g : Log) → Same D M N → fits room (f M) g ≡ fits room (f N) g
+  same-fits : {M N : Machine} (g : Gathered) → Same D M N → fits room (f M) g ≡ fits room (f N) g
   unfolding fits
   same-fits {M} {N} g h = ap (λ (n : ℕ). leb (length (g .trace) + n) room) (count M N h)
 
-  same-note : {M N : Machine} {s t : Step} (g : Log) → Same D M N → SameStep D s t → note M s g ≡ note N t g
+  same-note : {M N : Machine} {s t : Step} (g : Gathered) → Same D M N → SameStep D s t → note M s g ≡ note N t g
   unfolding note
   same-note {M} {N} {s} {t} g h x = rw (x .obs, x .seen, x .back, same-gather code (g .plain) (t .seen) (h .branches))
 
-  seen-within : (M : Machine) (g : Log) → Within (note M (f M) g .full) D → Within (f M .seen) D
+  seen-within : (M : Machine) (g : Gathered) → Within (note M (f M) g .full) D → Within (f M .seen) D
   unfolding note
   seen-within M g w = union-within-right (g .full) (f M .seen) w
 
-  same-ended : {M N : Machine} (x : Stop) (g : Log) → Same D M N → SameResult D (ended x M g) (ended x N g)
+  same-ended : {M N : Machine} (x : Stop) (g : Gathered) → Same D M N → SameResult D (ended x M g) (ended x N g)
   unfolding ended
-  same-ended x g h = record { stop = refl; log = refl; last = h .state }
+  same-ended x g h = record { stop = refl; gathered = refl; last = h .state }
 
   -- a second machine that is the same as M runs as M does, to the result r
-  abbrev Follows : ℕ → Machine → Log → Result → Type 0
-  Follows k M g r = (N : Machine) → Same D M N → Within (r .log .full) D → SameResult D r (run f code room k N g)
+  abbrev Follows : ℕ → Machine → Gathered → Result → Type 0
+  Follows k M g r = (N : Machine) → Same D M N → Within (r .gathered .full) D → SameResult D r (run f code room k N g)
 
-  follows-step : (k : ℕ) (M : Machine) (g : Log)
+  follows-step : (k : ℕ) (M : Machine) (g : Gathered)
       → Follows k (f M .next) (note M (f M) g) (run f code room k (f M .next) (note M (f M) g))
-      → (N : Machine) → Same D M N → Within (run f code room k (f M .next) (note M (f M) g) .log .full) D
+      → (N : Machine) → Same D M N → Within (run f code room k (f M .next) (note M (f M) g) .gathered .full) D
       → SameResult D (run f code room k (f M .next) (note M (f M) g)) (run f code room k (f N .next) (note N (f N) g))
   follows-step k M g ih N h w =
       let x = same M N h (seen-within M g (within-trans (full-grows f code room k (f M .next) (note M (f M) g)) w)) in
       rw (← same-note g h x) (ih (f N .next) (x .next) w)
 
-  pub same-run : (k : ℕ) (M : Machine) (g : Log) (N : Machine) → Same D M N → Within (run f code room k M g .log .full) D
+  pub same-run : (k : ℕ) (M : Machine) (g : Gathered) (N : Machine) → Same D M N → Within (run f code room k M g .gathered .full) D
       → SameResult D (run f code room k M g) (run f code room k N g)
   same-run =
       run-ind f code room Follows
@@ -110,11 +110,11 @@ module _ (D : LocationSet) (xs ys : List ℕ) (bound : length xs ≤ 256) (size 
 -- ends."
 pub record SameReport (job job′ : Job) (r s : Result) : Type 0 where
   pub stop : r .stop ≡ s .stop
-  pub trace : r .log .trace ≡ s .log .trace
-  pub steps : r .log .steps ≡ s .log .steps
-  pub rollbacks : r .log .rollbacks ≡ s .log .rollbacks
-  pub full : r .log .full ≡ s .log .full
-  pub plain : r .log .plain ≡ s .log .plain
+  pub trace : r .gathered .trace ≡ s .gathered .trace
+  pub steps : r .gathered .steps ≡ s .gathered .steps
+  pub rollbacks : r .gathered .rollbacks ≡ s .gathered .rollbacks
+  pub full : r .gathered .full ≡ s .gathered .full
+  pub plain : r .gathered .plain ≡ s .gathered .plain
   pub word : verdict job r ≡ verdict job′ s
 
 undecided≢clean : verdicts.Undecided ≢ verdicts.Clean
@@ -145,7 +145,7 @@ module _ (job : Job) (room : ℕ) (vs : List ℕ) (bound : length (job .init) �
   same-first D h = record { state = own-alike D (job .init) vs bound size h; place = refl; branches = none; opened = refl }
 
   -- for any set that holds the reported one: the states at the end are alike in it too
-  pub same-runs : (D : LocationSet) → Within (mispredictingRun job room .log .full) D → AlikeOn D (job .init) vs
+  pub same-runs : (D : LocationSet) → Within (mispredictingRun job room .gathered .full) D → AlikeOn D (job .init) vs
       → SameResult D (mispredictingRun job room) (mispredictingRun (withState job vs) room)
   unfolding mispredictingRun withState
   same-runs D w h =
@@ -153,19 +153,19 @@ module _ (job : Job) (room : ℕ) (vs : List ℕ) (bound : length (job .init) �
       (job .budget) (first job) blank (first (withState job vs)) (same-first D h) w
 
   -- "Demand 3 compares two whole runs", here with states alike in "the reported set"
-  pub demand3 : AlikeOn (mispredictingRun job room .log .full) (job .init) vs
+  pub demand3 : AlikeOn (mispredictingRun job room .gathered .full) (job .init) vs
       → SameReport job (withState job vs) (mispredictingRun job room) (mispredictingRun (withState job vs) room)
   unfolding verdict withState
   demand3 h =
-      let x = same-runs (mispredictingRun job room .log .full) (within-refl (mispredictingRun job room .log .full)) h in
+      let x = same-runs (mispredictingRun job room .gathered .full) (within-refl (mispredictingRun job room .gathered .full)) h in
       record {
         stop = x .stop;
-        trace = ap (λ (g : Log). g .trace) (x .log);
-        steps = ap (λ (g : Log). g .steps) (x .log);
-        rollbacks = ap (λ (g : Log). g .rollbacks) (x .log);
-        full = ap (λ (g : Log). g .full) (x .log);
-        plain = ap (λ (g : Log). g .plain) (x .log);
-        word = ap₂ (λ (s : Stop) (g : Log). judge (job .public) s (g .full) (g .plain)) (x .stop) (x .log);
+        trace = ap (λ (g : Gathered). g .trace) (x .gathered);
+        steps = ap (λ (g : Gathered). g .steps) (x .gathered);
+        rollbacks = ap (λ (g : Gathered). g .rollbacks) (x .gathered);
+        full = ap (λ (g : Gathered). g .full) (x .gathered);
+        plain = ap (λ (g : Gathered). g .plain) (x .gathered);
+        word = ap₂ (λ (s : Stop) (g : Gathered). judge (job .public) s (g .full) (g .plain)) (x .stop) (x .gathered);
       }
 
   -- under a clean verdict ("clean if D lies within the public list"), with states alike in the public list
@@ -174,5 +174,5 @@ module _ (job : Job) (room : ℕ) (vs : List ℕ) (bound : length (job .init) �
   unfolding verdict
   demand3-clean c h =
       let r = mispredictingRun job room in
-      let w = clean-within (job .public) (r .stop) (r .log .full) (r .log .plain) c in
+      let w = clean-within (job .public) (r .stop) (r .gathered .full) (r .gathered .plain) c in
       demand3 (record { same = λ l m. h .same l (w .each l m) })

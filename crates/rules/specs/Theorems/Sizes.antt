@@ -12,7 +12,7 @@ use Rattle.rules.specs.Rules.Instructions.{Instr, skip, assign, load, st
 use Rattle.rules.specs.Rules.Plain.{State, put, ownFrom, values, Code, joined, storedTo, fetch, exec}
 use Rattle.rules.specs.Rules.Mispredicting.{Machine, plainStep, ordinary}
 use Rattle.rules.specs.Rules.Loop.{ended}
-use Rattle.rules.specs.Rules.Runs.{Log, Job, first, blank, run, plainRun}
+use Rattle.rules.specs.Rules.Runs.{Gathered, Job, first, blank, run, plainRun}
 use Rattle.rules.specs.Theorems.RunLaws.{run-ind}
 
 pub own-length : (i : ℕ) (vs : List ℕ) → length (ownFrom i vs) ≡ length vs
@@ -53,7 +53,7 @@ pub plain-length : (job : Job) (room : ℕ) → length (plainRun job room .last 
 unfolding plainRun first
 plain-length job room = ends (job .budget) (first job) blank ∙ own-length 0 (job .init)
   where
-    ends : (k : ℕ) (M : Machine) (g : Log) → length (run (plainStep (job .code)) (job .code) room k M g .last .state) ≡ length (M .state)
+    ends : (k : ℕ) (M : Machine) (g : Gathered) → length (run (plainStep (job .code)) (job .code) room k M g .last .state) ≡ length (M .state)
     ends = run-ind (plainStep (job .code)) (job .code) room (λ k M g r. length (r .last .state) ≡ length (M .state))
         (λ k M g e. unfold ended in refl) (λ M g e. unfold ended in refl) (λ k M g e h. unfold ended in refl)
         (λ k M g e h p. p ∙ unfold plainStep ordinary in exec-length (job .code) (M .state) (M .place) (fetch (job .code) (M .place)))

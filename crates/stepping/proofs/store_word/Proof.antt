@@ -5,7 +5,7 @@ use Rattle.location.specs.Sets.{registers}
 use Rattle.rules.specs.Rules.Plain.{State, at, put, storedTo}
 use Rattle.work.specs.Machines.{stateIn}
 use Rattle.work.proofs.Moves.{gone-to}
-use Rattle.effect.proofs.Laws.{store-inside, store-outside}
+use Rattle.evaluation.proofs.Laws.{store-inside, store-outside}
 use Rattle.stepping.proofs.Steps.{moves-at}
 use borrow.Author.Needs.{needs}
 use Rattle.stepping.proofs.store_word.Statement.{statement}

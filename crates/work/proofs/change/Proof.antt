@@ -6,11 +6,11 @@ use borrow.Author.Needs.{needs}
 use Rattle.work.proofs.change.Statement.{statement}
 use Rattle.work.proofs.change.Tie as tie
 
-mul-entry : tie.Need-mul-entry
-mul-entry c = search needs
+mul-at : tie.Need-mul-at
+mul-at c = search needs
 
-add-entry : tie.Need-add-entry
-add-entry c = search needs
+add-at : tie.Need-add-at
+add-at c = search needs
 
 load-requires : tie.Need-load-requires
 load-requires c κs = search needs
@@ -50,8 +50,8 @@ pub change-spec : {M : Type 1} → statement M
 change-spec =
     tie.close
     (tie.spec
-    mul-entry
-    add-entry
+    mul-at
+    add-at
     load-requires
     index-requires
     mul-work

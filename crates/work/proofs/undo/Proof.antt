@@ -23,11 +23,11 @@ loop-holds c = (search needs, refl, refl)
 sub-k : tie.Need-sub-k Inv-loop μ-loop
 sub-k c = omega arith
 
-mul-entry : tie.Need-mul-entry Inv-loop μ-loop
-mul-entry c = omega arith
+mul-at : tie.Need-mul-at Inv-loop μ-loop
+mul-at c = omega arith
 
-add-entry : tie.Need-add-entry Inv-loop μ-loop
-add-entry c = omega arith
+add-at : tie.Need-add-at Inv-loop μ-loop
+add-at c = omega arith
 
 add-load-at : tie.Need-add-load-at Inv-loop μ-loop
 add-load-at c = omega arith
@@ -79,8 +79,8 @@ undo-spec =
     μ-loop
     loop-holds
     sub-k
-    mul-entry
-    add-entry
+    mul-at
+    add-at
     add-load-at
     load-at-requires
     mul-l

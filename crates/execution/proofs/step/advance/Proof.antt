@@ -11,7 +11,7 @@ use Rattle.descriptor.specs.Descriptors.{firstTokens}
 use Rattle.work.specs.Layout.{labels}
 use Rattle.work.specs.Words.{taggedAt}
 use Rattle.work.specs.Machines.{machineOf}
-use Rattle.effect.proofs.Laws.{register-value}
+use Rattle.evaluation.proofs.Laws.{register-value}
 use Rattle.stepping.specs.Progress.{standing}
 use Rattle.stepping.specs.Steps.{Made}
 use Rattle.execution.specs.Running.{codeIn}

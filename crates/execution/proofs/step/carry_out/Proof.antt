@@ -1,7 +1,7 @@
 -- `carry_out` meets its contract: each instruction's effect is the rules'. Assumes nothing.
 use mathlib.Core.Path.{_∙_}
 use native.Mathlib.Omega.{arith}
-use Rattle.effect.proofs.Laws.{second-sound, register-value}
+use Rattle.evaluation.proofs.Laws.{second-sound, register-value}
 use Rattle.execution.proofs.Effects.{skip-carried, barrier-carried, assign-carried, load-carried, store-carried, jump-carried, branch-carried, assign-if-carried, load-shown, store-shown, jump-shown, branch-shown}
 use borrow.Author.Needs.{needs}
 use Rattle.execution.proofs.step.carry_out.Statement.{statement}

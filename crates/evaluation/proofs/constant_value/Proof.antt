@@ -1,12 +1,12 @@
--- `effect::constant_value` meets its contract. Assumes nothing.
+-- `evaluation::constant_value` meets its contract. Assumes nothing.
 use mathlib.Core.Path.{ap₂}
 use Prim.Native.Nat.{ℕ}
 use Rattle.location.specs.declared.LocationSet.{LocationSet}
 use Rattle.rules.specs.declared.Tagged.{Tagged}
 use Rattle.rules.specs.Rules.Expressions.{tagged}
 use borrow.Author.Needs.{needs}
-use Rattle.effect.proofs.constant_value.Statement.{statement}
-use Rattle.effect.proofs.constant_value.Tie as tie
+use Rattle.evaluation.proofs.constant_value.Statement.{statement}
+use Rattle.evaluation.proofs.constant_value.Tie as tie
 
 constant-of-requires : tie.Need-constant-of-requires
 constant-of-requires c κs = search needs

@@ -1,14 +1,14 @@
--- `effect::source_value` meets its contract, by the shape. Assumes nothing.
+-- `evaluation::source_value` meets its contract, by the shape. Assumes nothing.
 use mathlib.Core.Path.{ap}
 use native.Mathlib.Omega.{arith}
 use Rattle.location.specs.declared.LocationSet.{LocationSet}
 use Rattle.rules.specs.Rules.Expressions.{tagged}
 use Rattle.descriptor.specs.Reading.{nothing-shaped, general-shaped}
 use Rattle.descriptor.specs.Shapes.{register-shaped, constant-shaped, jump-constant-shaped, tested-shaped}
-use Rattle.effect.proofs.Laws.{value-nothing, value-register, value-constant}
+use Rattle.evaluation.proofs.Laws.{value-nothing, value-register, value-constant}
 use borrow.Author.Needs.{needs}
-use Rattle.effect.proofs.source_value.Statement.{statement}
-use Rattle.effect.proofs.source_value.Tie as tie
+use Rattle.evaluation.proofs.source_value.Statement.{statement}
+use Rattle.evaluation.proofs.source_value.Tie as tie
 
 empty-requires : tie.Need-empty-requires
 empty-requires c κs = search needs

@@ -1,8 +1,8 @@
--- `effect::chosen` meets its contract: the test is the rules'. Assumes nothing.
-use Rattle.effect.proofs.Laws.{chosen-old, chosen-new}
+-- `evaluation::chosen` meets its contract: the test is the rules'. Assumes nothing.
+use Rattle.evaluation.proofs.Laws.{chosen-old, chosen-new}
 use borrow.Author.Needs.{needs}
-use Rattle.effect.proofs.chosen.Statement.{statement}
-use Rattle.effect.proofs.chosen.Tie as tie
+use Rattle.evaluation.proofs.chosen.Statement.{statement}
+use Rattle.evaluation.proofs.chosen.Tie as tie
 
 register-requires : tie.Need-register-requires
 register-requires c κs = search needs

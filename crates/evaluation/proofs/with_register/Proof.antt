@@ -1,10 +1,10 @@
--- `effect::with_register` meets its contract. Assumes nothing.
+-- `evaluation::with_register` meets its contract. Assumes nothing.
 use native.Mathlib.Omega.{arith}
 use Rattle.descriptor.specs.Shapes.{register-register-shaped}
-use Rattle.effect.proofs.Laws.{value-with-register}
+use Rattle.evaluation.proofs.Laws.{value-with-register}
 use borrow.Author.Needs.{needs}
-use Rattle.effect.proofs.with_register.Statement.{statement}
-use Rattle.effect.proofs.with_register.Tie as tie
+use Rattle.evaluation.proofs.with_register.Statement.{statement}
+use Rattle.evaluation.proofs.with_register.Tie as tie
 
 register-requires : tie.Need-register-requires
 register-requires c κs = search needs

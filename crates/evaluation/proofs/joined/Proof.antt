@@ -1,8 +1,8 @@
--- `effect::joined` meets its contract. Assumes nothing.
+-- `evaluation::joined` meets its contract. Assumes nothing.
 use Rattle.rules.specs.Rules.Expressions.{tagged}
 use borrow.Author.Needs.{needs}
-use Rattle.effect.proofs.joined.Statement.{statement}
-use Rattle.effect.proofs.joined.Tie as tie
+use Rattle.evaluation.proofs.joined.Statement.{statement}
+use Rattle.evaluation.proofs.joined.Tie as tie
 
 union-requires : tie.Need-union-requires
 union-requires c κs = search needs

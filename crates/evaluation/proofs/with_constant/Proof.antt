@@ -1,11 +1,11 @@
--- `effect::with_constant` meets its contract. Assumes nothing.
+-- `evaluation::with_constant` meets its contract. Assumes nothing.
 use mathlib.Core.Path.{ap, ap₂, _∙_}
 use native.Mathlib.Omega.{arith}
 use Rattle.descriptor.specs.Shapes.{register-constant-shaped}
-use Rattle.effect.proofs.Laws.{value-with-constant}
+use Rattle.evaluation.proofs.Laws.{value-with-constant}
 use borrow.Author.Needs.{needs}
-use Rattle.effect.proofs.with_constant.Statement.{statement}
-use Rattle.effect.proofs.with_constant.Tie as tie
+use Rattle.evaluation.proofs.with_constant.Statement.{statement}
+use Rattle.evaluation.proofs.with_constant.Tie as tie
 
 register-requires : tie.Need-register-requires
 register-requires c κs = search needs

@@ -1,12 +1,12 @@
--- `effect::general_value` meets its contract: what is evaluated are the tokens that the instruction reads first. Assumes nothing.
+-- `evaluation::general_value` meets its contract: what is evaluated are the tokens that the instruction reads first. Assumes nothing.
 use mathlib.Core.Path.{ap, _∙_}
 use Rattle.rules.specs.Rules.Expressions.{eval}
 use Rattle.descriptor.specs.Descriptors.{instructionIn}
 use Rattle.work.specs.Words.{taggedAt}
-use Rattle.effect.proofs.Laws.{general-tokens}
+use Rattle.evaluation.proofs.Laws.{general-tokens}
 use borrow.Author.Needs.{needs}
-use Rattle.effect.proofs.general_value.Statement.{statement}
-use Rattle.effect.proofs.general_value.Tie as tie
+use Rattle.evaluation.proofs.general_value.Statement.{statement}
+use Rattle.evaluation.proofs.general_value.Tie as tie
 
 expression-of-requires : tie.Need-expression-of-requires
 expression-of-requires c κs = c .before .before .pre .1 .1

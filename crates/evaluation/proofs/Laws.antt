@@ -25,7 +25,7 @@ use Rattle.instruction.specs.Meaning.{meaning}
 use Rattle.work.specs.Words.{taggedAt}
 use Rattle.work.specs.Machines.{stateIn}
 use Rattle.work.proofs.States.{state-at}
-use Rattle.effect.specs.States.{state-value}
+use Rattle.evaluation.specs.States.{state-value}
 
 -- the state in the words, with so many cells
 abbrev stateOf : List ℕ → ℕ → State

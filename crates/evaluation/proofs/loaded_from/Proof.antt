@@ -1,8 +1,8 @@
--- `effect::loaded_from` meets its contract: the test is the rules'. Assumes nothing.
-use Rattle.effect.proofs.Laws.{load-inside, load-outside}
+-- `evaluation::loaded_from` meets its contract: the test is the rules'. Assumes nothing.
+use Rattle.evaluation.proofs.Laws.{load-inside, load-outside}
 use borrow.Author.Needs.{needs}
-use Rattle.effect.proofs.loaded_from.Statement.{statement}
-use Rattle.effect.proofs.loaded_from.Tie as tie
+use Rattle.evaluation.proofs.loaded_from.Statement.{statement}
+use Rattle.evaluation.proofs.loaded_from.Tie as tie
 
 new-requires : tie.Need-new-requires
 new-requires c κs = search needs

@@ -1,9 +1,9 @@
--- `effect::branch_to` meets its contract: the test is the rules'. Assumes nothing.
+-- `evaluation::branch_to` meets its contract: the test is the rules'. Assumes nothing.
 use borrow.Author.Tests.{eq-eqb, ne-eqb}
 use Rattle.rules.specs.Rules.Plain.{branchTo}
 use borrow.Author.Needs.{needs}
-use Rattle.effect.proofs.branch_to.Statement.{statement}
-use Rattle.effect.proofs.branch_to.Tie as tie
+use Rattle.evaluation.proofs.branch_to.Statement.{statement}
+use Rattle.evaluation.proofs.branch_to.Tie as tie
 
 index-requires : tie.Need-index-requires
 index-requires c κs = search needs
