@@ -26,10 +26,15 @@ use Rattle.stepping.specs.Progress.{Standing, machineAt}
 use Rattle.stepping.specs.Steps.{Made, CarriedOut}
 use Rattle.execution.specs.Running.{Executing, Performed}
 
+-- the state in the words, with the job's cells
+abbrev state : Standing → Trailer → State
+state x t = stateIn (x .work) (registers + t .cells)
+
 module _ {p : List ℕ} {t : Trailer} {x y : Standing} where
   -- an instruction whose effect is that of a rule
   carrying : (i : Instruction) (rule : Code → State → plain.Effect) → CarriedOut (t .cells) i rule x y
-      → ((code : Code) → endPlace code ≡ t .count → rule code (stateIn (x .work) (registers + t .cells)) ≡ exec code (stateIn (x .work) (registers + t .cells)) (x .progress .control .place) (meaning p i)) → Performed p t i x y
+      → ((code : Code) → endPlace code ≡ t .count → rule code (state x t) ≡ exec code (state x t) (x .progress .control .place) (meaning p i))
+      → Performed p t i x y
   unfolding ordinary
   carrying i rule e h = record {
     made = λ code s.
@@ -37,11 +42,13 @@ module _ {p : List ℕ} {t : Trailer} {x y : Standing} where
         (h code (s .count)) (e .made p code (s .cells) (s .costs));
   }
 
-  pub skip-carried : {i : Instruction} → i ≡ Skip → CarriedOut (t .cells) i (λ code σ. silent σ (x .progress .control .place)) x y → Performed p t i x y
+  pub skip-carried : {i : Instruction} → i ≡ Skip → CarriedOut (t .cells) i (λ code σ. silent σ (x .progress .control .place)) x y
+      → Performed p t i x y
   unfolding exec
   skip-carried ei e = rw ei (carrying Skip (λ code σ. silent σ (x .progress .control .place)) (rw ei at e) (λ code el. refl))
 
-  pub barrier-carried : {i : Instruction} → i ≡ Barrier → CarriedOut (t .cells) i (λ code σ. silent σ (x .progress .control .place)) x y → Performed p t i x y
+  pub barrier-carried : {i : Instruction} → i ≡ Barrier → CarriedOut (t .cells) i (λ code σ. silent σ (x .progress .control .place)) x y
+      → Performed p t i x y
   unfolding exec
   barrier-carried ei e = rw ei (carrying Barrier (λ code σ. silent σ (x .progress .control .place)) (rw ei at e) (λ code el. refl))
 
@@ -50,21 +57,24 @@ module _ {p : List ℕ} {t : Trailer} {x y : Standing} where
   unfolding exec
   assign-carried {r = r} {e = e} {v = v} ei ev d =
       let f = value-in p (x .work) (t .cells) e ev in
-      rw ei (carrying (Assign r e) (λ code σ. silent (put σ r v) (x .progress .control .place)) d (λ code el j. silent (put (stateIn (x .work) (registers + t .cells)) r (f j)) (x .progress .control .place)))
+      rw ei (carrying (Assign r e) (λ code σ. silent (put σ r v) (x .progress .control .place)) d
+      (λ code el j. silent (put (state x t) r (f j)) (x .progress .control .place)))
 
   pub load-carried : {i : Instruction} {r : ℕ} {e : Expression} {a : Tagged} → i ≡ Load r e → a ≡ eval (taggedAt (x .work)) (tokensOf p e)
       → CarriedOut (t .cells) (Load r e) (λ code σ. loadEffect code σ (x .progress .control .place) r a) x y → Performed p t i x y
   unfolding exec
   load-carried {r = r} {e = e} {a = a} ei ea d =
       let f = value-in p (x .work) (t .cells) e ea in
-      rw ei (carrying (Load r e) (λ code σ. loadEffect code σ (x .progress .control .place) r a) d (λ code el j. loadEffect code (stateIn (x .work) (registers + t .cells)) (x .progress .control .place) r (f j)))
+      rw ei (carrying (Load r e) (λ code σ. loadEffect code σ (x .progress .control .place) r a) d
+      (λ code el j. loadEffect code (state x t) (x .progress .control .place) r (f j)))
 
   pub store-carried : {i : Instruction} {r : ℕ} {e : Expression} {a : Tagged} → i ≡ Store r e → a ≡ eval (taggedAt (x .work)) (tokensOf p e)
       → CarriedOut (t .cells) (Store r e) (λ code σ. storeEffect code σ (x .progress .control .place) r a) x y → Performed p t i x y
   unfolding exec
   store-carried {r = r} {e = e} {a = a} ei ea d =
       let f = value-in p (x .work) (t .cells) e ea in
-      rw ei (carrying (Store r e) (λ code σ. storeEffect code σ (x .progress .control .place) r a) d (λ code el j. storeEffect code (stateIn (x .work) (registers + t .cells)) (x .progress .control .place) r (f j)))
+      rw ei (carrying (Store r e) (λ code σ. storeEffect code σ (x .progress .control .place) r a) d
+      (λ code el j. storeEffect code (state x t) (x .progress .control .place) r (f j)))
 
   pub jump-carried : {i : Instruction} {e : Expression} {v : Tagged} {to : ℕ} → i ≡ Jump e → v ≡ eval (taggedAt (x .work)) (tokensOf p e)
       → to ≡ min (v .value) (t .count) → CarriedOut (t .cells) i (λ code σ. goEffect σ to v) x y → Performed p t i x y
@@ -73,16 +83,18 @@ module _ {p : List ℕ} {t : Trailer} {x y : Standing} where
       let f = value-in p (x .work) (t .cells) e ev in
       rw ei
       (carrying (Jump e) (λ code σ. goEffect σ to v) (rw ei at d)
-      (λ code el j. goEffect (stateIn (x .work) (registers + t .cells)) ((eq ∙ (λ k. min (f k .value) (sym el k))) j) (f j)))
+      (λ code el j. goEffect (state x t) ((eq ∙ (λ k. min (f k .value) (sym el k))) j) (f j)))
 
   pub branch-carried : {i : Instruction} {r : ℕ} {l : Label} {v : Tagged} {to : ℕ} → i ≡ BranchZero r l → r < registers → v ≡ taggedAt (x .work) r
-      → to ≡ branchTo v (l .0) (x .progress .control .place + 1) → CarriedOut (t .cells) (BranchZero r l) (λ code σ. goEffect σ to v) x y → Performed p t i x y
+      → to ≡ branchTo v (l .0) (x .progress .control .place + 1) → CarriedOut (t .cells) (BranchZero r l) (λ code σ. goEffect σ to v) x y
+      → Performed p t i x y
   unfolding exec
   branch-carried {r = r} {l = l} {v = v} {to = to} ei h ev eq d =
       let f = register-at (x .work) (t .cells) h refl ev in
       rw ei
       (carrying (BranchZero r l) (λ code σ. goEffect σ to v) d
-      (λ code el j. goEffect (stateIn (x .work) (registers + t .cells)) ((eq ∙ (λ k. branchTo (f k) (l .0) (add-one (x .progress .control .place) k))) j) (f j)))
+      (λ code el j. goEffect (state x t)
+      ((eq ∙ (λ k. branchTo (f k) (l .0) (add-one (x .progress .control .place) k))) j) (f j)))
 
   pub assign-if-carried : {i : Instruction} {r : ℕ} {b e : Expression} {v z : Tagged} → i ≡ AssignIf r b e → r < registers
       → v ≡ eval (taggedAt (x .work)) (tokensOf p b) → z ≡ chosen v (eval (taggedAt (x .work)) (tokensOf p e)) (taggedAt (x .work) r)
@@ -94,7 +106,8 @@ module _ {p : List ℕ} {t : Trailer} {x y : Standing} where
       let fr = register-at (x .work) (t .cells) h refl refl in
       rw ei
       (carrying (AssignIf r b e) (λ code σ. silent (put σ r z) (x .progress .control .place)) d
-      (λ code el j. silent (put (stateIn (x .work) (registers + t .cells)) r ((ey ∙ (λ k. chosen (fc k) (fe k) (fr k))) j)) (x .progress .control .place)))
+      (λ code el j. silent (put (state x t) r ((ey ∙ (λ k. chosen (fc k) (fe k) (fr k))) j))
+      (x .progress .control .place)))
 
 -- ---- room for the observation of an instruction that makes one; any code shows it
 abbrev any : Code

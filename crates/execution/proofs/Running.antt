@@ -102,7 +102,8 @@ module _ (p : List ℕ) (t : Trailer) where
         permitted b h = record { on = still-on; left = b; room = h }
 
         not-fitting : (os : List Observation) → length os ≡ x .progress .observations
-            → room < x .progress .observations + length (nextStep p t mode x .obs) → fits room (nextStep p t mode x) (gatheredOf os (x .progress)) ≡ false
+            → room < x .progress .observations + length (nextStep p t mode x .obs)
+            → fits room (nextStep p t mode x) (gatheredOf os (x .progress)) ≡ false
         unfolding fits
         not-fitting os e h = lt-leb (length os + length (nextStep p t mode x .obs)) room (rw e h)
 
@@ -170,13 +171,16 @@ module _ (p : List ℕ) (t : Trailer) where
       module _ (g : Going c (t .count) w (locations t) false) {i : Instr} (e : i ≡ fetch described (c .place)) where
         -- the next step is that of the instruction
         step-same : forwardBy mode described now-machine i ≡ stepBy mode described now-machine
-        step-same = ap (forwardBy mode described now-machine) e ∙ forward-step mode described now-machine (rw (code-of (drop labels w) .count) (g .top))
+        step-same =
+            ap (forwardBy mode described now-machine) e
+            ∙ forward-step mode described now-machine (rw (code-of (drop labels w) .count) (g .top))
 
         pub observed-forward : length (forwardBy mode described now-machine i .obs) ≡ observedBy p t mode w c
         observed-forward = ap (λ (z : Step). length (z .obs)) step-same
 
         -- rule 2 or rule 3
-        pub branch-step : {r : ℕ} {l : Label} → Opens mode i (openings.Branch r l) → opening described now-machine r (l .0) ≡ stepBy mode described now-machine
+        pub branch-step : {r : ℕ} {l : Label} → Opens mode i (openings.Branch r l)
+            → opening described now-machine r (l .0) ≡ stepBy mode described now-machine
         unfolding forward
         branch-step {r} {l} o =
             let f : forwardBy mode described now-machine i ≡ opening described now-machine r (l .0) = rw (o .0, o .1) in
@@ -312,7 +316,8 @@ module _ (p : List ℕ) (t : Trailer) where
           }
 
       -- what is next there, by the rule that the code has named
-      module _ {r : Rule} (named : (w : List ℕ) (n : ℕ) → r ≡ ruleAt (t .count) (y .progress .control .depth) (machineOf w (y .progress .control) n)) where
+      module _ {r : Rule} (named : (w : List ℕ) (n : ℕ)
+          → r ≡ ruleAt (t .count) (y .progress .control .depth) (machineOf w (y .progress .control) n)) where
         pub back-next : r ≡ rule.RollBack → Going (y .progress .control) (t .count) (y .work) (locations t) true
         back-next e = back-named (y .progress .control) (t .count) (y .work) (locations t) (sym e ∙ named (y .work) (locations t))
 

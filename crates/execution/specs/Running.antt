@@ -104,6 +104,12 @@ pub record FreeUntil (budget until : ℕ) (x : Standing) : Type 0 where
   pub most : until ≤ budget
   pub free : x .progress .steps + 1 < until → x .progress .observations + 2 * (until - x .progress .steps) ≤ length (x .trace) / 2
 
+-- Steps up to so many in all can be made with no test: from a standing of the run, whose next step may be made.
+pub record Unhindered (p : List ℕ) (t : Trailer) (mode : Mode) (until : ℕ) (x : Standing) : Type 0 where
+  pub ready : Ready p t mode x
+  pub next : Permitted p t mode x
+  pub free : FreeUntil (t .budget) until x
+
 -- ---- one step
 -- What rule 3 asks for an instruction whose first value is a: its expressions and registers are those of a job, and there is room.
 pub record Executing (p : List ℕ) (t : Trailer) (i : Instruction) (a : Tagged) (x : Standing) : Type 0 where
@@ -111,7 +117,8 @@ pub record Executing (p : List ℕ) (t : Trailer) (i : Instruction) (a : Tagged)
   pub counted : Counted x
   pub place : x .progress .control .place < maxInstructions
   pub limits : Limits t
-  pub room : (code : Code) → 2 * (x .progress .observations + length (ordinary code (machineAt x (locations t)) (meaning p i) .obs)) ≤ length (x .trace)
+  pub room : (code : Code)
+      → 2 * (x .progress .observations + length (ordinary code (machineAt x (locations t)) (meaning p i) .obs)) ≤ length (x .trace)
   pub sound : postfix (meaning p i) ≡ true
   pub below : RegistersBelow registers (meaning p i)
   pub value : a ≡ eval (taggedAt (x .work)) (firstTokens (meaning p i))
@@ -126,6 +133,10 @@ pub record Advancing (p : List ℕ) (t : Trailer) (mode : Mode) (x : Standing) :
   pub inside : x .progress .control .place < t .count
   pub window : 0 < x .progress .control .window
   pub room : 2 * (x .progress .observations + length (nextStep p t mode x .obs)) ≤ length (x .trace)
+
+-- the rules' next step was made
+abbrev pub NextMade : List ℕ → Trailer → Mode → Standing → Standing → Type 0
+NextMade p t mode x y = Made (locations t) (nextStep p t mode x) x y
 
 -- ---- a run
 -- Somewhere in a run R that began with the words w₀ and the trace area a₀: what is left of it from x is the rest of R.

@@ -16,7 +16,7 @@ ghost use Rattle.rules.specs.Rules.Mispredicting.{Machine};
 ghost use Rattle.rules.specs.Rules.Plain.{Code};
 ghost use Rattle.instruction.specs.Meaning.{meaning};
 ghost use Rattle.work.specs.Machines.{machineOf};
-ghost use Rattle.stepping.specs.Progress.{standing};
+ghost use Rattle.stepping.specs.Progress.{standing, standingBefore};
 ghost use Rattle.execution.specs.Next.{forwardBy, closedAt};
 ghost use Rattle.execution.specs.Running.{Steady, observedBy, Ready, HaltOf, FreeUntil};
 
@@ -66,7 +66,7 @@ fn next_observations(p: &[u8], t: Trailer, mode: Mode, work: &[u64], c: Progress
 // What halts a run before its next step, if anything does: finished, spent, trace full.
 pub fn halt_of(p: &[u8], t: Trailer, mode: Mode, work: &[u64], trace: &[u64], c: Progress) -> Halt
     requires { ⌜ Ready (now p) t mode (standing (now work) (now trace) c) ⌝ }
-    ensures { λ r. ⌜ HaltOf (now (p .entry)) t mode (standing (now (work .entry)) (now (trace .entry)) c) r ⌝ }
+    ensures { λ r. ⌜ HaltOf (now (p .entry)) t mode (standingBefore work trace c) r ⌝ }
 {
     let control = c.control;
     if super::rule::is_over(control, t.count) {

@@ -73,7 +73,8 @@ fn report(stop: Stop, c: Progress) -> Ran
 // A whole run, from the state that the working words hold.
 pub fn run(p: &[u8], t: Trailer, mode: Mode, work: &mut [u64], trace: &mut [u64]) -> Ran
     requires { ⌜ Loaded (now p) t (now work) × (workingWords ≤ length (now work)) ⌝ }
-    ensures { λ r. ⌜ RanTo t (now (work .entry)) (now (trace .entry)) (now (work .exit)) (now (trace .exit)) r (whole (now (p .entry)) t mode (now (work .entry)) (now (trace .entry))) ⌝ }
+    ensures { λ r. ⌜ RanTo t (now (work .entry)) (now (trace .entry)) (now (work .exit)) (now (trace .exit)) r
+        (whole (now (p .entry)) t mode (now (work .entry)) (now (trace .entry))) ⌝ }
 {
     let mut c = start();
     loop {

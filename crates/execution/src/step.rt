@@ -9,12 +9,10 @@ use rules::Trailer;
 use stepping::Progress;
 ghost use mathlib.Core.List.{List};
 ghost use Prim.Native.Nat.{ℕ};
-ghost use Rattle.rules.specs.Rules.JobFile.{locations};
 ghost use Rattle.descriptor.specs.Descriptors.{instructionIn, Valid};
-ghost use Rattle.stepping.specs.Progress.{standing};
-ghost use Rattle.stepping.specs.Steps.{Made};
+ghost use Rattle.stepping.specs.Progress.{standing, standingBefore, standingAfter};
 ghost use Rattle.execution.specs.Next.{Opens};
-ghost use Rattle.execution.specs.Running.{Executing, Performed, Advancing, nextStep, Ready, Permitted, FreeUntil, GoesOn};
+ghost use Rattle.execution.specs.Running.{Executing, Performed, Advancing, NextMade, Unhindered, GoesOn};
 
 // Rule 3 for the instruction i; `a` is the value of what it reads first. Each kind goes its own way to the end of the step, so that
 // nothing is decided twice.
@@ -28,7 +26,7 @@ fn carry_out(
     a: Tagged,
 ) -> Progress
     requires { ⌜ Executing (now p) t i a (standing (now work) (now trace) c) ⌝ }
-    ensures { λ r. ⌜ Performed (now (p .entry)) t i (standing (now (work .entry)) (now (trace .entry)) c) (standing (now (work .exit)) (now (trace .exit)) r) ⌝ }
+    ensures { λ r. ⌜ Performed (now (p .entry)) t i (standingBefore work trace c) (standingAfter work trace r) ⌝ }
 {
     let control = c.control;
     let next = control.place + 1;
@@ -86,7 +84,7 @@ fn advance(
     c: Progress,
 ) -> Progress
     requires { ⌜ Advancing (now p) t mode (standing (now work) (now trace) c) ⌝ }
-    ensures { λ r. ⌜ Made (locations t) (nextStep (now (p .entry)) t mode (standing (now (work .entry)) (now (trace .entry)) c)) (standing (now (work .entry)) (now (trace .entry)) c) (standing (now (work .exit)) (now (trace .exit)) r) ⌝ }
+    ensures { λ r. ⌜ NextMade (now (p .entry)) t mode (standingBefore work trace c) (standingAfter work trace r) ⌝ }
 {
     let control = c.control;
     let label = Label::new(control.place);
@@ -113,8 +111,8 @@ pub fn make_steps(
     from: Progress,
     until: usize,
 ) -> Progress
-    requires { ⌜ Ready (now p) t mode (standing (now work) (now trace) from) × Permitted (now p) t mode (standing (now work) (now trace) from) × FreeUntil (t .budget) until (standing (now work) (now trace) from) ⌝ }
-    ensures { λ r. ⌜ GoesOn (now (p .entry)) t mode (standing (now (work .entry)) (now (trace .entry)) from) (standing (now (work .exit)) (now (trace .exit)) r) ⌝ }
+    requires { ⌜ Unhindered (now p) t mode until (standing (now work) (now trace) from) ⌝ }
+    ensures { λ r. ⌜ GoesOn (now (p .entry)) t mode (standingBefore work trace from) (standingAfter work trace r) ⌝ }
 {
     let mut c = from;
     while c.steps < until {

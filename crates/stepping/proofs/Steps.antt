@@ -37,7 +37,8 @@ use Rattle.stepping.proofs.Laws.{gathered, counted-back, depth-of, leng
 module _ (w w′ t t′ : List ℕ) (c c′ : Progress) (n : ℕ) (s : Step) (control : Control)
     (counted : c′ ≡ progressAfter c control (length (s .obs)) (s .seen)) where
   -- the counts and sets are the rules' log after the step
-  noted : rolledBack control ≡ rolledBack (c .control) + s .back → (os : List Observation) → gatheredOf (os ++ s .obs) c′ ≡ note (machineOf w (c .control) n) s (gatheredOf os c)
+  noted : rolledBack control ≡ rolledBack (c .control) + s .back → (os : List Observation)
+      → gatheredOf (os ++ s .obs) c′ ≡ note (machineOf w (c .control) n) s (gatheredOf os c)
   unfolding note
   noted R os =
       let P = gathered (branchAt w) (changeAt w) (stateIn w n) (c .control .window) (c .control .log) (c .control .depth) (c .plain) (s .seen) in
@@ -136,7 +137,8 @@ module _ {n : ℕ} {w w′ t t′ : List ℕ} {c c′ : Progress} (i : Instructi
     (p : List ℕ) (code : Code) (left : v ≡ leftBy code (meaning p i) (c .control)) where
   -- the effect x is that state, that place, and what was counted and written
   carried : (x : plain.Effect) → σ ≡ x .state → q ≡ x .place → t′ ≡ sets t (2 * c .observations) (traceWords (x .obs))
-      → c′ ≡ progressAfter c control (length (x .obs)) (x .seen) → Made n (stepWith code (machineOf w (c .control) n) (meaning p i) x) (standing w t c) (standing w′ t′ c′)
+      → c′ ≡ progressAfter c control (length (x .obs)) (x .seen)
+      → Made n (stepWith code (machineOf w (c .control) n) (meaning p i) x) (standing w t c) (standing w′ t′ c′)
   carried x es eq et ec =
       let M = machineOf w (c .control) n in
       let B = branches-left w (c .control) n v (meaning p i) code left in
@@ -154,7 +156,8 @@ module _ {n : ℕ} {w w′ t t′ : List ℕ} {c c′ : Progress} (i : Instructi
   -- one observation is shown, of the kind a with the value b
   pub carried-shown : {a b : ℕ} (o : Observation) {s : LocationSet} (τ : State) (r : ℕ) → σ ≡ τ → q ≡ r → a ∷ b ∷ [] ≡ observationWords o
       → t′ ≡ sets t (2 * c .observations) (a ∷ b ∷ []) → c′ ≡ progressAfter c control 1 s
-      → Made n (stepWith code (machineOf w (c .control) n) (meaning p i) (record { state = τ; place = r; obs = o ∷ []; seen = s })) (standing w t c) (standing w′ t′ c′)
+      → Made n (stepWith code (machineOf w (c .control) n) (meaning p i) (record { state = τ; place = r; obs = o ∷ []; seen = s })) (standing w t c)
+      (standing w′ t′ c′)
   unfolding traceWords
   carried-shown o {s} τ r es eq eo et ec =
       carried (record { state = τ; place = r; obs = o ∷ []; seen = s }) es eq
@@ -165,7 +168,8 @@ module _ {w w′ t t′ : List ℕ} {c c′ : Progress} {i : Instruction} {v : �
     (m : Moves w w′ (c .control) control (λ M. ordinaryNext M (put (M .state) l x) (c .control .place + 1) v)) (n : ℕ) (most : n ≤ limit)
     (p : List ℕ) (code : Code) (costs : code .costs ≡ windowCosts) where
   pub assigned : (r : ℕ) {s : LocationSet} → l ≡ r → t′ ≡ t → s ≡ empty → c′ ≡ progressAfter c control 0 s
-      → Made n (stepWith code (machineOf w (c .control) n) (meaning p i) (silent (put (stateIn w n) r x) (c .control .place))) (standing w t c) (standing w′ t′ c′)
+      → Made n (stepWith code (machineOf w (c .control) n) (meaning p i) (silent (put (stateIn w n) r x) (c .control .place))) (standing w t c)
+      (standing w′ t′ c′)
   assigned r el et es ec =
       let m′ = m .machine n most ∙ (λ j. ordinaryNext (machineOf w (c .control) n) (put (stateIn w n) (el j) x) (c .control .place + 1) v) in
       carried-silently i m′ (m .fits) (m .frame) p code (leaves .exact p code costs) refl et es ec
@@ -190,7 +194,8 @@ kept {c} {c′} {i} {q} {k} left eg es ec = record {
 }
 
 module _ {w t : List ℕ} {c c′ : Progress} {i : Instruction} {cells : ℕ} (live : Unexpired w c) (most : registers + cells ≤ limit) where
-  pub kept-silently : StateKept (c .control .place + 1) 0 empty i c c′ → CarriedOut cells i (λ code σ. silent σ (c .control .place)) (standing w t c) (standing w t c′)
+  pub kept-silently : StateKept (c .control .place + 1) 0 empty i c c′
+      → CarriedOut cells i (λ code σ. silent σ (c .control .place)) (standing w t c) (standing w t c′)
   kept-silently h = record {
     made = λ p code ec costs.
         let v = leftBy code (meaning p i) (c .control) in

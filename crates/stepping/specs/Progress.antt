@@ -2,10 +2,12 @@
 -- Assumes nothing.
 use mathlib.Core.List.{List}
 use Prim.Native.Nat.{ℕ, zero, suc, _+_, _-_}
+use denote.Ref.{now}
 use Rattle.location.specs.declared.LocationSet.{LocationSet}
 use Rattle.location.specs.Sets.{union}
 use Rattle.rules.specs.Rules.Instructions.{Observation}
 use Rattle.rules.specs.Rules.Mispredicting.{Machine}
+use Rattle.rules.specs.Rules.Promises.{LentArea}
 use Rattle.rules.specs.Rules.Runs.{Gathered}
 use Rattle.work.specs.declared.machine.Control.{Control}
 use Rattle.work.specs.Machines.{machineOf}
@@ -19,6 +21,13 @@ pub record Standing : Type 0 where
 
 abbrev pub standing : List ℕ → List ℕ → Progress → Standing
 standing w t c = record { work = w; trace = t; progress = c }
+
+-- where it stands when a call begins, and when it returns: of the lent areas as a contract names them
+abbrev pub standingBefore : LentArea → LentArea → Progress → Standing
+standingBefore work trace c = standing (now (work .entry)) (now (trace .entry)) c
+
+abbrev pub standingAfter : LentArea → LentArea → Progress → Standing
+standingAfter work trace c = standing (now (work .exit)) (now (trace .exit)) c
 
 -- the rules' machine there, with n locations
 abbrev pub machineAt : Standing → ℕ → Machine

@@ -24,7 +24,7 @@ ghost use Rattle.rules.specs.Rules.Plain.{Code, at, put, storedTo, silent, load
 ghost use Rattle.work.specs.Words.{taggedAt};
 ghost use Rattle.work.specs.Machines.{maxWindow, Fit, Left};
 ghost use Rattle.work.specs.Moves.{ordinaryNext, MovesAt};
-ghost use Rattle.stepping.specs.Progress.{standing, gatherAt, progressAfter};
+ghost use Rattle.stepping.specs.Progress.{standing, standingBefore, standingAfter, gatherAt, progressAfter};
 ghost use Rattle.stepping.specs.Steps.{Unexpired, Steppable, Leaves, RolledBackTo, OpenedTo, CarriedOut, StateKept};
 
 // Where a run stands: the machine's control, the counts, the full set and the plain set. The rollbacks are not counted: every branch
@@ -86,7 +86,7 @@ fn count_step(c: Progress, control: Control, observations: usize, seen: Location
 // Rule 1, with its observations.
 pub fn roll_back(work: &mut [u64], trace: &mut [u64], c: Progress) -> Progress
     requires { ⌜ Fit (now work) (c .control) × (0 < c .control .depth) × (c .steps + 1 < 2 ^ 64) × (2 * (c .observations + 2) ≤ length (now trace)) ⌝ }
-    ensures { λ r. ⌜ RolledBackTo (standing (now (work .entry)) (now (trace .entry)) c) (standing (now (work .exit)) (now (trace .exit)) r) ⌝ }
+    ensures { λ r. ⌜ RolledBackTo (standingBefore work trace c) (standingAfter work trace r) ⌝ }
 {
     let control = c.control;
     let r = work::machine::roll_back(&mut work[..], control);
@@ -117,7 +117,7 @@ pub fn open_branch(
     w: usize,
 ) -> Progress
     requires { ⌜ Steppable 2 (standing (now work) (now trace) c) × (r < registers) × (t ≡ taggedAt (now work) r) × (w ≤ maxWindow) ⌝ }
-    ensures { λ x. ⌜ OpenedTo r (l .0) w (standing (now (work .entry)) (now (trace .entry)) c) (standing (now (work .exit)) (now (trace .exit)) x) ⌝ }
+    ensures { λ x. ⌜ OpenedTo r (l .0) w (standingBefore work trace c) (standingAfter work trace x) ⌝ }
 {
     let control = c.control;
     let next = control.place + 1;
@@ -166,7 +166,7 @@ pub fn load(
     a: Tagged,
 ) -> Progress
     requires { ⌜ Unexpired (now work) c × (2 * (c .observations + 1) ≤ length (now trace)) × (c .control .place + 1 < 2 ^ 64) × (c .steps + 1 < 2 ^ 64) × (r < registers) × (registers + cells ≤ limit) ⌝ }
-    ensures { λ x. ⌜ CarriedOut cells i (λ code σ. loadEffect code σ (c .control .place) r a) (standing (now (work .entry)) (now (trace .entry)) c) (standing (now (work .exit)) (now (trace .exit)) x) ⌝ }
+    ensures { λ x. ⌜ CarriedOut cells i (λ code σ. loadEffect code σ (c .control .place) r a) (standingBefore work trace c) (standingAfter work trace x) ⌝ }
 {
     let control = c.control;
     let remaining = remaining_window(control, i);
@@ -214,7 +214,7 @@ pub fn store(
     a: Tagged,
 ) -> Progress
     requires { ⌜ Unexpired (now work) c × (2 * (c .observations + 1) ≤ length (now trace)) × (c .control .place + 1 < 2 ^ 64) × (c .steps + 1 < 2 ^ 64) × (r < registers) × (registers + cells ≤ limit) ⌝ }
-    ensures { λ x. ⌜ CarriedOut cells i (λ code σ. storeEffect code σ (c .control .place) r a) (standing (now (work .entry)) (now (trace .entry)) c) (standing (now (work .exit)) (now (trace .exit)) x) ⌝ }
+    ensures { λ x. ⌜ CarriedOut cells i (λ code σ. storeEffect code σ (c .control .place) r a) (standingBefore work trace c) (standingAfter work trace x) ⌝ }
 {
     let control = c.control;
     let remaining = remaining_window(control, i);

@@ -26,7 +26,8 @@ loop-holds : tie.Need-loop-holds Inv-loop μ-loop
 loop-holds c =
     let at-start = c .before .before .before .before in
     let a = at-start .args in
-    (refl, refl, rw (c .start .ensures) (ready-start (a .p .now) (a .t) (a .mode) (a .work .now) (a .trace .now) (at-start .pre .0) (at-start .pre .1)),
+    (refl, refl, rw (c .start .ensures)
+    (ready-start (a .p .now) (a .t) (a .mode) (a .work .now) (a .trace .now) (at-start .pre .0) (at-start .pre .1)),
     rw (c .start .ensures) (running-start (a .p .now) (a .t) (a .mode) (a .work .now) (a .trace .now)))
 
 halt-of-requires : tie.Need-halt-of-requires Inv-loop μ-loop
@@ -52,7 +53,7 @@ make-steps-requires c κs =
     let at-halt-of = at-enum-told .before .before in
     let at-loop = at-halt-of .before .before .before in
     let o = proceeds _ _ _ (at-enum-told .enum-told .given .1) (at-halt-of .halt-of .ensures) in
-    (at-loop .loop .inv .2, o, at-free-until .free-until .ensures _)
+    record { ready = at-loop .loop .inv .2; next = o; free = at-free-until .free-until .ensures _ }
 
 loop-less : tie.Need-loop-less Inv-loop μ-loop
 loop-less c =
@@ -86,7 +87,8 @@ returns c =
     let at-stop = c .before .before in
     let at-halt-of = at-stop .before .before in
     let at-loop = at-halt-of .before .before .before in
-    running-ends _ _ _ (c .report .ensures) (at-loop .loop .inv .2) (at-loop .loop .inv .3) (halted _ _ _ (at-stop .stop .given .1) (at-halt-of .halt-of .ensures))
+    running-ends _ _ _ (c .report .ensures) (at-loop .loop .inv .2) (at-loop .loop .inv .3)
+    (halted _ _ _ (at-stop .stop .given .1) (at-halt-of .halt-of .ensures))
 
 pub run-spec : {M : Type 1} → statement M
 run-spec =

@@ -49,7 +49,8 @@ returns c =
     let at-locations = at-save-values .before .before .before in
     let at-run-state = at-locations .before .before .before .before .before in
     let at-start = at-run-state .before .before .before .before .before .before .before in
-    run-in (at-start .pre .accepts) (at-start .args .mode) (at-run-state .run-state .ensures) (rw (at-locations .locations .ensures) at (at-save-values .save-values .ensures)) (at-clear .clear .ensures)
+    run-in (at-start .pre .accepts) (at-start .args .mode) (at-run-state .run-state .ensures)
+    (rw (at-locations .locations .ensures) at (at-save-values .save-values .ensures)) (at-clear .clear .ensures)
 
 pub run-in-areas-spec : {M : Type 1} → statement M
 run-in-areas-spec =

@@ -52,7 +52,8 @@ run-requires c κs =
     let l = accepted-limits (r .accepts) .count-most in
     let s = at-load-state .load-state .ensures .size in
     let m = r .room in
-    loaded (r .accepts) (same-part (a .t .state) (a .job .now)) (omega arith) (at-load-state .load-state .ensures) (at-write-words .write-words .ensures) m
+    loaded (r .accepts) (same-part (a .t .state) (a .job .now)) (omega arith) (at-load-state .load-state .ensures)
+    (at-write-words .write-words .ensures) m
 
 same-length : tie.Need-same-length
 same-length c = search needs
@@ -72,7 +73,8 @@ returns c =
     let l = accepted-limits (r .accepts) .count-most in
     let s = at-load-state .load-state .ensures .size in
     let m = r .room in
-    run-of (r .accepts) (same-part (a .t .state) (a .job .now)) (omega arith) (rw (at-locations .locations .ensures) at (at-load-state .load-state .ensures))
+    run-of (r .accepts) (same-part (a .t .state) (a .job .now)) (omega arith)
+    (rw (at-locations .locations .ensures) at (at-load-state .load-state .ensures))
     (at-write-words .write-words .ensures) (at-run .run .ensures)
 
 pub run-state-spec : {M : Type 1} → statement M

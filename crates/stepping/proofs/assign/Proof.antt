@@ -19,27 +19,38 @@ add-place c = search needs
 
 assign-requires : tie.Need-assign-requires
 assign-requires c κs =
-    let p = c .before .before .before .before .before .before .pre in
-    let r = c .before .before .register .ensures in
+    let at-register = c .before .before in
+    let at-remaining-window = at-register .before in
+    let at-start = at-remaining-window .before .before .before in
+    let p = at-start .pre in
+    let r = at-register .register .ensures in
     let h = p .3 in
-    (p .0 .fits, (c .before .before .before .remaining-window .ensures .left (p .0 .window), omega arith))
+    (p .0 .fits, (at-remaining-window .remaining-window .ensures .left (p .0 .window), omega arith))
 
 empty-requires : tie.Need-empty-requires
 empty-requires c κs = search needs
 
 count-step-requires : tie.Need-count-step-requires
-count-step-requires c κs = let p = c .before .before .before .before .before .before .before .before .before .before .pre in omega (arith, p .2, c .before .before .before .before .before .before .before .before .before .before .good)
+count-step-requires c κs =
+    let at-start = c .before .before .before .before .before .before .before .before .before .before in
+    let p = at-start .pre in omega (arith, p .2, at-start .good)
 
 same-length : tie.Need-same-length
 same-length c = search needs
 
 returns : tie.Need-returns
 returns c =
-    let a = c .before .before .before .before .before .before .before .before .before .before .before .args in
+    let at-empty = c .before in
+    let at-assign = at-empty .before .before .before in
+    let at-register = at-assign .before .before .before in
+    let at-remaining-window = at-register .before in
+    let at-start = at-remaining-window .before .before .before in
+    let a = at-start .args in
     λ t cells most. record {
       made = λ p code ec costs.
-          assigned _ (a .v) (c .before .before .before .before .before .before .before .before .remaining-window .ensures) (c .before .before .before .before .assign .ensures) (registers + cells) most p code costs (a .r) (c .before .before .before .before .before .before .before .register .ensures) refl
-          (c .before .empty .ensures) (c .count-step .ensures);
+          assigned _ (a .v) (at-remaining-window .remaining-window .ensures) (at-assign .assign .ensures) (registers + cells) most p code costs (a .r)
+          (at-register .register .ensures) refl
+          (at-empty .empty .ensures) (c .count-step .ensures);
     }
 
 pub assign-spec : {M : Type 1} → statement M

@@ -25,16 +25,22 @@ add-place c = search needs
 
 assign-requires : tie.Need-assign-requires
 assign-requires c κs =
-    let p = c .before .before .before .before .before .before .before .before .before .pre in
-    let r = c .before .before .register .ensures in
+    let at-register = c .before .before in
+    let at-remaining-window = at-register .before .before .before in
+    let at-start = at-remaining-window .before .before .before .before in
+    let p = at-start .pre in
+    let r = at-register .register .ensures in
     let h = p .4 in
-    (p .0 .fits, (c .before .before .before .before .before .remaining-window .ensures .left (p .0 .window), omega arith))
+    (p .0 .fits, (at-remaining-window .remaining-window .ensures .left (p .0 .window), omega arith))
 
 observe-requires : tie.Need-observe-requires
 observe-requires c κs = search needs
 
 count-step-requires : tie.Need-count-step-requires
-count-step-requires c κs = let p = c .before .before .before .before .before .before .before .before .before .before .before .before .before .before .before .before .before .pre in omega (arith, p .1, p .3, c .before .before .before .before .before .before .before .before .before .before .before .before .before .before .before .before .before .good)
+count-step-requires c κs =
+    let back-1 = c .before .before .before .before .before .before .before .before .before .before .before .before in
+    let at-start = back-1 .before .before .before .before .before in
+    let p = at-start .pre in omega (arith, p .1, p .3, at-start .good)
 
 same-length : tie.Need-same-length
 same-length c = search needs
@@ -44,12 +50,20 @@ same-length-2 c = search needs
 
 returns : tie.Need-returns
 returns c =
-    let a = c .before .before .before .before .before .before .before .before .before .before .before .before .before .before .before .before .before .before .args in
+    let at-observe = c .before .before .before .before in
+    let at-assign = at-observe .before .before .before .before in
+    let at-register = at-assign .before .before .before in
+    let at-loaded-from = at-register .before in
+    let at-remaining-window = at-loaded-from .before .before in
+    let at-start = at-remaining-window .before .before .before .before in
+    let a = at-start .args in
     let n = registers + a .cells in
     record {
       made = λ p code ec costs.
-          assigned-shown _ _ (c .before .before .before .before .before .before .before .before .before .before .before .before .before .before .remaining-window .ensures) (c .before .before .before .before .before .before .before .before .assign .ensures) n (c .before .before .before .before .before .before .before .before .before .before .before .before .before .before .before .before .before .before .pre .5) p code costs (loaded (a .a .value)) (a .r)
-          (loadedFrom code (stateIn (a .work .now) n) (a .a)) (c .before .before .before .before .before .before .before .before .before .before .before .register .ensures) (c .before .before .before .before .before .before .before .before .before .before .before .before .loaded-from .ensures code ec) refl (c .before .before .before .before .observe .ensures)
+          assigned-shown _ _ (at-remaining-window .remaining-window .ensures) (at-assign .assign .ensures) n (at-start .pre .5) p code costs
+          (loaded (a .a .value)) (a .r)
+          (loadedFrom code (stateIn (a .work .now) n) (a .a)) (at-register .register .ensures) (at-loaded-from .loaded-from .ensures code ec) refl
+          (at-observe .observe .ensures)
           (c .count-step .ensures);
     }
 

@@ -18,9 +18,12 @@ same-length c = search needs
 
 returns : tie.Need-returns
 returns c =
-    let a = c .before .before .before .before .before .before .before .before .before .args in
-    stored-twice (a .trace .now) (c .before .before .before .before .before .before .observe .last .0) (c .before .before .observe2 .last .0) (a .k) (a .kind) (a .id) 2 (a .place)
-    (c .before .before .before .before .before .before .observe .ensures) (c .before .before .observe2 .ensures)
+    let at-observe2 = c .before .before in
+    let at-observe = at-observe2 .before .before .before .before in
+    let at-start = at-observe .before .before .before in
+    let a = at-start .args in
+    stored-twice (a .trace .now) (at-observe .observe .last .0) (at-observe2 .observe2 .last .0) (a .k) (a .kind) (a .id) 2 (a .place)
+    (at-observe .observe .ensures) (at-observe2 .observe2 .ensures)
 
 pub observe-branch-spec : {M : Type 1} → statement M
 observe-branch-spec =

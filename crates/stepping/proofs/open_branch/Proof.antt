@@ -32,7 +32,9 @@ open-branch-requires c κs =
     let at-remaining-window = c .before in
     let at-start = at-remaining-window .before .before .before .before .before .before .before .before .before in
     let q = at-start .pre .0 in
-    (q .unexpired .fits, (at-remaining-window .remaining-window .ensures .left (q .unexpired .window), (at-start .pre .3, omega (arith, q .counted .opened, q .counted .steps))))
+    (q .unexpired .fits,
+    (at-remaining-window .remaining-window .ensures .left (q .unexpired .window),
+    (at-start .pre .3, omega (arith, q .counted .opened, q .counted .steps))))
 
 observe-branch-requires : tie.Need-observe-branch-requires
 observe-branch-requires c κs =
@@ -41,7 +43,8 @@ observe-branch-requires c κs =
 
 count-step-requires : tie.Need-count-step-requires
 count-step-requires c κs =
-    let at-start = c .before .before .before .before .before .before .before .before .before .before .before .before .before .before .before .before .before .before in
+    let back-1 = c .before .before .before .before .before .before .before .before .before .before .before .before in
+    let at-start = back-1 .before .before .before .before .before .before in
     omega (arith, at-start .pre .0 .more, at-start .pre .0 .counted .steps, at-start .good .1 .0)
 
 same-length : tie.Need-same-length

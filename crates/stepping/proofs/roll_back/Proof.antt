@@ -24,7 +24,12 @@ same-length-2 c = search needs
 
 returns : tie.Need-returns
 returns c =
-    rolled-back (c .before .before .before .before .before .before .before .before .before .roll-back .ensures) (c .before .before .before .before .before .before .before .before .before .before .before .before .before .before .pre .0 .opened) (c .before .before .before .before .before .observe-branch .ensures) (c .before .empty .ensures) (c .count-step .ensures)
+    let at-empty = c .before in
+    let at-observe-branch = at-empty .before .before .before .before in
+    let at-roll-back = at-observe-branch .before .before .before .before in
+    let at-start = at-roll-back .before .before .before .before .before in
+    rolled-back (at-roll-back .roll-back .ensures) (at-start .pre .0 .opened) (at-observe-branch .observe-branch .ensures) (at-empty .empty .ensures)
+    (c .count-step .ensures)
 
 pub roll-back-spec : {M : Type 1} → statement M
 roll-back-spec =

@@ -21,7 +21,10 @@ count-step-requires c κs = search needs
 
 returns : tie.Need-returns
 returns c =
-    let k = kept (c .before .before .before .before .remaining-window .ensures) (c .before .before .go .ensures) (c .before .empty .ensures) (c .count-step .ensures) in
+    let at-empty = c .before in
+    let at-go = at-empty .before in
+    let at-remaining-window = at-go .before .before in
+    let k = kept (at-remaining-window .remaining-window .ensures) (at-go .go .ensures) (at-empty .empty .ensures) (c .count-step .ensures) in
     (k, λ w t cells live most. kept-silently live most k)
 
 pub skip-spec : {M : Type 1} → statement M

@@ -17,14 +17,19 @@ remaining-window-requires c κs = search needs
 
 store-word-requires : tie.Need-store-word-requires
 store-word-requires c κs =
-    let p = c .before .before .before .before .before .pre in
-    (p .0 .fits, c .before .remaining-window .ensures .left (p .0 .window), p .2, p .4, p .5)
+    let at-remaining-window = c .before in
+    let at-start = at-remaining-window .before .before .before .before in
+    let p = at-start .pre in
+    (p .0 .fits, at-remaining-window .remaining-window .ensures .left (p .0 .window), p .2, p .4, p .5)
 
 observe-requires : tie.Need-observe-requires
 observe-requires c κs = search needs
 
 count-step-requires : tie.Need-count-step-requires
-count-step-requires c κs = let p = c .before .before .before .before .before .before .before .before .before .before .before .before .before .pre in omega (arith, p .1, p .3, c .before .before .before .before .before .before .before .before .before .before .before .before .before .good)
+count-step-requires c κs =
+    let back-1 = c .before .before .before .before .before .before .before .before .before .before .before .before in
+    let at-start = back-1 .before in
+    let p = at-start .pre in omega (arith, p .1, p .3, at-start .good)
 
 same-length : tie.Need-same-length
 same-length c = search needs
@@ -34,13 +39,19 @@ same-length-2 c = search needs
 
 returns : tie.Need-returns
 returns c =
-    let a = c .before .before .before .before .before .before .before .before .before .before .before .before .before .before .args in
+    let at-observe = c .before .before .before .before in
+    let at-store-word = at-observe .before .before .before .before in
+    let at-remaining-window = at-store-word .before .before in
+    let at-start = at-remaining-window .before .before .before .before in
+    let a = at-start .args in
     let σ = stateIn (a .work .now) (registers + a .cells) in
     record {
       made = λ p code ec costs.
-          let m = c .before .before .before .before .before .before .before .before .store-word .ensures code ec in
-          carried-shown (a .i) (m .machine) (m .fits) (m .frame) p code (c .before .before .before .before .before .before .before .before .before .before .remaining-window .ensures .exact p code costs) (stored (a .a .value))
-          (storedTo code σ (a .a) (at σ (a .r))) (suc (a .c .control .place)) refl (add-one (a .c .control .place)) refl (c .before .before .before .before .observe .ensures)
+          let m = at-store-word .store-word .ensures code ec in
+          carried-shown (a .i) (m .machine) (m .fits) (m .frame) p code (at-remaining-window .remaining-window .ensures .exact p code costs)
+          (stored (a .a .value))
+          (storedTo code σ (a .a) (at σ (a .r))) (suc (a .c .control .place)) refl (add-one (a .c .control .place)) refl
+          (at-observe .observe .ensures)
           (c .count-step .ensures);
     }
 

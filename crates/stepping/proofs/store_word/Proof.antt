@@ -18,14 +18,17 @@ go-requires : tie.Need-go-requires
 go-requires c κs = search needs
 
 returns : tie.Need-returns
-returns c = λ code ec.
-    let a = c .before .before .before .before .args in
-    let p = c .before .before .before .before .pre in
+returns c =
+    let at-if1 = c .before in
+    let at-start = at-if1 .before .before .before in
+    λ code ec.
+    let a = at-start .args in
+    let p = at-start .pre in
     let w = a .work .now in
     let n = registers + a .cells in
     let m = gone-to w (c .go .ensures) (p .0) (p .1) in
     moves-at n (λ (σ : State). σ) (λ (σ : State). storedTo code σ (a .a) (at σ (a .r))) (p .4) m
-    (store-outside w (a .cells) (a .a) code ec (at (stateIn w n) (a .r)) (c .before .if1 .taken))
+    (store-outside w (a .cells) (a .a) code ec (at (stateIn w n) (a .r)) (at-if1 .if1 .taken))
 
 new-requires : tie.Need-new-requires
 new-requires c κs = search needs
@@ -44,10 +47,14 @@ joined-requires c κs = search needs
 
 assign-requires : tie.Need-assign-requires
 assign-requires c κs =
-    let p = c .before .before .before .before .before .before .before .before .before .before .before .pre in
-    let l = c .before .before .before .before .before .cell .ensures in
-    let n = c .before .before .before .before .before .before .new .ensures in
-    let h = c .before .before .before .before .before .before .before .before .if1 .left in
+    let at-cell = c .before .before .before .before .before in
+    let at-new = at-cell .before in
+    let at-if1 = at-new .before .before in
+    let at-start = at-if1 .before .before .before in
+    let p = at-start .pre in
+    let l = at-cell .cell .ensures in
+    let n = at-new .new .ensures in
+    let h = at-if1 .if1 .left in
     let m = p .4 in
     (p .0, (p .1, omega arith))
 
@@ -55,13 +62,24 @@ same-length : tie.Need-same-length
 same-length c = search needs
 
 returns-2 : tie.Need-returns-2
-returns-2 c = λ code ec.
-    let a = c .before .before .before .before .before .before .before .before .before .before .before .before .before .before .args in
-    let p = c .before .before .before .before .before .before .before .before .before .before .before .before .before .before .pre in
+returns-2 c =
+    let at-assign = c .before .before in
+    let at-joined = at-assign .before .before in
+    let at-load = at-joined .before in
+    let at-register = at-load .before in
+    let at-cell = at-register .before .before in
+    let at-new = at-cell .before in
+    let at-if1 = at-new .before .before in
+    let at-start = at-if1 .before .before .before in
+    λ code ec.
+    let a = at-start .args in
+    let p = at-start .pre in
     let w = a .work .now in
-    moves-at (registers + a .cells) (λ (σ : State). put σ _ _) (λ (σ : State). storedTo code σ (a .a) (at σ (a .r))) (p .4) (c .before .before .assign .ensures)
-    (store-inside w (a .cells) (a .a) code ec (a .r) (c .before .before .before .before .before .before .before .before .before .before .before .if1 .left) (p .3) (c .before .before .before .before .before .before .before .before .before .new .ensures) (c .before .before .before .before .before .before .before .before .cell .ensures) (c .before .before .before .before .before .before .register .ensures)
-    (c .before .before .before .before .before .load .ensures) (c .before .before .before .before .joined .ensures))
+    moves-at (registers + a .cells) (λ (σ : State). put σ _ _) (λ (σ : State). storedTo code σ (a .a) (at σ (a .r))) (p .4)
+    (at-assign .assign .ensures)
+    (store-inside w (a .cells) (a .a) code ec (a .r) (at-if1 .if1 .left) (p .3) (at-new .new .ensures) (at-cell .cell .ensures)
+    (at-register .register .ensures)
+    (at-load .load .ensures) (at-joined .joined .ensures))
 
 pub store-word-spec : {M : Type 1} → statement M
 store-word-spec =

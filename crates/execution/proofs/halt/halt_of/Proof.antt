@@ -29,7 +29,8 @@ returns-2 c =
     let at-is-over = at-if1 .before in
     let at-start = at-is-over .before .before .before .before .before in
     let a = at-start .args in
-    halts-spent (a .p .now) (a .t) (a .mode) (standing (a .work .now) (a .trace .now) (a .c)) (sym (at-is-over .is-over .ensures) ∙ at-if1 .if1 .left) (c .if2 .taken)
+    halts-spent (a .p .now) (a .t) (a .mode) (standing (a .work .now) (a .trace .now) (a .c)) (sym (at-is-over .is-over .ensures) ∙ at-if1 .if1 .left)
+    (c .if2 .taken)
 
 next-observations-requires : tie.Need-next-observations-requires
 next-observations-requires c κs =
@@ -44,7 +45,8 @@ add-if3 c =
     let at-start = at-next-observations .before .before .before .before .before .before .before .before .before .before in
     let a = at-start .args in
     let e = at-next-observations .next-observations .ensures in
-    let two = step-most (a .mode) (codeIn (a .p .now) (a .t) (drop labels (a .work .now))) (machineOf (a .work .now) (a .c .control) (locations (a .t))) in
+    let two = step-most (a .mode) (codeIn (a .p .now) (a .t) (drop labels (a .work .now)))
+    (machineOf (a .work .now) (a .c .control) (locations (a .t))) in
     let r = at-start .pre .counted .room in
     omega (arith, at-start .good)
 
@@ -58,7 +60,8 @@ returns-3 c =
     let a = at-start .args in
     let e = at-next-observations .next-observations .ensures in
     let h = c .if3 .taken in
-    permitted (a .p .now) (a .t) (a .mode) (standing (a .work .now) (a .trace .now) (a .c)) (sym (at-is-over .is-over .ensures) ∙ at-if1 .if1 .left) (at-if2 .if2 .left) (omega arith)
+    permitted (a .p .now) (a .t) (a .mode) (standing (a .work .now) (a .trace .now) (a .c)) (sym (at-is-over .is-over .ensures) ∙ at-if1 .if1 .left)
+    (at-if2 .if2 .left) (omega arith)
 
 returns-4 : tie.Need-returns-4
 returns-4 c =
@@ -70,7 +73,8 @@ returns-4 c =
     let a = at-start .args in
     let e = at-next-observations .next-observations .ensures in
     let h = c .if3 .left in
-    halts-full (a .p .now) (a .t) (a .mode) (standing (a .work .now) (a .trace .now) (a .c)) (sym (at-is-over .is-over .ensures) ∙ at-if1 .if1 .left) (at-if2 .if2 .left) (omega arith)
+    halts-full (a .p .now) (a .t) (a .mode) (standing (a .work .now) (a .trace .now) (a .c)) (sym (at-is-over .is-over .ensures) ∙ at-if1 .if1 .left)
+    (at-if2 .if2 .left) (omega arith)
 
 pub halt-of-spec : {M : Type 1} → statement M
 halt-of-spec =

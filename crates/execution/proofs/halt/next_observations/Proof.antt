@@ -54,7 +54,8 @@ instruction-of-requires c κs =
     let a = at-start .args in
     let g = advance-named (a .c .control) (a .t .count) (a .work .now) (locations (a .t))
     (sym (at-enum-told3 .enum-told3 .given .1) ∙ at-rule-of .rule-of .ensures (a .work .now) (locations (a .t))) in
-    fetched-valid (a .p .now) (a .t) (a .mode) (a .work .now) (a .c .control) (at-start .pre .0) (place-inside g) (at-new .new .ensures) (c .fetch .ensures)
+    fetched-valid (a .p .now) (a .t) (a .mode) (a .work .now) (a .c .control) (at-start .pre .0) (place-inside g) (at-new .new .ensures)
+    (c .fetch .ensures)
 
 observations-of-requires : tie.Need-observations-of-requires
 observations-of-requires c κs = search needs
@@ -90,7 +91,8 @@ returns-3 c =
     let k = a .c .control in
     let code = codeIn (a .p .now) (a .t) (drop labels w) in
     let M = machineOf w k (locations (a .t)) in
-    let g = advance-named k (a .t .count) w (locations (a .t)) (sym (at-enum-told3 .enum-told3 .given .1) ∙ at-rule-of .rule-of .ensures w (locations (a .t))) in
+    let g = advance-named k (a .t .count) w (locations (a .t))
+    (sym (at-enum-told3 .enum-told3 .given .1) ∙ at-rule-of .rule-of .ensures w (locations (a .t))) in
     let same = fetched-same (a .p .now) (a .t) (a .mode) w k (at-start .pre .0) (place-inside g) (at-new .new .ensures) (at-fetch .fetch .ensures) in
     c .observations-of .ensures (a .p .now) code M
     ∙ ap (λ (i : Instr). length (forwardBy (a .mode) code M i .obs)) (at-instruction-of .instruction-of .ensures)

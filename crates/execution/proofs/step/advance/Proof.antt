@@ -39,7 +39,8 @@ source-value-requires c κs =
     let at-new = at-fetch .before .before in
     let at-start = at-new .before .before .before .before .before in
     let a = at-start .args in
-    let v = fetched-valid (a .p .now) (a .t) (a .mode) (a .work .now) (a .c .control) (at-start .pre .ready .steady) (at-start .pre .inside) (at-new .new .ensures) (at-fetch .fetch .ensures) in
+    let v = fetched-valid (a .p .now) (a .t) (a .mode) (a .work .now) (a .c .control) (at-start .pre .ready .steady) (at-start .pre .inside)
+    (at-new .new .ensures) (at-fetch .fetch .ensures) in
     let r = at-start .pre .ready .steady .fits .room in
     (v, omega arith)
 
@@ -59,9 +60,11 @@ open-branch-requires c κs =
     let at-start = at-new .before .before .before .before .before in
     let a = at-start .args in
     let k = a .c .control in
-    let v = fetched-valid (a .p .now) (a .t) (a .mode) (a .work .now) (a .c .control) (at-start .pre .ready .steady) (at-start .pre .inside) (at-new .new .ensures) (at-fetch .fetch .ensures) in
+    let v = fetched-valid (a .p .now) (a .t) (a .mode) (a .work .now) (a .c .control) (at-start .pre .ready .steady) (at-start .pre .inside)
+    (at-new .new .ensures) (at-fetch .fetch .ensures) in
     let o = rw (at-r .r .given .1) at (at-opening-of .opening-of .ensures (a .p .now) v) in
-    let same = fetched-same (a .p .now) (a .t) (a .mode) (a .work .now) (a .c .control) (at-start .pre .ready .steady) (at-start .pre .inside) (at-new .new .ensures) (at-fetch .fetch .ensures) in
+    let same = fetched-same (a .p .now) (a .t) (a .mode) (a .work .now) (a .c .control) (at-start .pre .ready .steady) (at-start .pre .inside)
+    (at-new .new .ensures) (at-fetch .fetch .ensures) in
     let g = still-going (at-start .pre .inside) (at-start .pre .window) in
     let l = at-start .pre .ready .steady .loaded .limits .count-most in
     let i = at-start .pre .inside in
@@ -70,7 +73,8 @@ open-branch-requires c κs =
       counted = at-start .pre .ready .counted;
       more = branch-room (a .p .now) (a .t) (a .mode) (a .work .now) k g same (a .c .observations) (length (a .trace .now)) (at-start .pre .room) o;
       place = omega arith;
-    }, rw (o .1) at (v .below), rw (o .1) at (at-source-value .source-value .ensures) ∙ register-value _ _, at-start .pre .ready .steady .loaded .limits .window)
+    }, rw (o .1) at (v .below), rw (o .1) at (at-source-value .source-value .ensures)
+    ∙ register-value _ _, at-start .pre .ready .steady .loaded .limits .window)
 
 enum-told : tie.Need-enum-told
 enum-told c = search needs
@@ -81,7 +85,8 @@ instruction-of-requires c κs =
     let at-new = at-fetch .before .before in
     let at-start = at-new .before .before .before .before .before in
     let a = at-start .args in
-    fetched-valid (a .p .now) (a .t) (a .mode) (a .work .now) (a .c .control) (at-start .pre .ready .steady) (at-start .pre .inside) (at-new .new .ensures) (at-fetch .fetch .ensures)
+    fetched-valid (a .p .now) (a .t) (a .mode) (a .work .now) (a .c .control) (at-start .pre .ready .steady) (at-start .pre .inside)
+    (at-new .new .ensures) (at-fetch .fetch .ensures)
 
 carry-out-requires : tie.Need-carry-out-requires
 carry-out-requires c κs =
@@ -97,9 +102,11 @@ carry-out-requires c κs =
     let w = a .work .now in
     let code = codeIn (a .p .now) (a .t) (drop labels w) in
     let M = machineOf w k (locations (a .t)) in
-    let v = fetched-valid (a .p .now) (a .t) (a .mode) (a .work .now) (a .c .control) (at-start .pre .ready .steady) (at-start .pre .inside) (at-new .new .ensures) (at-fetch .fetch .ensures) in
+    let v = fetched-valid (a .p .now) (a .t) (a .mode) (a .work .now) (a .c .control) (at-start .pre .ready .steady) (at-start .pre .inside)
+    (at-new .new .ensures) (at-fetch .fetch .ensures) in
     let o = rw (at-enum-told .enum-told .given .1) at (at-opening-of .opening-of .ensures (a .p .now) v) in
-    let same = fetched-same (a .p .now) (a .t) (a .mode) (a .work .now) (a .c .control) (at-start .pre .ready .steady) (at-start .pre .inside) (at-new .new .ensures) (at-fetch .fetch .ensures) in
+    let same = fetched-same (a .p .now) (a .t) (a .mode) (a .work .now) (a .c .control) (at-start .pre .ready .steady) (at-start .pre .inside)
+    (at-new .new .ensures) (at-fetch .fetch .ensures) in
     let e = at-instruction-of .instruction-of .ensures in
     let g = still-going (at-start .pre .inside) (at-start .pre .window) in
     let l = at-start .pre .ready .steady .loaded .limits .count-most in
@@ -109,7 +116,8 @@ carry-out-requires c κs =
       counted = at-start .pre .ready .counted;
       place = omega arith;
       limits = at-start .pre .ready .steady .loaded .limits;
-      room = λ any. rw e (other-room (a .p .now) (a .t) (a .mode) w k g same (a .c .observations) (length (a .trace .now)) (at-start .pre .room) o any);
+      room = λ any. rw e
+      (other-room (a .p .now) (a .t) (a .mode) w k g same (a .c .observations) (length (a .trace .now)) (at-start .pre .room) o any);
       sound = rw e (v .sound);
       below = rw e (v .below);
       value = at-source-value .source-value .ensures ∙ ap (λ (y : Instr). eval (taggedAt w) (firstTokens y)) (sym e);
@@ -133,9 +141,11 @@ returns c =
     let k = a .c .control in
     let w = a .work .now in
     let n = locations (a .t) in
-    let v = fetched-valid (a .p .now) (a .t) (a .mode) (a .work .now) (a .c .control) (at-start .pre .ready .steady) (at-start .pre .inside) (at-new .new .ensures) (at-fetch .fetch .ensures) in
+    let v = fetched-valid (a .p .now) (a .t) (a .mode) (a .work .now) (a .c .control) (at-start .pre .ready .steady) (at-start .pre .inside)
+    (at-new .new .ensures) (at-fetch .fetch .ensures) in
     let o = rw (at-r .r .given .1) at (at-opening-of .opening-of .ensures (a .p .now) v) in
-    let same = fetched-same (a .p .now) (a .t) (a .mode) (a .work .now) (a .c .control) (at-start .pre .ready .steady) (at-start .pre .inside) (at-new .new .ensures) (at-fetch .fetch .ensures) in
+    let same = fetched-same (a .p .now) (a .t) (a .mode) (a .work .now) (a .c .control) (at-start .pre .ready .steady) (at-start .pre .inside)
+    (at-new .new .ensures) (at-fetch .fetch .ensures) in
     let limits = at-start .pre .ready .steady .loaded .limits in
     let most = locations-most limits in
     let s = code-of (a .p .now) (a .t) (drop labels w) in
@@ -161,9 +171,11 @@ returns-2 c =
     let k = a .c .control in
     let w = a .work .now in
     let n = locations (a .t) in
-    let v = fetched-valid (a .p .now) (a .t) (a .mode) (a .work .now) (a .c .control) (at-start .pre .ready .steady) (at-start .pre .inside) (at-new .new .ensures) (at-fetch .fetch .ensures) in
+    let v = fetched-valid (a .p .now) (a .t) (a .mode) (a .work .now) (a .c .control) (at-start .pre .ready .steady) (at-start .pre .inside)
+    (at-new .new .ensures) (at-fetch .fetch .ensures) in
     let o = rw (at-enum-told .enum-told .given .1) at (at-opening-of .opening-of .ensures (a .p .now) v) in
-    let same = fetched-same (a .p .now) (a .t) (a .mode) (a .work .now) (a .c .control) (at-start .pre .ready .steady) (at-start .pre .inside) (at-new .new .ensures) (at-fetch .fetch .ensures) in
+    let same = fetched-same (a .p .now) (a .t) (a .mode) (a .work .now) (a .c .control) (at-start .pre .ready .steady) (at-start .pre .inside)
+    (at-new .new .ensures) (at-fetch .fetch .ensures) in
     let code = codeIn (a .p .now) (a .t) (drop labels w) in
     let step = other-step (a .p .now) (a .t) (a .mode) w k (still-going (at-start .pre .inside) (at-start .pre .window)) same o in
     let e = ap (ordinary code (machineOf w k n)) (at-instruction-of .instruction-of .ensures) in

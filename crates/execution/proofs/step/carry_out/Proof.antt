@@ -116,7 +116,8 @@ returns c =
     let at-start = at-enum-told .before .before .before .before .before .before .before in
     let a = at-start .args in
     let l = at-start .pre .limits .cells in
-    skip-carried (at-enum-told .enum-told .given .1) (c .skip .ensures .1 (a .work .now) (a .trace .now) (a .t .cells) (at-start .pre .unexpired) (omega arith))
+    skip-carried (at-enum-told .enum-told .given .1)
+    (c .skip .ensures .1 (a .work .now) (a .trace .now) (a .t .cells) (at-start .pre .unexpired) (omega arith))
 
 same-length : tie.Need-same-length
 same-length c = search needs
@@ -128,7 +129,8 @@ returns-2 c =
     let at-start = at-i .before .before .before .before .before .before .before in
     let a = at-start .args in
     let l = at-start .pre .limits .cells in
-    assign-carried (at-i .i .given .1) (rw (at-i .i .given .1) at (at-start .pre .value)) (at-assign .assign .ensures (a .trace .now) (a .t .cells) (omega arith))
+    assign-carried (at-i .i .given .1) (rw (at-i .i .given .1) at (at-start .pre .value))
+    (at-assign .assign .ensures (a .trace .now) (a .t .cells) (omega arith))
 
 same-length-2 : tie.Need-same-length-2
 same-length-2 c = search needs
@@ -166,7 +168,8 @@ returns-5 c =
     let at-enum-told2 = at-jump-to .before in
     let at-start = at-enum-told2 .before .before .before .before .before .before .before in
     let l = at-start .pre .limits .cells in
-    jump-carried (at-enum-told2 .enum-told2 .given .1) (rw (at-enum-told2 .enum-told2 .given .1) at (at-start .pre .value)) (at-jump-to .jump-to .ensures)
+    jump-carried (at-enum-told2 .enum-told2 .given .1) (rw (at-enum-told2 .enum-told2 .given .1) at (at-start .pre .value))
+    (at-jump-to .jump-to .ensures)
     (at-go-to .go-to .ensures .1 (at-start .args .work .now) (at-start .args .t .cells) (at-start .pre .unexpired) (omega arith))
 
 same-length-7 : tie.Need-same-length-7
@@ -180,7 +183,8 @@ returns-6 c =
     let at-start = at-i4 .before .before .before .before .before .before .before in
     let l = at-start .pre .limits .cells in
     let q = rw (at-i4 .i4 .given .1) at (at-start .pre) in
-    branch-carried (at-i4 .i4 .given .1) (q .below) (rw (at-i4 .i4 .given .1) at (at-start .pre .value) ∙ register-value _ _) (at-branch-to .branch-to .ensures)
+    branch-carried (at-i4 .i4 .given .1) (q .below) (rw (at-i4 .i4 .given .1) at (at-start .pre .value) ∙ register-value _ _)
+    (at-branch-to .branch-to .ensures)
     (at-go-to2 .go-to2 .ensures .1 (at-start .args .work .now) (at-start .args .t .cells) (at-start .pre .unexpired) (omega arith))
 
 same-length-8 : tie.Need-same-length-8
@@ -204,7 +208,8 @@ returns-8 c =
     let at-start = at-enum-told3 .before .before .before .before .before .before .before in
     let a = at-start .args in
     let l = at-start .pre .limits .cells in
-    barrier-carried (at-enum-told3 .enum-told3 .given .1) (c .skip2 .ensures .1 (a .work .now) (a .trace .now) (a .t .cells) (at-start .pre .unexpired) (omega arith))
+    barrier-carried (at-enum-told3 .enum-told3 .given .1)
+    (c .skip2 .ensures .1 (a .work .now) (a .trace .now) (a .t .cells) (at-start .pre .unexpired) (omega arith))
 
 pub carry-out-spec : {M : Type 1} → statement M
 carry-out-spec =

@@ -20,7 +20,8 @@ abbrev μ-loop : tie.MeasureT-loop
 loop-holds : tie.Need-loop-holds Inv-loop μ-loop
 loop-holds c =
     let at-start = c .before .before .before in
-    (refl, refl, stepping-starts (at-start .args .p .now) (at-start .args .t) (at-start .args .mode) (at-start .pre .0) (at-start .pre .1) (at-start .pre .2))
+    let q = at-start .pre in
+    (refl, refl, stepping-starts (at-start .args .p .now) (at-start .args .t) (at-start .args .mode) (q .ready) (q .next) (q .free))
 
 rule-of-requires : tie.Need-rule-of-requires Inv-loop μ-loop
 rule-of-requires c κs = closed-window _ (c .before .before .loop .inv .2 .ready .steady .fits)
