@@ -22,7 +22,8 @@ fn compared(
     second_trace: &[u64],
 ) -> PairAnswer
     requires { ⌜ BothRan (now job) t (now second) (r .counts) (s .counts) (now «first_trace») (now «second_trace») ⌝ }
-    ensures { λ x. ⌜ x ≡ comparedOf (now (job .entry)) t (now (second .entry)) (r .counts) (s .counts) (now («first_trace» .entry)) (now («second_trace» .entry)) ⌝ }
+    ensures { λ x. ⌜ x ≡ comparedOf (now (job .entry)) t (now (second .entry)) (r .counts) (s .counts)
+        (now («first_trace» .entry)) (now («second_trace» .entry)) ⌝ }
 {
     let public = job::public_list(job, t);
     let n = t.locations();

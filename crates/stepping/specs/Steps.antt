@@ -2,7 +2,7 @@
 -- Assumes nothing.
 use mathlib.Core.Path.{_≡_}
 use mathlib.Core.List.{List, _∷_, _++_}
-use Prim.Native.Nat.{ℕ, _+_, _*_, _<_, _≤_}
+use Prim.Native.Nat.{ℕ, _+_, _*_, _^_, _<_, _≤_}
 use lib.ListN.{length, drop}
 use lib.Seq.{sets}
 use Rattle.location.specs.declared.LocationSet.{LocationSet}
@@ -77,6 +77,15 @@ pub record Steppable (observations : ℕ) (x : Standing) : Type 0 where
   pub counted : Counted x
   pub more : 2 * (x .progress .observations + observations) ≤ length (x .trace)
   pub place : x .progress .control .place < maxInstructions
+
+-- What a load or a store of register r asks, with so many cells: some window left, room for its observation, and numbers in range.
+pub record Accessible (cells r : ℕ) (x : Standing) : Type 0 where
+  pub unexpired : Unexpired (x .work) (x .progress)
+  pub room : 2 * (x .progress .observations + 1) ≤ length (x .trace)
+  pub place : x .progress .control .place + 1 < 2 ^ 64
+  pub steps : x .progress .steps + 1 < 2 ^ 64
+  pub register : r < registers
+  pub most : registers + cells ≤ limit
 
 -- What instruction i leaves of the window: with a branch open less than there was, and with none not 0, if there was any.
 pub record Leaves (c : Control) (i : Instruction) (v : ℕ) : Type 0 where

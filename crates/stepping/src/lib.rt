@@ -25,7 +25,7 @@ ghost use Rattle.work.specs.Words.{taggedAt};
 ghost use Rattle.work.specs.Machines.{maxWindow, Fit, Left};
 ghost use Rattle.work.specs.Moves.{ordinaryNext, MovesAt};
 ghost use Rattle.stepping.specs.Progress.{standing, standingBefore, standingAfter, gatherAt, progressAfter};
-ghost use Rattle.stepping.specs.Steps.{Unexpired, Steppable, Leaves, RolledBackTo, OpenedTo, CarriedOut, StateKept};
+ghost use Rattle.stepping.specs.Steps.{Unexpired, Steppable, Accessible, Leaves, RolledBackTo, OpenedTo, CarriedOut, StateKept};
 
 // Where a run stands: the machine's control, the counts, the full set and the plain set. The rollbacks are not counted: every branch
 // that was opened is open or rolled back.
@@ -134,7 +134,8 @@ pub fn open_branch(
 pub fn skip(c: Progress, i: Instruction) -> Progress
     requires { ⌜ (c .control .place + 1 < 2 ^ 64) × (c .steps + 1 < 2 ^ 64) ⌝ }
     ensures exact { λ x. ⌜ StateKept (c .control .place + 1) 0 empty i c x ⌝ }
-    ensures carried { λ x. ⌜ ((w t : List ℕ) (cells : ℕ) → Unexpired w c → registers + cells ≤ limit → CarriedOut cells i (λ code σ. silent σ (c .control .place)) (standing w t c) (standing w t x)) ⌝ }
+    ensures carried { λ x. ⌜ ((w t : List ℕ) (cells : ℕ) → Unexpired w c → registers + cells ≤ limit
+        → CarriedOut cells i (λ code σ. silent σ (c .control .place)) (standing w t c) (standing w t x)) ⌝ }
 {
     let control = c.control;
     let remaining = remaining_window(control, i);
@@ -145,7 +146,8 @@ pub fn skip(c: Progress, i: Instruction) -> Progress
 // Rule 3 for an instruction that gives register r the word v and shows nothing.
 pub fn assign(work: &mut [u64], c: Progress, i: Instruction, r: u8, v: Tagged) -> Progress
     requires { ⌜ Unexpired (now work) c × (c .control .place + 1 < 2 ^ 64) × (c .steps + 1 < 2 ^ 64) × (r < registers) ⌝ }
-    ensures { λ x. ⌜ ((t : List ℕ) (cells : ℕ) → registers + cells ≤ limit → CarriedOut cells i (λ code σ. silent (put σ r v) (c .control .place)) (standing (now (work .entry)) t c) (standing (now (work .exit)) t x)) ⌝ }
+    ensures { λ x. ⌜ ((t : List ℕ) (cells : ℕ) → registers + cells ≤ limit
+        → CarriedOut cells i (λ code σ. silent (put σ r v) (c .control .place)) (standing (now (work .entry)) t c) (standing (now (work .exit)) t x)) ⌝ }
 {
     let control = c.control;
     let remaining = remaining_window(control, i);
@@ -165,7 +167,7 @@ pub fn load(
     r: u8,
     a: Tagged,
 ) -> Progress
-    requires { ⌜ Unexpired (now work) c × (2 * (c .observations + 1) ≤ length (now trace)) × (c .control .place + 1 < 2 ^ 64) × (c .steps + 1 < 2 ^ 64) × (r < registers) × (registers + cells ≤ limit) ⌝ }
+    requires { ⌜ Accessible cells r (standing (now work) (now trace) c) ⌝ }
     ensures { λ x. ⌜ CarriedOut cells i (λ code σ. loadEffect code σ (c .control .place) r a) (standingBefore work trace c) (standingAfter work trace x) ⌝ }
 {
     let control = c.control;
@@ -190,7 +192,8 @@ fn store_word(
     remaining: usize,
 ) -> Control
     requires { ⌜ Fit (now work) c × Left c remaining × (c .place + 1 < 2 ^ 64) × (r < registers) × (registers + cells ≤ limit) ⌝ }
-    ensures { λ x. ⌜ ((code : Code) → code .cells ≡ cells → MovesAt (registers + cells) (now (work .entry)) (now (work .exit)) c x (λ M. ordinaryNext M (storedTo code (M .state) a (at (M .state) r)) (c .place + 1) remaining)) ⌝ }
+    ensures { λ x. ⌜ ((code : Code) → code .cells ≡ cells → MovesAt (registers + cells) (now (work .entry)) (now (work .exit)) c x
+        (λ M. ordinaryNext M (storedTo code (M .state) a (at (M .state) r)) (c .place + 1) remaining)) ⌝ }
 {
     let place = c.place + 1;
     let value = a.value;
@@ -213,7 +216,7 @@ pub fn store(
     r: u8,
     a: Tagged,
 ) -> Progress
-    requires { ⌜ Unexpired (now work) c × (2 * (c .observations + 1) ≤ length (now trace)) × (c .control .place + 1 < 2 ^ 64) × (c .steps + 1 < 2 ^ 64) × (r < registers) × (registers + cells ≤ limit) ⌝ }
+    requires { ⌜ Accessible cells r (standing (now work) (now trace) c) ⌝ }
     ensures { λ x. ⌜ CarriedOut cells i (λ code σ. storeEffect code σ (c .control .place) r a) (standingBefore work trace c) (standingAfter work trace x) ⌝ }
 {
     let control = c.control;
@@ -227,8 +230,10 @@ pub fn store(
 // Rule 3 for a jump or a branch to a place, which rests on v.
 pub fn go_to(trace: &mut [u64], c: Progress, i: Instruction, place: usize, v: Tagged) -> Progress
     requires { ⌜ (2 * (c .observations + 1) ≤ length (now trace)) × (c .steps + 1 < 2 ^ 64) ⌝ }
-    ensures exact { λ x. ⌜ StateKept place 1 (v .deps) i c x × (now (trace .exit) ≡ sets (now (trace .entry)) (2 * c .observations) (traceWords (pc place ∷ []))) ⌝ }
-    ensures carried { λ x. ⌜ ((w : List ℕ) (cells : ℕ) → Unexpired w c → registers + cells ≤ limit → CarriedOut cells i (λ code σ. goEffect σ place v) (standing w (now (trace .entry)) c) (standing w (now (trace .exit)) x)) ⌝ }
+    ensures exact { λ x. ⌜ StateKept place 1 (v .deps) i c x
+        × (now (trace .exit) ≡ sets (now (trace .entry)) (2 * c .observations) (traceWords (pc place ∷ []))) ⌝ }
+    ensures carried { λ x. ⌜ ((w : List ℕ) (cells : ℕ) → Unexpired w c → registers + cells ≤ limit
+        → CarriedOut cells i (λ code σ. goEffect σ place v) (standing w (now (trace .entry)) c) (standing w (now (trace .exit)) x)) ⌝ }
 {
     let control = c.control;
     let remaining = remaining_window(control, i);

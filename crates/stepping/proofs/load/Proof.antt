@@ -30,8 +30,8 @@ assign-requires c κs =
     let at-start = at-remaining-window .before .before .before .before in
     let p = at-start .pre in
     let r = at-register .register .ensures in
-    let h = p .4 in
-    (p .0 .fits, (at-remaining-window .remaining-window .ensures .left (p .0 .window), omega arith))
+    let h = p .register in
+    (p .unexpired .fits, (at-remaining-window .remaining-window .ensures .left (p .unexpired .window), omega arith))
 
 observe-requires : tie.Need-observe-requires
 observe-requires c κs = search needs
@@ -40,7 +40,7 @@ count-step-requires : tie.Need-count-step-requires
 count-step-requires c κs =
     let back-1 = c .before .before .before .before .before .before .before .before .before .before .before .before in
     let at-start = back-1 .before .before .before .before .before in
-    let p = at-start .pre in omega (arith, p .1, p .3, at-start .good)
+    let p = at-start .pre in omega (arith, p .room, p .steps, at-start .good)
 
 same-length : tie.Need-same-length
 same-length c = search needs
@@ -60,7 +60,7 @@ returns c =
     let n = registers + a .cells in
     record {
       made = λ p code ec costs.
-          assigned-shown _ _ (at-remaining-window .remaining-window .ensures) (at-assign .assign .ensures) n (at-start .pre .5) p code costs
+          assigned-shown _ _ (at-remaining-window .remaining-window .ensures) (at-assign .assign .ensures) n (at-start .pre .most) p code costs
           (loaded (a .a .value)) (a .r)
           (loadedFrom code (stateIn (a .work .now) n) (a .a)) (at-register .register .ensures) (at-loaded-from .loaded-from .ensures code ec) refl
           (at-observe .observe .ensures)

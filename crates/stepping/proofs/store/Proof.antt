@@ -20,7 +20,7 @@ store-word-requires c κs =
     let at-remaining-window = c .before in
     let at-start = at-remaining-window .before .before .before .before in
     let p = at-start .pre in
-    (p .0 .fits, at-remaining-window .remaining-window .ensures .left (p .0 .window), p .2, p .4, p .5)
+    (p .unexpired .fits, at-remaining-window .remaining-window .ensures .left (p .unexpired .window), p .place, p .register, p .most)
 
 observe-requires : tie.Need-observe-requires
 observe-requires c κs = search needs
@@ -29,7 +29,7 @@ count-step-requires : tie.Need-count-step-requires
 count-step-requires c κs =
     let back-1 = c .before .before .before .before .before .before .before .before .before .before .before .before in
     let at-start = back-1 .before in
-    let p = at-start .pre in omega (arith, p .1, p .3, at-start .good)
+    let p = at-start .pre in omega (arith, p .room, p .steps, at-start .good)
 
 same-length : tie.Need-same-length
 same-length c = search needs

@@ -43,7 +43,14 @@ load-requires c κs =
     let l = q .limits .cells in
     let h = q .place in
     let s = q .counted .steps in
-    (q .unexpired, load-shown (at-start .pre) (at-i2 .i2 .given .1), omega arith, omega arith, q .below, omega arith)
+    record {
+      unexpired = q .unexpired;
+      room = load-shown (at-start .pre) (at-i2 .i2 .given .1);
+      place = omega arith;
+      steps = omega arith;
+      register = q .below;
+      most = omega arith;
+    }
 
 enum-known-i-3 : tie.Need-enum-known-i-3
 enum-known-i-3 c = search needs
@@ -56,7 +63,14 @@ store-requires c κs =
     let l = q .limits .cells in
     let h = q .place in
     let s = q .counted .steps in
-    (q .unexpired, store-shown (at-start .pre) (at-i3 .i3 .given .1), omega arith, omega arith, q .below, omega arith)
+    record {
+      unexpired = q .unexpired;
+      room = store-shown (at-start .pre) (at-i3 .i3 .given .1);
+      place = omega arith;
+      steps = omega arith;
+      register = q .below;
+      most = omega arith;
+    }
 
 enum-told-2 : tie.Need-enum-told-2
 enum-told-2 c = search needs
