@@ -61,7 +61,8 @@ slots-set vs j (suc d) x (a ∷ st) l h =
     let ne : d ≢ j = omega arith in
     (getD-set-other vs j d x 0 ne ∙ h .0, slots-set vs j d x st (omega arith) (h .1))
 
-holds-push : (vs : List ℕ) (d x : ℕ) (a : Tagged) (st : List Tagged) → d < length vs → x ≡ a .value → StackHolds vs d st → StackHolds (set vs d x) (d + 1) (a ∷ st)
+holds-push : (vs : List ℕ) (d x : ℕ) (a : Tagged) (st : List Tagged) → d < length vs → x ≡ a .value → StackHolds vs d st
+    → StackHolds (set vs d x) (d + 1) (a ∷ st)
 holds-push vs d x a st l e h = rw add-one (getD-set-same vs d x 0 l ∙ e, slots-set vs d d x st (le-refl d) h)
 
 -- ---- the set of the code: those of the rules' stack together, each of four words
@@ -105,7 +106,8 @@ pub record After (vs : List ℕ) (d : ℕ) (s : LocationSet) (st : List Tagged) 
   pub sets : together st ≡ s
 
 -- the rules' push is the code's store: the operands' values stand in the slots low and low + 1, and the result's in the slot low
-push-store : (f : ℕ → Tagged) → ((r : ℕ) → length (f r .deps .words) ≡ 4) → (t : Token) (vs : List ℕ) (d low x : ℕ) (s s′ : LocationSet) (st : List Tagged)
+push-store : (f : ℕ → Tagged) → ((r : ℕ) → length (f r .deps .words) ≡ 4)
+    → (t : Token) (vs : List ℕ) (d low x : ℕ) (s s′ : LocationSet) (st : List Tagged)
     → d ≡ low + takes t → low < length vs → x ≡ value t f (getD vs low 0) (getD vs (low + 1) 0) → s′ ≡ gathered t f s → After vs d s st
     → After (set vs low x) (low + 1) s′ (pushed f t st)
 unfolding pushed empty none union
@@ -154,7 +156,8 @@ after-holds : (d k : ℕ) (ts : Expr) → held (after d k) ts ≡ 1 → (k ≤ d
 unfolding after
 after-holds d k ts = go (leb d 8 && leb k d && leb (d - k) 7) refl
   where
-    go : (b : Bool) → (leb d 8 && leb k d && leb (d - k) 7) ≡ b → held (cond b (d - k + 1) 9) ts ≡ 1 → (k ≤ d) × (d - k ≤ 7) × (held (d - k + 1) ts ≡ 1)
+    go : (b : Bool) → (leb d 8 && leb k d && leb (d - k) 7) ≡ b → held (cond b (d - k + 1) 9) ts ≡ 1
+        → (k ≤ d) × (d - k ≤ 7) × (held (d - k + 1) ts ≡ 1)
     go true e h =
         let a = and-eq-true-iff (leb d 8 && leb k d) (leb (d - k) 7) .0 e in
         (leb-true k d (and-eq-true-iff (leb d 8) (leb k d) .0 (a .0) .1), leb-true (d - k) 7 (a .1), h)
@@ -196,7 +199,8 @@ pub record Turn (f : ℕ → Tagged) (p : List ℕ) (v : Tagged) (k q d : ℕ) (
   pub again : (x : ℕ) (s′ : LocationSet) → x ≡ value t f (getD vs (d - takes t) 0) (getD vs (d - takes t + 1) 0) → s′ ≡ gathered t f s
       → Left f p v k q (d - takes t + 1) (set vs (d - takes t) x) s′
 
-pub turn : (f : ℕ → Tagged) → ((r : ℕ) → length (f r .deps .words) ≡ 4) → (p : List ℕ) (v : Tagged) (k at q d : ℕ) (vs : List ℕ) (s : LocationSet) (t : Token)
+pub turn : (f : ℕ → Tagged) → ((r : ℕ) → length (f r .deps .words) ≡ 4)
+    → (p : List ℕ) (v : Tagged) (k at q d : ℕ) (vs : List ℕ) (s : LocationSet) (t : Token)
     → got t q ≡ token p at → Left f p v (suc k) at d vs s → Turn f p v k q d vs s t
 unfolding tokens held evalOn
 turn f four p v k at q d vs s t e left = go (tokens k p q) refl (rw (← e) at (left .keeps)) (rw (← e) at (left .gives))

@@ -57,7 +57,7 @@ take-sets [] w i n h = refl
 take-sets (a ∷ vs) w i n h = take-sets vs (set w i a) (suc i) n (omega arith) ∙ take-set-le n w i a h
 
 module _ {bs : List ℕ} {t : Trailer} (k : Accepts bs t) (w : List ℕ) {p w′ : List ℕ} (ep : p ≡ take (t .state) bs)
-(fits : labelBase (t .count) ≤ length w)
+    (fits : labelBase (t .count) ≤ length w)
     (ew : w′ ≡ sets w labels (wordsFrom (t .count) p 0)) where
   -- they describe the job's program
   described : (job : Job) → parse bs ≡ accepted job

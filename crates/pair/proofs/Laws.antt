@@ -122,7 +122,8 @@ module _ {bs : List ℕ} {t : Trailer} {second a b w w₁ w₂ a′ b′ : List 
   -- the answer is that of the rules' two runs
   answer-same : comparedOf bs t second (r .counts) (r′ .counts) a′ b′
       ≡ answers.Compared
-      (pairWordOf (alikeFrom (job .public) 0 (job .init) vs) (run₁ .stop) (run₂ .stop) (traceWords (run₁ .gathered .trace)) (traceWords (run₂ .gathered .trace)))
+      (pairWordOf (alikeFrom (job .public) 0 (job .init) vs) (run₁ .stop) (run₂ .stop) (traceWords (run₁ .gathered .trace))
+      (traceWords (run₂ .gathered .trace)))
       (counts run₁) (counts run₂)
   unfolding counts
   answer-same =

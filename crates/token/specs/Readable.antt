@@ -57,7 +57,8 @@ operator-read p at h l =
     t ∙ go (ltb k 29) (rw t at h)
   where
     go : (b : Bool) → readable (cond b (return (op2 (getD binary (getD p at 0 - 19) add))) (refuse refusals.Encoding) p (at + 1)) ≡ true
-        → cond b (return (op2 (getD binary (getD p at 0 - 19) add))) (refuse refusals.Encoding) p (at + 1) ≡ got (op2 (getD binary (getD p at 0 - 19) add)) (at + 1)
+        → cond b (return (op2 (getD binary (getD p at 0 - 19) add))) (refuse refusals.Encoding) p (at + 1) ≡ got
+        (op2 (getD binary (getD p at 0 - 19) add)) (at + 1)
     go true h = refl
     go false h = unread h
 
@@ -71,7 +72,8 @@ module _ (p : List ℕ) (at : ℕ) (l : at < length p) where
       t = getD p at 0
 
       go : (a b : Bool)
-          → readable (cond a (return (reg t)) (cond b (return (op1 (getD unary (t - 17) neg))) (return (op2 (getD binary (t - 19) add)))) p (at + 1)) ≡ true
+          → readable
+          (cond a (return (reg t)) (cond b (return (op1 (getD unary (t - 17) neg))) (return (op2 (getD binary (t - 19) add)))) p (at + 1)) ≡ true
       go true b = refl
       go false true = refl
       go false false = refl

@@ -12,12 +12,6 @@ locations-requires c κs =
     let at-start = c .before .before .before .before in
     let l = accepted-limits (at-start .pre) .cells in omega arith
 
-areas-fit-requires : tie.Need-areas-fit-requires
-areas-fit-requires c κs = search needs
-
-plain-refused-requires : tie.Need-plain-refused-requires
-plain-refused-requires c κs = search needs
-
 returns : tie.Need-returns
 returns c =
     let at-if1 = c .before in
@@ -25,7 +19,8 @@ returns c =
     let at-locations = at-areas-fit .before .before .before in
     let at-start = at-locations .before .before .before .before .before in
     let a = at-start .args in
-    plain-short-areas (at-start .pre) (a .trace .now) (a .end .now) (a .work .now) (rw (at-locations .locations .ensures) at (at-areas-fit .areas-fit .ensures)) (not-true _ (at-if1 .if1 .taken)) (c .plain-refused .ensures)
+    plain-short-areas (at-start .pre) (a .trace .now) (a .end .now) (a .work .now)
+    (rw (at-locations .locations .ensures) at (at-areas-fit .areas-fit .ensures)) (not-true _ (at-if1 .if1 .taken)) (c .plain-refused .ensures)
 
 run-in-areas-requires : tie.Need-run-in-areas-requires
 run-in-areas-requires c κs =
@@ -34,25 +29,8 @@ run-in-areas-requires c κs =
     let at-locations = at-areas-fit .before .before .before in
     let at-start = at-locations .before .before .before .before .before in
     let a = at-start .args in
-    areas-fit (at-start .pre) (a .trace .now) (a .end .now) (a .work .now) (rw (at-locations .locations .ensures) at (at-areas-fit .areas-fit .ensures)) (not-false _ (at-if1 .if1 .left))
-
-plain-report-requires : tie.Need-plain-report-requires
-plain-report-requires c κs = search needs
-
-same-length : tie.Need-same-length
-same-length c = search needs
-
-same-length-2 : tie.Need-same-length-2
-same-length-2 c = search needs
-
-same-length-3 : tie.Need-same-length-3
-same-length-3 c = search needs
-
-same-length-4 : tie.Need-same-length-4
-same-length-4 c = search needs
-
-same-length-5 : tie.Need-same-length-5
-same-length-5 c = search needs
+    areas-fit (at-start .pre) (a .trace .now) (a .end .now) (a .work .now)
+    (rw (at-locations .locations .ensures) at (at-areas-fit .areas-fit .ensures)) (not-false _ (at-if1 .if1 .left))
 
 returns-2 : tie.Need-returns-2
 returns-2 c =
@@ -62,21 +40,23 @@ returns-2 c =
     let at-locations = at-areas-fit .before .before .before in
     let at-start = at-locations .before .before .before .before .before in
     let a = at-start .args in
-    plain-ran (at-start .pre) (a .trace .now) (a .end .now) (a .work .now) (rw (at-locations .locations .ensures) at (at-areas-fit .areas-fit .ensures)) (not-false _ (at-if1 .if1 .left)) (at-run-in-areas .run-in-areas .ensures) (c .plain-report .ensures)
+    plain-ran (at-start .pre) (a .trace .now) (a .end .now) (a .work .now)
+    (rw (at-locations .locations .ensures) at (at-areas-fit .areas-fit .ensures)) (not-false _ (at-if1 .if1 .left))
+    (at-run-in-areas .run-in-areas .ensures) (c .plain-report .ensures)
 
 pub plain-accepted-spec : {M : Type 1} → statement M
 plain-accepted-spec =
     tie.close
     (tie.spec
     locations-requires
-    areas-fit-requires
-    plain-refused-requires
-    same-length
-    same-length-2
+    (λ c κs. search needs)
+    (λ c κs. search needs)
+    (λ c. search needs)
+    (λ c. search needs)
     returns
     run-in-areas-requires
-    plain-report-requires
-    same-length-3
-    same-length-4
-    same-length-5
+    (λ c κs. search needs)
+    (λ c. search needs)
+    (λ c. search needs)
+    (λ c. search needs)
     returns-2)

@@ -8,12 +8,9 @@ use borrow.Author.Needs.{needs}
 use Rattle.checker.proofs.plain_refused.Statement.{statement}
 use Rattle.checker.proofs.plain_refused.Tie as tie
 
-empty-requires : tie.Need-empty-requires
-empty-requires c κs = search needs
-
 returns : tie.Need-returns
 unfolding plainRefused
 returns c = ap {B = PlainAnswer} (λ (g : LocationSet). record { outcome = plains.Refused (c .before .args .n); plain = g }) (c .empty .ensures)
 
 pub plain-refused-spec : {M : Type 1} → statement M
-plain-refused-spec = tie.close (tie.spec empty-requires returns)
+plain-refused-spec = tie.close (tie.spec (λ c κs. search needs) returns)

@@ -9,33 +9,12 @@ use borrow.Author.Needs.{needs}
 use Rattle.checker.proofs.plain_run.Statement.{statement}
 use Rattle.checker.proofs.plain_run.Tie as tie
 
-read-job-requires : tie.Need-read-job-requires
-read-job-requires c κs = search needs
-
-enum-known-t : tie.Need-enum-known-t
-enum-known-t c = search needs
-
 plain-accepted-requires : tie.Need-plain-accepted-requires
 plain-accepted-requires c κs =
     let at-arm = c .before .before .before .before in
     let at-read = at-arm .before .before in
     let at-entry = at-read .before .before .before .before .before in
     read-accepted (at-entry .args .job .now) _ (sym (at-arm .t .given .1) ∙ at-read .read-job .ensures)
-
-enum-known-n : tie.Need-enum-known-n
-enum-known-n c = search needs
-
-plain-refused-requires : tie.Need-plain-refused-requires
-plain-refused-requires c κs = search needs
-
-same-length : tie.Need-same-length
-same-length c = search needs
-
-same-length-2 : tie.Need-same-length-2
-same-length-2 c = search needs
-
-same-length-3 : tie.Need-same-length-3
-same-length-3 c = search needs
 
 returns : tie.Need-returns
 returns c =
@@ -59,13 +38,13 @@ pub plain-run-spec : {M : Type 1} → statement M
 plain-run-spec =
     tie.close
     (tie.spec
-    read-job-requires
-    enum-known-t
+    (λ c κs. search needs)
+    (λ c. search needs)
     plain-accepted-requires
-    enum-known-n
-    plain-refused-requires
-    same-length
-    same-length-2
-    same-length-3
+    (λ c. search needs)
+    (λ c κs. search needs)
+    (λ c. search needs)
+    (λ c. search needs)
+    (λ c. search needs)
     returns
     returns-2)

@@ -4,9 +4,6 @@ use borrow.Author.Needs.{needs}
 use Rattle.checker.proofs.report.Statement.{statement}
 use Rattle.checker.proofs.report.Tie as tie
 
-verdict-of-requires : tie.Need-verdict-of-requires
-verdict-of-requires c κs = search needs
-
 returns : tie.Need-returns
 returns c =
     let at-start = c .before .before .before .before in
@@ -14,4 +11,4 @@ returns c =
     λ i. record { outcome = runs.Ran (r .counts) (c .verdict-of .ensures i); full = r .full; plain = r .plain }
 
 pub report-spec : {M : Type 1} → statement M
-report-spec = tie.close (tie.spec verdict-of-requires returns)
+report-spec = tie.close (tie.spec (λ c κs. search needs) returns)

@@ -12,12 +12,6 @@ locations-requires c κs =
     let at-start = c .before .before .before .before in
     let l = accepted-limits (at-start .pre) .cells in omega arith
 
-areas-fit-requires : tie.Need-areas-fit-requires
-areas-fit-requires c κs = search needs
-
-run-refused-requires : tie.Need-run-refused-requires
-run-refused-requires c κs = search needs
-
 returns : tie.Need-returns
 returns c =
     let at-if1 = c .before in
@@ -25,7 +19,8 @@ returns c =
     let at-locations = at-areas-fit .before .before .before in
     let at-start = at-locations .before .before .before .before .before in
     let a = at-start .args in
-    exact-short (at-start .pre) (a .trace .now) (a .end .now) (a .work .now) (rw (at-locations .locations .ensures) at (at-areas-fit .areas-fit .ensures)) (not-true _ (at-if1 .if1 .taken)) (c .run-refused .ensures)
+    exact-short (at-start .pre) (a .trace .now) (a .end .now) (a .work .now)
+    (rw (at-locations .locations .ensures) at (at-areas-fit .areas-fit .ensures)) (not-true _ (at-if1 .if1 .taken)) (c .run-refused .ensures)
 
 run-in-areas-requires : tie.Need-run-in-areas-requires
 run-in-areas-requires c κs =
@@ -34,30 +29,14 @@ run-in-areas-requires c κs =
     let at-locations = at-areas-fit .before .before .before in
     let at-start = at-locations .before .before .before .before .before in
     let a = at-start .args in
-    areas-fit (at-start .pre) (a .trace .now) (a .end .now) (a .work .now) (rw (at-locations .locations .ensures) at (at-areas-fit .areas-fit .ensures)) (not-false _ (at-if1 .if1 .left))
+    areas-fit (at-start .pre) (a .trace .now) (a .end .now) (a .work .now)
+    (rw (at-locations .locations .ensures) at (at-areas-fit .areas-fit .ensures)) (not-false _ (at-if1 .if1 .left))
 
 public-list-requires : tie.Need-public-list-requires
 public-list-requires c κs =
-    let at-start = c .before .before .before .before .before .before .before .before .before .before .before .before .before .before .before .before .before .before .before in
+    let back-1 = c .before .before .before .before .before .before .before .before .before .before .before .before in
+    let at-start = back-1 .before .before .before .before .before .before .before in
     let f = accepted-length (at-start .pre) in omega arith
-
-report-requires : tie.Need-report-requires
-report-requires c κs = search needs
-
-same-length : tie.Need-same-length
-same-length c = search needs
-
-same-length-2 : tie.Need-same-length-2
-same-length-2 c = search needs
-
-same-length-3 : tie.Need-same-length-3
-same-length-3 c = search needs
-
-same-length-4 : tie.Need-same-length-4
-same-length-4 c = search needs
-
-same-length-5 : tie.Need-same-length-5
-same-length-5 c = search needs
 
 returns-2 : tie.Need-returns-2
 returns-2 c =
@@ -68,22 +47,24 @@ returns-2 c =
     let at-locations = at-areas-fit .before .before .before in
     let at-start = at-locations .before .before .before .before .before in
     let a = at-start .args in
-    exact-ran (at-start .pre) (a .trace .now) (a .end .now) (a .work .now) (rw (at-locations .locations .ensures) at (at-areas-fit .areas-fit .ensures)) (not-false _ (at-if1 .if1 .left)) (at-run-in-areas .run-in-areas .ensures) (at-public-list .public-list .ensures) (c .report .ensures)
+    exact-ran (at-start .pre) (a .trace .now) (a .end .now) (a .work .now)
+    (rw (at-locations .locations .ensures) at (at-areas-fit .areas-fit .ensures)) (not-false _ (at-if1 .if1 .left))
+    (at-run-in-areas .run-in-areas .ensures) (at-public-list .public-list .ensures) (c .report .ensures)
 
 pub run-accepted-spec : {M : Type 1} → statement M
 run-accepted-spec =
     tie.close
     (tie.spec
     locations-requires
-    areas-fit-requires
-    run-refused-requires
-    same-length
-    same-length-2
+    (λ c κs. search needs)
+    (λ c κs. search needs)
+    (λ c. search needs)
+    (λ c. search needs)
     returns
     run-in-areas-requires
     public-list-requires
-    report-requires
-    same-length-3
-    same-length-4
-    same-length-5
+    (λ c κs. search needs)
+    (λ c. search needs)
+    (λ c. search needs)
+    (λ c. search needs)
     returns-2)

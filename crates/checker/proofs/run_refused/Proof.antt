@@ -8,12 +8,6 @@ use borrow.Author.Needs.{needs}
 use Rattle.checker.proofs.run_refused.Statement.{statement}
 use Rattle.checker.proofs.run_refused.Tie as tie
 
-empty-requires : tie.Need-empty-requires
-empty-requires c κs = search needs
-
-empty-requires-2 : tie.Need-empty-requires-2
-empty-requires-2 c κs = search needs
-
 returns : tie.Need-returns
 unfolding runRefused
 returns c =
@@ -21,4 +15,4 @@ returns c =
     (c .before .empty .ensures) (c .empty2 .ensures)
 
 pub run-refused-spec : {M : Type 1} → statement M
-run-refused-spec = tie.close (tie.spec empty-requires empty-requires-2 returns)
+run-refused-spec = tie.close (tie.spec (λ c κs. search needs) (λ c κs. search needs) returns)

@@ -15,9 +15,6 @@ add-expression-at c = let s = c .before .before in let a = s .args in let h = co
 expression-at-requires : tie.Need-expression-at-requires
 expression-at-requires c κs = let s = c .before .before in let a = s .args in conditional-parts (a .p .now) (a .at) (s .pre) .condition
 
-expression-end-requires : tie.Need-expression-end-requires
-expression-end-requires c κs = search needs
-
 expression-at-requires-2 : tie.Need-expression-at-requires-2
 expression-at-requires-2 c κs =
     let s = c .before .before .before .before in
@@ -39,6 +36,6 @@ conditional-at-spec =
     shared-slice-read-r
     add-expression-at
     expression-at-requires
-    expression-end-requires
+    (λ c κs. search needs)
     expression-at-requires-2
     returns)

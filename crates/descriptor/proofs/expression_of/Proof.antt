@@ -19,8 +19,10 @@ expression-at-requires c κs = rw (c .count-at .ensures) (c .before .before .pre
 
 returns : tie.Need-returns
 returns c =
-    let a = c .before .before .before .args in
-    c .expression-at .ensures ∙ ap (λ (k : ℕ). expr (a .p .now) k) (c .before .count-at .ensures)
+    let at-count-at = c .before in
+    let at-start = at-count-at .before .before in
+    let a = at-start .args in
+    c .expression-at .ensures ∙ ap (λ (k : ℕ). expr (a .p .now) k) (at-count-at .count-at .ensures)
 
 pub expression-of-spec : {M : Type 1} → statement M
 expression-of-spec = tie.close (tie.spec count-at-requires expression-at-requires returns)

@@ -7,17 +7,11 @@ use borrow.Author.Needs.{needs}
 use Rattle.descriptor.proofs.instruction_of.Statement.{statement}
 use Rattle.descriptor.proofs.instruction_of.Tie as tie
 
-bare-requires : tie.Need-bare-requires
-bare-requires c κs = search needs
-
 returns : tie.Need-returns
 returns c =
     let at-if1 = c .before in
     let start = at-if1 .before .before in
     c .bare .ensures (start .args .p .now) ∙ sym (nothing-shaped (start .pre) (at-if1 .if1 .taken) .0)
-
-new-requires : tie.Need-new-requires
-new-requires c κs = search needs
 
 returns-2 : tie.Need-returns-2
 returns-2 c =
@@ -40,4 +34,4 @@ returns-3 c =
 pub instruction-of-spec : {M : Type 1} → statement M
 instruction-of-spec =
     tie.close
-    (tie.spec bare-requires returns new-requires returns-2 instruction-at-requires returns-3)
+    (tie.spec (λ c κs. search needs) returns (λ c κs. search needs) returns-2 instruction-at-requires returns-3)

@@ -6,17 +6,11 @@ use borrow.Author.Needs.{needs}
 use Rattle.descriptor.proofs.operator_of.Statement.{statement}
 use Rattle.descriptor.proofs.operator_of.Tie as tie
 
-operator-place-requires : tie.Need-operator-place-requires
-operator-place-requires c κs = search needs
-
-add-result : tie.Need-add-result
-add-result c = search needs
-
-shared-slice-read-result : tie.Need-shared-slice-read-result
-shared-slice-read-result c = search needs
-
 sub-result : tie.Need-sub-result
-sub-result c = rw (c .before .before .operator-place .ensures .0) (c .before .before .before .before .pre .1)
+sub-result c =
+    let at-operator-place = c .before .before in
+    let at-start = at-operator-place .before .before in
+    rw (at-operator-place .operator-place .ensures .0) (at-start .pre .1)
 
 returns : tie.Need-returns
 returns c =
@@ -27,4 +21,4 @@ returns c =
 pub operator-of-spec : {M : Type 1} → statement M
 operator-of-spec =
     tie.close
-    (tie.spec operator-place-requires add-result shared-slice-read-result sub-result returns)
+    (tie.spec (λ c κs. search needs) (λ c. search needs) (λ c. search needs) sub-result returns)

@@ -6,39 +6,6 @@ use borrow.Author.Needs.{needs}
 use Rattle.descriptor.proofs.shape_at.Statement.{statement}
 use Rattle.descriptor.proofs.shape_at.Tie as tie
 
-byte-at-requires : tie.Need-byte-at-requires
-byte-at-requires c κs = search needs
-
-add-shape-of-expression : tie.Need-add-shape-of-expression
-add-shape-of-expression c = search needs
-
-shape-of-expression-requires : tie.Need-shape-of-expression-requires
-shape-of-expression-requires c κs = search needs
-
-add-shape-of-expression-2 : tie.Need-add-shape-of-expression-2
-add-shape-of-expression-2 c = search needs
-
-shape-of-expression-requires-2 : tie.Need-shape-of-expression-requires-2
-shape-of-expression-requires-2 c κs = search needs
-
-add-shape-of-expression-3 : tie.Need-add-shape-of-expression-3
-add-shape-of-expression-3 c = search needs
-
-shape-of-expression-requires-3 : tie.Need-shape-of-expression-requires-3
-shape-of-expression-requires-3 c κs = search needs
-
-add-shape-of-jump : tie.Need-add-shape-of-jump
-add-shape-of-jump c = search needs
-
-shape-of-jump-requires : tie.Need-shape-of-jump-requires
-shape-of-jump-requires c κs = search needs
-
-add-shape-of-expression-4 : tie.Need-add-shape-of-expression-4
-add-shape-of-expression-4 c = search needs
-
-shape-of-expression-requires-4 : tie.Need-shape-of-expression-requires-4
-shape-of-expression-requires-4 c κs = search needs
-
 returns : tie.Need-returns
 unfolding kindShapes shapeAt
 returns c = rw (← c .before .before .byte-at .ensures, c .before .match .keys1) (c .shape-of-expression .ensures)
@@ -74,17 +41,17 @@ pub shape-at-spec : {M : Type 1} → statement M
 shape-at-spec =
     tie.close
     (tie.spec
-    byte-at-requires
-    add-shape-of-expression
-    shape-of-expression-requires
-    add-shape-of-expression-2
-    shape-of-expression-requires-2
-    add-shape-of-expression-3
-    shape-of-expression-requires-3
-    add-shape-of-jump
-    shape-of-jump-requires
-    add-shape-of-expression-4
-    shape-of-expression-requires-4
+    (λ c κs. search needs)
+    (λ c. search needs)
+    (λ c κs. search needs)
+    (λ c. search needs)
+    (λ c κs. search needs)
+    (λ c. search needs)
+    (λ c κs. search needs)
+    (λ c. search needs)
+    (λ c κs. search needs)
+    (λ c. search needs)
+    (λ c κs. search needs)
     returns
     returns-2
     returns-3

@@ -4,17 +4,8 @@ use borrow.Author.Needs.{needs}
 use Rattle.descriptor.proofs.shape_of_jump.Statement.{statement}
 use Rattle.descriptor.proofs.shape_of_jump.Tie as tie
 
-byte-at-requires : tie.Need-byte-at-requires
-byte-at-requires c κs = search needs
-
 returns : tie.Need-returns
 returns c = rw (← c .before .byte-at .ensures, ne-eqb _ 1 (c .if1 .taken))
-
-add-byte-at : tie.Need-add-byte-at
-add-byte-at c = search needs
-
-byte-at-requires-2 : tie.Need-byte-at-requires-2
-byte-at-requires-2 c κs = search needs
 
 returns-2 : tie.Need-returns-2
 returns-2 c =
@@ -27,7 +18,8 @@ returns-3 c =
     let at-if2 = c .before in
     let at-token = at-if2 .before in
     let at-if1 = at-token .before in
-    rw (← at-if1 .before .byte-at .ensures, at-if1 .if1 .left, ← at-token .byte-at2 .ensures, le-ltb _ 16 (at-if2 .if2 .left), ne-eqb _ 16 (c .if3 .taken))
+    rw (← at-if1 .before .byte-at .ensures, at-if1 .if1 .left, ← at-token .byte-at2 .ensures, le-ltb _ 16 (at-if2 .if2 .left), ne-eqb _ 16
+    (c .if3 .taken))
 
 returns-4 : tie.Need-returns-4
 returns-4 c =
@@ -39,10 +31,10 @@ pub shape-of-jump-spec : {M : Type 1} → statement M
 shape-of-jump-spec =
     tie.close
     (tie.spec
-    byte-at-requires
+    (λ c κs. search needs)
     returns
-    add-byte-at
-    byte-at-requires-2
+    (λ c. search needs)
+    (λ c κs. search needs)
     returns-2
     returns-3
     returns-4)

@@ -4,23 +4,8 @@ use borrow.Author.Needs.{needs}
 use Rattle.descriptor.proofs.shape_of_three.Statement.{statement}
 use Rattle.descriptor.proofs.shape_of_three.Tie as tie
 
-byte-at-requires : tie.Need-byte-at-requires
-byte-at-requires c κs = search needs
-
 returns : tie.Need-returns
 returns c = rw (← c .before .byte-at .ensures, lt-ltb 15 _ (c .if1 .taken))
-
-add-byte-at : tie.Need-add-byte-at
-add-byte-at c = search needs
-
-byte-at-requires-2 : tie.Need-byte-at-requires-2
-byte-at-requires-2 c κs = search needs
-
-add-byte-at-2 : tie.Need-add-byte-at-2
-add-byte-at-2 c = search needs
-
-byte-at-requires-3 : tie.Need-byte-at-requires-3
-byte-at-requires-3 c κs = search needs
 
 returns-2 : tie.Need-returns-2
 returns-2 c =
@@ -65,12 +50,6 @@ returns-4 c =
       ne-eqb _ 16 (c .if4 .taken),
     )
 
-add-byte-at-3 : tie.Need-add-byte-at-3
-add-byte-at-3 c = search needs
-
-byte-at-requires-4 : tie.Need-byte-at-requires-4
-byte-at-requires-4 c κs = search needs
-
 returns-5 : tie.Need-returns-5
 returns-5 c =
     let at-operator = c .before in
@@ -105,16 +84,16 @@ pub shape-of-three-spec : {M : Type 1} → statement M
 shape-of-three-spec =
     tie.close
     (tie.spec
-    byte-at-requires
+    (λ c κs. search needs)
     returns
-    add-byte-at
-    byte-at-requires-2
-    add-byte-at-2
-    byte-at-requires-3
+    (λ c. search needs)
+    (λ c κs. search needs)
+    (λ c. search needs)
+    (λ c κs. search needs)
     returns-2
     returns-3
     returns-4
-    add-byte-at-3
-    byte-at-requires-4
+    (λ c. search needs)
+    (λ c κs. search needs)
     returns-5
     returns-6)

@@ -18,10 +18,8 @@ add-expression-at c =
     search needs
 
 expression-at-requires : tie.Need-expression-at-requires
-expression-at-requires c κs = let s = c .before .before in let a = s .args in with-parts (withRegisterOf (a .kind)) (a .p .now) (a .at) (s .pre) .expression
-
-with-register-requires : tie.Need-with-register-requires
-with-register-requires c κs = search needs
+expression-at-requires c κs = let s = c .before .before in let a = s .args in with-parts (withRegisterOf (a .kind)) (a .p .now) (a .at)
+    (s .pre) .expression
 
 returns : tie.Need-returns
 unfolding tokensOf
@@ -38,5 +36,5 @@ with-register-at-spec =
     shared-slice-read-r
     add-expression-at
     expression-at-requires
-    with-register-requires
+    (λ c κs. search needs)
     returns)

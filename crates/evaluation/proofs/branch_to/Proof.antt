@@ -5,9 +5,6 @@ use borrow.Author.Needs.{needs}
 use Rattle.evaluation.proofs.branch_to.Statement.{statement}
 use Rattle.evaluation.proofs.branch_to.Tie as tie
 
-index-requires : tie.Need-index-requires
-index-requires c κs = search needs
-
 returns : tie.Need-returns
 unfolding branchTo
 returns c = rw (eq-eqb _ _ (c .before .if1 .taken)) (c .index .ensures)
@@ -17,4 +14,4 @@ unfolding branchTo
 returns-2 c = rw (ne-eqb _ _ (c .if1 .left))
 
 pub branch-to-spec : {M : Type 1} → statement M
-branch-to-spec = tie.close (tie.spec index-requires returns returns-2)
+branch-to-spec = tie.close (tie.spec (λ c κs. search needs) returns returns-2)

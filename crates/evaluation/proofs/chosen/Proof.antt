@@ -4,26 +4,15 @@ use borrow.Author.Needs.{needs}
 use Rattle.evaluation.proofs.chosen.Statement.{statement}
 use Rattle.evaluation.proofs.chosen.Tie as tie
 
-register-requires : tie.Need-register-requires
-register-requires c κs = search needs
-
-load-requires : tie.Need-load-requires
-load-requires c κs = search needs
-
-joined-requires : tie.Need-joined-requires
-joined-requires c κs = search needs
-
 returns : tie.Need-returns
 returns c =
-    let a = c .before .before .before .before .before .before .before .before .args in
-    chosen-old (a .work .now) (a .r) (a .c) _ (c .before .before .before .if1 .taken) (c .before .before .register .ensures) (c .before .load .ensures)
+    let at-load = c .before in
+    let at-register = at-load .before in
+    let at-if1 = at-register .before in
+    let at-start = at-if1 .before .before .before .before .before in
+    let a = at-start .args in
+    chosen-old (a .work .now) (a .r) (a .c) _ (at-if1 .if1 .taken) (at-register .register .ensures) (at-load .load .ensures)
     (c .joined .ensures)
-
-evaluate-requires : tie.Need-evaluate-requires
-evaluate-requires c κs = search needs
-
-joined-requires-2 : tie.Need-joined-requires-2
-joined-requires-2 c κs = search needs
 
 returns-2 : tie.Need-returns-2
 returns-2 c =
@@ -33,10 +22,10 @@ pub chosen-spec : {M : Type 1} → statement M
 chosen-spec =
     tie.close
     (tie.spec
-    register-requires
-    load-requires
-    joined-requires
+    (λ c κs. search needs)
+    (λ c κs. search needs)
+    (λ c κs. search needs)
     returns
-    evaluate-requires
-    joined-requires-2
+    (λ c κs. search needs)
+    (λ c κs. search needs)
     returns-2)

@@ -8,14 +8,8 @@ use borrow.Author.Needs.{needs}
 use Rattle.evaluation.proofs.constant_value.Statement.{statement}
 use Rattle.evaluation.proofs.constant_value.Tie as tie
 
-constant-of-requires : tie.Need-constant-of-requires
-constant-of-requires c κs = search needs
-
-empty-requires : tie.Need-empty-requires
-empty-requires c κs = search needs
-
 returns : tie.Need-returns
 returns c = ap₂ {C = Tagged} (λ (n : ℕ) (s : LocationSet). tagged n s) (c .before .constant-of .ensures) (c .empty .ensures)
 
 pub constant-value-spec : {M : Type 1} → statement M
-constant-value-spec = tie.close (tie.spec constant-of-requires empty-requires returns)
+constant-value-spec = tie.close (tie.spec (λ c κs. search needs) (λ c κs. search needs) returns)

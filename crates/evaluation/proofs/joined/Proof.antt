@@ -4,11 +4,8 @@ use borrow.Author.Needs.{needs}
 use Rattle.evaluation.proofs.joined.Statement.{statement}
 use Rattle.evaluation.proofs.joined.Tie as tie
 
-union-requires : tie.Need-union-requires
-union-requires c κs = search needs
-
 returns : tie.Need-returns
 returns c = let a = c .before .before .args in λ t. tagged (a .t .value) (c .union .ensures t)
 
 pub joined-spec : {M : Type 1} → statement M
-joined-spec = tie.close (tie.spec union-requires returns)
+joined-spec = tie.close (tie.spec (λ c κs. search needs) returns)

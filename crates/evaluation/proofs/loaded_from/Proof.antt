@@ -4,18 +4,6 @@ use borrow.Author.Needs.{needs}
 use Rattle.evaluation.proofs.loaded_from.Statement.{statement}
 use Rattle.evaluation.proofs.loaded_from.Tie as tie
 
-new-requires : tie.Need-new-requires
-new-requires c κs = search needs
-
-cell-requires : tie.Need-cell-requires
-cell-requires c κs = search needs
-
-load-requires : tie.Need-load-requires
-load-requires c κs = search needs
-
-joined-requires : tie.Need-joined-requires
-joined-requires c κs = search needs
-
 returns : tie.Need-returns
 returns c code e =
     let b = c .before .before .before in
@@ -30,4 +18,4 @@ returns-2 c code e =
 
 pub loaded-from-spec : {M : Type 1} → statement M
 loaded-from-spec =
-    tie.close (tie.spec new-requires cell-requires load-requires joined-requires returns returns-2)
+    tie.close (tie.spec (λ c κs. search needs) (λ c κs. search needs) (λ c κs. search needs) (λ c κs. search needs) returns returns-2)

@@ -10,12 +10,6 @@ use borrow.Author.Needs.{needs}
 use Rattle.evaluation.proofs.source_value.Statement.{statement}
 use Rattle.evaluation.proofs.source_value.Tie as tie
 
-empty-requires : tie.Need-empty-requires
-empty-requires c κs = search needs
-
-register-requires : tie.Need-register-requires
-register-requires c κs = search needs
-
 load-requires : tie.Need-load-requires
 load-requires c κs =
     let at-match = c .before in
@@ -36,9 +30,6 @@ with-register-requires c κs = let start = c .before .before .before in (c .matc
 
 constant-value-requires-2 : tie.Need-constant-value-requires-2
 constant-value-requires-2 c κs = let start = c .before .before .before in jump-constant-shaped (start .pre .0) (c .match .keys6) .room
-
-register-requires-2 : tie.Need-register-requires-2
-register-requires-2 c κs = search needs
 
 load-requires-2 : tie.Need-load-requires-2
 load-requires-2 c κs =
@@ -74,12 +65,6 @@ returns-3 c =
     let start = at-match .before .before .before in
     value-constant _ (constant-shaped (start .pre .0) (at-match .match .keys3) .tokens) (c .constant-value .ensures)
 
-returns-4 : tie.Need-returns-4
-returns-4 c = search needs
-
-returns-5 : tie.Need-returns-5
-returns-5 c = search needs
-
 returns-6 : tie.Need-returns-6
 returns-6 c =
     let at-match = c .before in
@@ -92,28 +77,25 @@ returns-7 c =
     let start = at-match .before .before .before in
     value-register _ (tested-shaped (start .pre .0) (at-match .match .keys7) .tokens) (c .before .register2 .ensures) (c .load2 .ensures)
 
-returns-8 : tie.Need-returns-8
-returns-8 c = search needs
-
 pub source-value-spec : {M : Type 1} → statement M
 source-value-spec =
     tie.close
     (tie.spec
-    empty-requires
-    register-requires
+    (λ c κs. search needs)
+    (λ c κs. search needs)
     load-requires
     constant-value-requires
     with-constant-requires
     with-register-requires
     constant-value-requires-2
-    register-requires-2
+    (λ c κs. search needs)
     load-requires-2
     general-value-requires
     returns
     returns-2
     returns-3
-    returns-4
-    returns-5
+    (λ c. search needs)
+    (λ c. search needs)
     returns-6
     returns-7
-    returns-8)
+    (λ c. search needs))

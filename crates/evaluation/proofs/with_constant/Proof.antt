@@ -7,9 +7,6 @@ use borrow.Author.Needs.{needs}
 use Rattle.evaluation.proofs.with_constant.Statement.{statement}
 use Rattle.evaluation.proofs.with_constant.Tie as tie
 
-register-requires : tie.Need-register-requires
-register-requires c κs = search needs
-
 load-requires : tie.Need-load-requires
 load-requires c κs =
     let start = c .before .before .before in
@@ -27,9 +24,6 @@ operator-of-requires c κs =
     let h = register-constant-shaped (start .pre .1) (start .pre .0) .operated in
     (h .room, h .known)
 
-combine-requires : tie.Need-combine-requires
-combine-requires c κs = search needs
-
 returns : tie.Need-returns
 returns c =
     let at-operator = c .before in
@@ -43,9 +37,9 @@ pub with-constant-spec : {M : Type 1} → statement M
 with-constant-spec =
     tie.close
     (tie.spec
-    register-requires
+    (λ c κs. search needs)
     load-requires
     constant-value-requires
     operator-of-requires
-    combine-requires
+    (λ c κs. search needs)
     returns)

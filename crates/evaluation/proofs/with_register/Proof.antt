@@ -6,9 +6,6 @@ use borrow.Author.Needs.{needs}
 use Rattle.evaluation.proofs.with_register.Statement.{statement}
 use Rattle.evaluation.proofs.with_register.Tie as tie
 
-register-requires : tie.Need-register-requires
-register-requires c κs = search needs
-
 load-requires : tie.Need-load-requires
 load-requires c κs =
     let start = c .before .before .before in
@@ -19,9 +16,6 @@ load-requires c κs =
 
 second-of-requires : tie.Need-second-of-requires
 second-of-requires c κs = let start = c .before .before .before .before in register-register-shaped (start .pre .1) (start .pre .0) .room
-
-register-requires-2 : tie.Need-register-requires-2
-register-requires-2 c κs = search needs
 
 load-requires-2 : tie.Need-load-requires-2
 load-requires-2 c κs =
@@ -38,9 +32,6 @@ operator-of-requires c κs =
     let h = register-register-shaped (start .pre .1) (start .pre .0) .operated in
     (h .room, h .known)
 
-combine-requires : tie.Need-combine-requires
-combine-requires c κs = search needs
-
 returns : tie.Need-returns
 returns c =
     let at-operator = c .before in
@@ -56,11 +47,11 @@ pub with-register-spec : {M : Type 1} → statement M
 with-register-spec =
     tie.close
     (tie.spec
-    register-requires
+    (λ c κs. search needs)
     load-requires
     second-of-requires
-    register-requires-2
+    (λ c κs. search needs)
     load-requires-2
     operator-of-requires
-    combine-requires
+    (λ c κs. search needs)
     returns)

@@ -19,9 +19,6 @@ Inv-loop p t mode work₀ trace₀ c₀ work trace c =
 abbrev μ-loop : tie.MeasureT-loop
 μ-loop p t mode work₀ trace₀ c₀ work trace c = t .budget - c .steps
 
-start-requires : tie.Need-start-requires Inv-loop μ-loop
-start-requires c κs = search needs
-
 loop-holds : tie.Need-loop-holds Inv-loop μ-loop
 loop-holds c =
     let at-start = c .before .before .before .before in
@@ -34,9 +31,6 @@ halt-of-requires : tie.Need-halt-of-requires Inv-loop μ-loop
 halt-of-requires c κs =
     let at-loop = c .before .before in
     at-loop .loop .inv .2
-
-enum-told : tie.Need-enum-told Inv-loop μ-loop
-enum-told c = search needs
 
 free-until-requires : tie.Need-free-until-requires Inv-loop μ-loop
 free-until-requires c κs =
@@ -68,19 +62,10 @@ loop-again c =
     let at-loop = at-make-steps .before .before .before .before .before .before .before .before .before .before in
     (search needs, search needs, at-make-steps .make-steps .ensures .ready, at-make-steps .make-steps .ensures .kept _ _ _ (at-loop .loop .inv .3))
 
-enum-known-stop : tie.Need-enum-known-stop Inv-loop μ-loop
-enum-known-stop c = search needs
-
 report-requires : tie.Need-report-requires Inv-loop μ-loop
 report-requires c κs =
     let at-loop = c .before .before .before .before .before .before in
     at-loop .loop .inv .2 .steady .fits .opened
-
-same-length : tie.Need-same-length Inv-loop μ-loop
-same-length c = search needs
-
-same-length-2 : tie.Need-same-length-2 Inv-loop μ-loop
-same-length-2 c = search needs
 
 returns : tie.Need-returns Inv-loop μ-loop
 returns c =
@@ -96,16 +81,16 @@ run-spec =
     (tie.spec
     Inv-loop
     μ-loop
-    start-requires
+    (λ c κs. search needs)
     loop-holds
     halt-of-requires
-    enum-told
+    (λ c. search needs)
     free-until-requires
     make-steps-requires
     loop-less
     loop-again
-    enum-known-stop
+    (λ c. search needs)
     report-requires
-    same-length
-    same-length-2
+    (λ c. search needs)
+    (λ c. search needs)
     returns)

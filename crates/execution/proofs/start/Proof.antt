@@ -7,12 +7,6 @@ use borrow.Author.Needs.{needs}
 use Rattle.execution.proofs.start.Statement.{statement}
 use Rattle.execution.proofs.start.Tie as tie
 
-empty-requires : tie.Need-empty-requires
-empty-requires c κs = search needs
-
-empty-requires-2 : tie.Need-empty-requires-2
-empty-requires-2 c κs = search needs
-
 returns : tie.Need-returns
 unfolding beginning
 returns c =
@@ -28,4 +22,4 @@ returns c =
     (at-empty .empty .ensures) (c .empty2 .ensures)
 
 pub start-spec : {M : Type 1} → statement M
-start-spec = tie.close (tie.spec empty-requires empty-requires-2 returns)
+start-spec = tie.close (tie.spec (λ c κs. search needs) (λ c κs. search needs) returns)

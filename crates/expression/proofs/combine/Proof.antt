@@ -8,14 +8,8 @@ use borrow.Author.Needs.{needs}
 use Rattle.expression.proofs.combine.Statement.{statement}
 use Rattle.expression.proofs.combine.Tie as tie
 
-operate-two-requires : tie.Need-operate-two-requires
-operate-two-requires c κs = search needs
-
-union-requires : tie.Need-union-requires
-union-requires c κs = search needs
-
 returns : tie.Need-returns
 returns c = ap₂ {C = Tagged} (λ (n : ℕ) (s : LocationSet). tagged n s) (c .before .operate-two .ensures) (c .union .ensures)
 
 pub combine-spec : {M : Type 1} → statement M
-combine-spec = tie.close (tie.spec operate-two-requires union-requires returns)
+combine-spec = tie.close (tie.spec (λ c κs. search needs) (λ c κs. search needs) returns)

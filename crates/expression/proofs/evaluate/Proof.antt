@@ -16,7 +16,8 @@ use Rattle.expression.proofs.evaluate.Tie as tie
 
 abbrev Inv-loop : tie.InvT-loop
 Inv-loop p work deps₀ stack₀ held₀ offset₀ count i₀ deps stack held offset i =
-    (i ≤ count) × Left (taggedAt work) p (eval (taggedAt work) (tokensOf p (record { at = offset₀; count = count }))) (count - i) offset held stack deps
+    (i ≤ count) × Left (taggedAt work) p (eval (taggedAt work) (tokensOf p (record { at = offset₀; count = count })))
+    (count - i) offset held stack deps
 
 abbrev μ-loop : tie.MeasureT-loop
 μ-loop p work deps₀ stack₀ held₀ offset₀ count i₀ deps stack held offset i = count - i
@@ -32,8 +33,10 @@ loop-holds c =
 
 token-at-requires : tie.Need-token-at-requires Inv-loop μ-loop
 token-at-requires c κs =
-    let a = c .before .before .before .before .before .args in
-    let v = c .before .loop in
+    let at-loop = c .before in
+    let at-start = at-loop .before .before .before .before in
+    let a = at-start .args in
+    let v = at-loop .loop in
     let e : a .e .count - v .i ≡ suc (a .e .count - (v .i + 1)) = omega arith in
     left-readable _ (a .p .now) _ _ (v .offset) (v .held) (v .stack) (v .deps) (rw e at (v .inv .1))
 
@@ -42,7 +45,8 @@ turned : (c : tie.After-token-at Inv-loop μ-loop)
     → (let a = c .before .before .before .before .before .before .args in
     let v = c .before .before .loop in
     let f = taggedAt (a .work .now) in
-    Turn f (a .p .now) (eval f (tokensOf (a .p .now) (a .e))) (a .e .count - (v .i + 1)) (c .token-at .result .next) (v .held) (v .stack) (v .deps) (tokenMeaning (c .token-at .result .token)))
+    Turn f (a .p .now) (eval f (tokensOf (a .p .now) (a .e))) (a .e .count - (v .i + 1)) (c .token-at .result .next) (v .held) (v .stack) (v .deps)
+    (tokenMeaning (c .token-at .result .token)))
 turned c =
     let a = c .before .before .before .before .before .before .args in
     let v = c .before .before .loop in
@@ -83,7 +87,8 @@ gather-requires : tie.Need-gather-requires Inv-loop μ-loop
 gather-requires c κs = (turned (c .before .before) .below, c .before .before .before .before .before .before .before .before .pre .1)
 
 add-held : tie.Need-add-held Inv-loop μ-loop
-add-held c = let u = turned (c .before .before .before) in let en = u .enough in let ro = u .room in let e = c .before .before .taken .ensures in omega arith
+add-held c = let u = turned
+    (c .before .before .before) in let en = u .enough in let ro = u .room in let e = c .before .before .taken .ensures in omega arith
 
 add-i : tie.Need-add-i Inv-loop μ-loop
 add-i c = omega arith
@@ -95,15 +100,18 @@ loop-again : tie.Need-loop-again Inv-loop μ-loop
 loop-again c =
     let k = c .before .before in
     let e = k .taken .ensures in
-    (omega arith, rw e (turned (k .before) .again (c .before .token-value .result) (c .gather .result) (rw e at (c .before .token-value .ensures)) (c .gather .ensures)))
+    (omega arith, rw e
+    (turned (k .before) .again (c .before .token-value .result) (c .gather .result) (rw e at (c .before .token-value .ensures)) (c .gather .ensures)))
 
 array-read-t27 : tie.Need-array-read-t27 Inv-loop μ-loop
 array-read-t27 c = lit< tt
 
 returns : tie.Need-returns Inv-loop μ-loop
 returns c =
-    let v = c .before .loop in
-    let a = c .before .before .before .before .before .args in
+    let at-loop = c .before in
+    let at-start = at-loop .before .before .before .before in
+    let v = at-loop .loop in
+    let a = at-start .args in
     let e : a .e .count - v .i ≡ 0 = omega arith in
     finish _ (a .p .now) _ (v .offset) (v .held) (v .stack) (v .deps) (rw e at (v .inv .1))
 

@@ -5,36 +5,6 @@ use Rattle.expression.proofs.Laws.{binary-default}
 use Rattle.expression.proofs.operate_two.Statement.{statement}
 use Rattle.expression.proofs.operate_two.Tie as tie
 
-sub-requires : tie.Need-sub-requires
-sub-requires c κs = search needs
-
-mul-requires : tie.Need-mul-requires
-mul-requires c κs = search needs
-
-and-requires : tie.Need-and-requires
-and-requires c κs = search needs
-
-or-requires : tie.Need-or-requires
-or-requires c κs = search needs
-
-xor-requires : tie.Need-xor-requires
-xor-requires c κs = search needs
-
-shl-requires : tie.Need-shl-requires
-shl-requires c κs = search needs
-
-shr-requires : tie.Need-shr-requires
-shr-requires c κs = search needs
-
-eq-requires : tie.Need-eq-requires
-eq-requires c κs = search needs
-
-ult-requires : tie.Need-ult-requires
-ult-requires c κs = search needs
-
-add-requires : tie.Need-add-requires
-add-requires c κs = search needs
-
 returns : tie.Need-returns
 unfolding binary
 returns c = rw (c .before .match .keys1) (c .sub .ensures)
@@ -74,22 +44,23 @@ returns-9 c = rw (c .before .match .keys9) (c .ult .ensures)
 returns-10 : tie.Need-returns-10
 returns-10 c =
     let m = c .before .match .rest in
-    rw (binary-default _ (m .0 .0 .0 .0 .0 .0 .0 .0 .1) (m .0 .0 .0 .0 .0 .0 .0 .1) (m .0 .0 .0 .0 .0 .0 .1) (m .0 .0 .0 .0 .0 .1) (m .0 .0 .0 .0 .1) (m .0 .0 .0 .1) (m .0 .0 .1) (m .0 .1) (m .1)) (c .add .ensures)
+    rw (binary-default _ (m .0 .0 .0 .0 .0 .0 .0 .0 .1) (m .0 .0 .0 .0 .0 .0 .0 .1) (m .0 .0 .0 .0 .0 .0 .1) (m .0 .0 .0 .0 .0 .1) (m .0 .0 .0 .0 .1)
+    (m .0 .0 .0 .1) (m .0 .0 .1) (m .0 .1) (m .1)) (c .add .ensures)
 
 pub operate-two-spec : {M : Type 1} → statement M
 operate-two-spec =
     tie.close
     (tie.spec
-    sub-requires
-    mul-requires
-    and-requires
-    or-requires
-    xor-requires
-    shl-requires
-    shr-requires
-    eq-requires
-    ult-requires
-    add-requires
+    (λ c κs. search needs)
+    (λ c κs. search needs)
+    (λ c κs. search needs)
+    (λ c κs. search needs)
+    (λ c κs. search needs)
+    (λ c κs. search needs)
+    (λ c κs. search needs)
+    (λ c κs. search needs)
+    (λ c κs. search needs)
+    (λ c κs. search needs)
     returns
     returns-2
     returns-3

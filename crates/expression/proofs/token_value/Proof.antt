@@ -7,40 +7,21 @@ use borrow.Author.Needs.{needs}
 use Rattle.expression.proofs.token_value.Statement.{statement}
 use Rattle.expression.proofs.token_value.Tie as tie
 
-enum-known-t : tie.Need-enum-known-t
-enum-known-t c = search needs
-
-register-requires : tie.Need-register-requires
-register-requires c κs = search needs
-
 load-requires : tie.Need-load-requires
 load-requires c κs =
-    let h = (rw (c .before .before .t .given .1) at (c .before .before .before .before .before .pre .0)) in
+    let at-t = c .before .before in
+    let at-start = at-t .before .before .before in
+    let h = (rw (at-t .t .given .1) at (at-start .pre .0)) in
     let e = c .register .ensures in
     omega arith
 
-enum-known-t-2 : tie.Need-enum-known-t-2
-enum-known-t-2 c = search needs
-
-enum-known-t-3 : tie.Need-enum-known-t-3
-enum-known-t-3 c = search needs
-
-operate-one-requires : tie.Need-operate-one-requires
-operate-one-requires c κs = search needs
-
-enum-known-t-4 : tie.Need-enum-known-t-4
-enum-known-t-4 c = search needs
-
-operate-two-requires : tie.Need-operate-two-requires
-operate-two-requires c κs = search needs
-
 returns : tie.Need-returns
 returns c =
-    rw (c .before .before .before .t .given .1)
-    (ap (λ (v : Tagged). v .value) (c .load .ensures ∙ ap (taggedAt (c .before .before .before .before .before .before .args .work .now)) (c .before .register .ensures)))
-
-returns-2 : tie.Need-returns-2
-returns-2 c = search needs
+    let at-register = c .before in
+    let at-t = at-register .before .before in
+    let at-start = at-t .before .before .before in
+    rw (at-t .t .given .1)
+    (ap (λ (v : Tagged). v .value) (c .load .ensures ∙ ap (taggedAt (at-start .args .work .now)) (at-register .register .ensures)))
 
 returns-3 : tie.Need-returns-3
 returns-3 c = rw (c .before .before .t3 .given .1) (c .operate-one .ensures)
@@ -52,15 +33,15 @@ pub token-value-spec : {M : Type 1} → statement M
 token-value-spec =
     tie.close
     (tie.spec
-    enum-known-t
-    register-requires
+    (λ c. search needs)
+    (λ c κs. search needs)
     load-requires
-    enum-known-t-2
-    enum-known-t-3
-    operate-one-requires
-    enum-known-t-4
-    operate-two-requires
+    (λ c. search needs)
+    (λ c. search needs)
+    (λ c κs. search needs)
+    (λ c. search needs)
+    (λ c κs. search needs)
     returns
-    returns-2
+    (λ c. search needs)
     returns-3
     returns-4)

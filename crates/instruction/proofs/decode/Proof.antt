@@ -12,56 +12,37 @@ returns : tie.Need-returns
 unfolding instr
 returns c = let a = c .before .before .args in (simp (byte-past (a .p .now) (a .at) (c .if1 .taken)), tt)
 
-shared-slice-read-k : tie.Need-shared-slice-read-k
-shared-slice-read-k c = search needs
-
-add-next : tie.Need-add-next
-add-next c = search needs
-
-read-with-register-requires : tie.Need-read-with-register-requires
-read-with-register-requires c κs = search needs
-
-read-with-register-requires-2 : tie.Need-read-with-register-requires-2
-read-with-register-requires-2 c κs = search needs
-
-read-with-register-requires-3 : tie.Need-read-with-register-requires-3
-read-with-register-requires-3 c κs = search needs
-
-read-jump-requires : tie.Need-read-jump-requires
-read-jump-requires c κs = search needs
-
-read-branch-requires : tie.Need-read-branch-requires
-read-branch-requires c κs = search needs
-
-read-conditional-requires : tie.Need-read-conditional-requires
-read-conditional-requires c κs = search needs
-
 returns-2 : tie.Need-returns-2
 unfolding fields
 returns-2 c =
-    let a = c .before .before .before .before .args in
-    (sym (instr-kind (a .p .now) (a .at) 0 (c .before .before .if1 .left) (c .match .keys1)), refl)
+    let at-if1 = c .before .before in
+    let at-start = at-if1 .before .before in
+    let a = at-start .args in
+    (sym (instr-kind (a .p .now) (a .at) 0 (at-if1 .if1 .left) (c .match .keys1)), refl)
 
 returns-3 : tie.Need-returns-3
 unfolding fields
 returns-3 c =
     let b = c .before in
     let a = b .before .before .before .before .args in
-    (c .read-with-register .ensures .0 ∙ sym (instr-kind (a .p .now) (a .at) 1 (b .before .before .if1 .left) (b .match .keys2)), c .read-with-register .ensures .1)
+    (c .read-with-register .ensures .0 ∙ sym
+    (instr-kind (a .p .now) (a .at) 1 (b .before .before .if1 .left) (b .match .keys2)), c .read-with-register .ensures .1)
 
 returns-4 : tie.Need-returns-4
 unfolding fields
 returns-4 c =
     let b = c .before in
     let a = b .before .before .before .before .args in
-    (c .read-with-register2 .ensures .0 ∙ sym (instr-kind (a .p .now) (a .at) 2 (b .before .before .if1 .left) (b .match .keys3)), c .read-with-register2 .ensures .1)
+    (c .read-with-register2 .ensures .0 ∙ sym
+    (instr-kind (a .p .now) (a .at) 2 (b .before .before .if1 .left) (b .match .keys3)), c .read-with-register2 .ensures .1)
 
 returns-5 : tie.Need-returns-5
 unfolding fields
 returns-5 c =
     let b = c .before in
     let a = b .before .before .before .before .args in
-    (c .read-with-register3 .ensures .0 ∙ sym (instr-kind (a .p .now) (a .at) 3 (b .before .before .if1 .left) (b .match .keys4)), c .read-with-register3 .ensures .1)
+    (c .read-with-register3 .ensures .0 ∙ sym
+    (instr-kind (a .p .now) (a .at) 3 (b .before .before .if1 .left) (b .match .keys4)), c .read-with-register3 .ensures .1)
 
 returns-6 : tie.Need-returns-6
 unfolding fields
@@ -82,20 +63,26 @@ unfolding fields
 returns-8 c =
     let b = c .before in
     let a = b .before .before .before .before .args in
-    (c .read-conditional .ensures .0 ∙ sym (instr-kind (a .p .now) (a .at) 6 (b .before .before .if1 .left) (b .match .keys7)), c .read-conditional .ensures .1)
+    (c .read-conditional .ensures .0 ∙ sym
+    (instr-kind (a .p .now) (a .at) 6 (b .before .before .if1 .left) (b .match .keys7)), c .read-conditional .ensures .1)
 
 returns-9 : tie.Need-returns-9
 unfolding fields
 returns-9 c =
-    let a = c .before .before .before .before .args in
-    (sym (instr-kind (a .p .now) (a .at) 7 (c .before .before .if1 .left) (c .match .keys8)), refl)
+    let at-if1 = c .before .before in
+    let at-start = at-if1 .before .before in
+    let a = at-start .args in
+    (sym (instr-kind (a .p .now) (a .at) 7 (at-if1 .if1 .left) (c .match .keys8)), refl)
 
 returns-10 : tie.Need-returns-10
 returns-10 c =
-    let a = c .before .before .before .before .args in
+    let at-if1 = c .before .before in
+    let at-start = at-if1 .before .before in
+    let a = at-start .args in
     let m = c .match .rest in (
-      sym (instr-unknown (a .p .now) (a .at) (c .before .before .if1 .left)
-          (beyond _ (m .0 .0 .0 .0 .0 .0 .0 .1) (m .0 .0 .0 .0 .0 .0 .1) (m .0 .0 .0 .0 .0 .1) (m .0 .0 .0 .0 .1) (m .0 .0 .0 .1) (m .0 .0 .1) (m .0 .1) (m .1))),
+      sym (instr-unknown (a .p .now) (a .at) (at-if1 .if1 .left)
+          (beyond _ (m .0 .0 .0 .0 .0 .0 .0 .1) (m .0 .0 .0 .0 .0 .0 .1) (m .0 .0 .0 .0 .0 .1) (m .0 .0 .0 .0 .1) (m .0 .0 .0 .1) (m .0 .0 .1)
+          (m .0 .1) (m .1))),
       tt,
     )
 
@@ -104,14 +91,14 @@ decode-spec =
     tie.close
     (tie.spec
     returns
-    shared-slice-read-k
-    add-next
-    read-with-register-requires
-    read-with-register-requires-2
-    read-with-register-requires-3
-    read-jump-requires
-    read-branch-requires
-    read-conditional-requires
+    (λ c. search needs)
+    (λ c. search needs)
+    (λ c κs. search needs)
+    (λ c κs. search needs)
+    (λ c κs. search needs)
+    (λ c κs. search needs)
+    (λ c κs. search needs)
+    (λ c κs. search needs)
     returns-2
     returns-3
     returns-4

@@ -5,12 +5,9 @@ use borrow.Author.Needs.{needs}
 use Rattle.instruction.proofs.lowered.Statement.{statement}
 use Rattle.instruction.proofs.lowered.Tie as tie
 
-lowered-by-requires : tie.Need-lowered-by-requires
-lowered-by-requires c κs = search needs
-
 returns : tie.Need-returns
 unfolding windowCosts
 returns c = λ p code h. c .lowered-by .ensures p code h
 
 pub lowered-spec : {M : Type 1} → statement M
-lowered-spec = tie.close (tie.spec lowered-by-requires returns)
+lowered-spec = tie.close (tie.spec (λ c κs. search needs) returns)

@@ -6,20 +6,8 @@ use borrow.Author.Needs.{needs}
 use Rattle.instruction.proofs.lowered_by.Statement.{statement}
 use Rattle.instruction.proofs.lowered_by.Tie as tie
 
-kind-requires : tie.Need-kind-requires
-kind-requires c κs = search needs
-
 returns : tie.Need-returns
 returns c = λ p code h. remaining-barrier code _ _ _ (c .before .kind .ensures .1 p) (c .if1 .taken)
-
-mul-cost : tie.Need-mul-cost
-mul-cost c = search needs
-
-array-read-cost : tie.Need-array-read-cost
-array-read-cost c = search needs
-
-sub-result : tie.Need-sub-result
-sub-result c = search needs
 
 returns-2 : tie.Need-returns-2
 returns-2 c =
@@ -36,4 +24,4 @@ returns-3 c =
 pub lowered-by-spec : {M : Type 1} → statement M
 lowered-by-spec =
     tie.close
-    (tie.spec kind-requires returns mul-cost array-read-cost sub-result returns-2 returns-3)
+    (tie.spec (λ c κs. search needs) returns (λ c. search needs) (λ c. search needs) (λ c. search needs) returns-2 returns-3)

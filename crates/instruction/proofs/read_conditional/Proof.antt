@@ -6,33 +6,6 @@ use borrow.Author.Needs.{needs}
 use Rattle.instruction.proofs.read_conditional.Statement.{statement}
 use Rattle.instruction.proofs.read_conditional.Tie as tie
 
-read-register-requires : tie.Need-read-register-requires
-read-register-requires c κs = search needs
-
-enum-known-r : tie.Need-enum-known-r
-enum-known-r c = search needs
-
-read-expression-requires : tie.Need-read-expression-requires
-read-expression-requires c κs = search needs
-
-enum-known-c : tie.Need-enum-known-c
-enum-known-c c = search needs
-
-read-expression-requires-2 : tie.Need-read-expression-requires-2
-read-expression-requires-2 c κs = search needs
-
-enum-known-e : tie.Need-enum-known-e
-enum-known-e c = search needs
-
-enum-known-n : tie.Need-enum-known-n
-enum-known-n c = search needs
-
-enum-known-n-2 : tie.Need-enum-known-n-2
-enum-known-n-2 c = search needs
-
-enum-known-n-3 : tie.Need-enum-known-n-3
-enum-known-n-3 c = search needs
-
 returns : tie.Need-returns
 unfolding conditional
 returns c =
@@ -64,21 +37,24 @@ returns-3 c =
 
 returns-4 : tie.Need-returns-4
 unfolding conditional
-returns-4 c = (rw (← (c .before .before .before .read-register .ensures), c .before .n3 .given .1), tt)
+returns-4 c =
+    let at-n3 = c .before in
+    let at-read-register = at-n3 .before .before in
+    (rw (← (at-read-register .read-register .ensures), at-n3 .n3 .given .1), tt)
 
 pub read-conditional-spec : {M : Type 1} → statement M
 read-conditional-spec =
     tie.close
     (tie.spec
-    read-register-requires
-    enum-known-r
-    read-expression-requires
-    enum-known-c
-    read-expression-requires-2
-    enum-known-e
-    enum-known-n
-    enum-known-n-2
-    enum-known-n-3
+    (λ c κs. search needs)
+    (λ c. search needs)
+    (λ c κs. search needs)
+    (λ c. search needs)
+    (λ c κs. search needs)
+    (λ c. search needs)
+    (λ c. search needs)
+    (λ c. search needs)
+    (λ c. search needs)
     returns
     returns-2
     returns-3

@@ -4,25 +4,21 @@ use borrow.Author.Needs.{needs}
 use Rattle.instruction.proofs.read_jump.Statement.{statement}
 use Rattle.instruction.proofs.read_jump.Tie as tie
 
-read-expression-requires : tie.Need-read-expression-requires
-read-expression-requires c κs = search needs
-
-enum-known-e : tie.Need-enum-known-e
-enum-known-e c = search needs
-
-enum-known-n : tie.Need-enum-known-n
-enum-known-n c = search needs
-
 returns : tie.Need-returns
 unfolding jump
 returns c =
-    let x = c .before .before .before .read-expression .ensures in
-    (rw (← (x .0), c .before .e .given .1), rw (c .before .e .given .1) at (x .1))
+    let at-e = c .before in
+    let at-read-expression = at-e .before .before in
+    let x = at-read-expression .read-expression .ensures in
+    (rw (← (x .0), at-e .e .given .1), rw (at-e .e .given .1) at (x .1))
 
 returns-2 : tie.Need-returns-2
 unfolding jump
-returns-2 c = (rw (← (c .before .before .before .read-expression .ensures .0), c .before .n .given .1), tt)
+returns-2 c =
+    let at-n = c .before in
+    let at-read-expression = at-n .before .before in
+    (rw (← (at-read-expression .read-expression .ensures .0), at-n .n .given .1), tt)
 
 pub read-jump-spec : {M : Type 1} → statement M
 read-jump-spec =
-    tie.close (tie.spec read-expression-requires enum-known-e enum-known-n returns returns-2)
+    tie.close (tie.spec (λ c κs. search needs) (λ c. search needs) (λ c. search needs) returns returns-2)

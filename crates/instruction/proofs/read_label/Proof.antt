@@ -12,28 +12,20 @@ returns : tie.Need-returns
 unfolding wordOf
 returns c = let a = c .before .before .args in simp (lt-leb (a .at + 2) (length (a .p .now)) (omega arith))
 
-sub-if2 : tie.Need-sub-if2
-sub-if2 c = search needs
-
 returns-2 : tie.Need-returns-2
 unfolding wordOf
-returns-2 c = let a = c .before .before .before .args in simp (lt-leb (a .at + 2) (length (a .p .now)) (omega arith))
-
-number-requires : tie.Need-number-requires
-number-requires c κs = search needs
-
-new-requires : tie.Need-new-requires
-new-requires c κs = search needs
-
-add-next : tie.Need-add-next
-add-next c = search needs
+returns-2 c =
+    let at-start = c .before .before .before in
+    let a = at-start .args in simp (lt-leb (a .at + 2) (length (a .p .now)) (omega arith))
 
 returns-3 : tie.Need-returns-3
 unfolding wordOf
 returns-3 c =
-    let a = c .before .before .before .before .before .args in
-    simp (le-leb (a .at + 2) (length (a .p .now)) (omega arith), c .new .ensures, c .before .number .ensures .0)
+    let at-number = c .before in
+    let at-start = at-number .before .before .before .before in
+    let a = at-start .args in
+    simp (le-leb (a .at + 2) (length (a .p .now)) (omega arith), c .new .ensures, at-number .number .ensures .0)
 
 pub read-label-spec : {M : Type 1} → statement M
 read-label-spec =
-    tie.close (tie.spec returns sub-if2 returns-2 number-requires new-requires add-next returns-3)
+    tie.close (tie.spec returns (λ c. search needs) returns-2 (λ c κs. search needs) (λ c κs. search needs) (λ c. search needs) returns-3)

@@ -10,19 +10,19 @@ returns : tie.Need-returns
 unfolding register
 returns c = let a = c .before .args in simp (byte-past (a .p .now) (a .at) (c .if1 .taken))
 
-shared-slice-read-r : tie.Need-shared-slice-read-r
-shared-slice-read-r c = search needs
-
-add-next : tie.Need-add-next
-add-next c = search needs
-
 returns-2 : tie.Need-returns-2
 unfolding register
-returns-2 c = let a = c .before .before .before .args in simp (byte-got (a .p .now) (a .at) (c .before .before .if1 .left), lt-ltb _ _ (c .if2 .taken))
+returns-2 c =
+    let at-if1 = c .before .before in
+    let at-start = at-if1 .before in
+    let a = at-start .args in simp (byte-got (a .p .now) (a .at) (at-if1 .if1 .left), lt-ltb _ _ (c .if2 .taken))
 
 returns-3 : tie.Need-returns-3
 unfolding register
-returns-3 c = let a = c .before .before .before .args in simp (byte-got (a .p .now) (a .at) (c .before .before .if1 .left), le-ltb _ _ (c .if2 .left))
+returns-3 c =
+    let at-if1 = c .before .before in
+    let at-start = at-if1 .before in
+    let a = at-start .args in simp (byte-got (a .p .now) (a .at) (at-if1 .if1 .left), le-ltb _ _ (c .if2 .left))
 
 pub read-register-spec : {M : Type 1} → statement M
-read-register-spec = tie.close (tie.spec returns shared-slice-read-r add-next returns-2 returns-3)
+read-register-spec = tie.close (tie.spec returns (λ c. search needs) (λ c. search needs) returns-2 returns-3)

@@ -6,30 +6,6 @@ use borrow.Author.Needs.{needs}
 use Rattle.job.proofs.check_parts.Statement.{statement}
 use Rattle.job.proofs.check_parts.Tie as tie
 
-sub-check-program : tie.Need-sub-check-program
-sub-check-program c = search needs
-
-part-check-program-start : tie.Need-part-check-program-start
-part-check-program-start c = search needs
-
-part-check-program-end : tie.Need-part-check-program-end
-part-check-program-end c = search needs
-
-check-program-requires : tie.Need-check-program-requires
-check-program-requires c κs = search needs
-
-enum-told : tie.Need-enum-told
-enum-told c = search needs
-
-public-list-requires : tie.Need-public-list-requires
-public-list-requires c κs = search needs
-
-no-cell-from-requires : tie.Need-no-cell-from-requires
-no-cell-from-requires c κs = search needs
-
-enum-known-r : tie.Need-enum-known-r
-enum-known-r c = search needs
-
 returns : tie.Need-returns
 unfolding listed
 returns c =
@@ -61,14 +37,14 @@ pub check-parts-spec : {M : Type 1} → statement M
 check-parts-spec =
     tie.close
     (tie.spec
-    sub-check-program
-    part-check-program-start
-    part-check-program-end
-    check-program-requires
-    enum-told
-    public-list-requires
-    no-cell-from-requires
-    enum-known-r
+    (λ c. search needs)
+    (λ c. search needs)
+    (λ c. search needs)
+    (λ c κs. search needs)
+    (λ c. search needs)
+    (λ c κs. search needs)
+    (λ c κs. search needs)
+    (λ c. search needs)
     returns
     returns-2
     returns-3)

@@ -15,14 +15,8 @@ Inv-loop set first l₀ l = (l ≤ limit) × (noneOn set l ≡ noneOn set (regis
 abbrev μ-loop : tie.MeasureT-loop
 μ-loop set first l₀ l = limit - l
 
-add-l : tie.Need-add-l Inv-loop μ-loop
-add-l c = search needs
-
 loop-holds : tie.Need-loop-holds Inv-loop μ-loop
 loop-holds c = (search needs, refl)
-
-rest-of-word-requires : tie.Need-rest-of-word-requires Inv-loop μ-loop
-rest-of-word-requires c κs = search needs
 
 sub-l : tie.Need-sub-l Inv-loop μ-loop
 sub-l c = omega arith
@@ -66,9 +60,9 @@ no-cell-from-spec =
     (tie.spec
     Inv-loop
     μ-loop
-    add-l
+    (λ c. search needs)
     loop-holds
-    rest-of-word-requires
+    (λ c κs. search needs)
     sub-l
     add-l-2
     loop-less

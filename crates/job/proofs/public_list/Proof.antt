@@ -7,27 +7,6 @@ use borrow.Author.Needs.{needs}
 use Rattle.job.proofs.public_list.Statement.{statement}
 use Rattle.job.proofs.public_list.Tie as tie
 
-number-requires : tie.Need-number-requires
-number-requires c κs = search needs
-
-add-number : tie.Need-add-number
-add-number c = search needs
-
-number-requires-2 : tie.Need-number-requires-2
-number-requires-2 c κs = search needs
-
-add-number-2 : tie.Need-add-number-2
-add-number-2 c = search needs
-
-number-requires-3 : tie.Need-number-requires-3
-number-requires-3 c κs = search needs
-
-add-number-3 : tie.Need-add-number-3
-add-number-3 c = search needs
-
-number-requires-4 : tie.Need-number-requires-4
-number-requires-4 c κs = search needs
-
 returns : tie.Need-returns
 unfolding publicOf wordsAt
 returns c =
@@ -41,11 +20,11 @@ pub public-list-spec : {M : Type 1} → statement M
 public-list-spec =
     tie.close
     (tie.spec
-    number-requires
-    add-number
-    number-requires-2
-    add-number-2
-    number-requires-3
-    add-number-3
-    number-requires-4
+    (λ c κs. search needs)
+    (λ c. search needs)
+    (λ c κs. search needs)
+    (λ c. search needs)
+    (λ c κs. search needs)
+    (λ c. search needs)
+    (λ c κs. search needs)
     returns)

@@ -19,14 +19,10 @@ returns c = let a = c .before .before .args in rw (lt-leb trailerSize (length (a
 returns-2 : tie.Need-returns-2
 unfolding parse sized
 returns-2 c =
-    let a = c .before .before .before .args in
-    rw (le-leb trailerSize (length (a .job .now)) (c .before .if1 .left), lt-leb (length (a .job .now)) maxBytes (c .if2 .taken))
-
-trailer-at-requires : tie.Need-trailer-at-requires
-trailer-at-requires c κs = search needs
-
-limits-hold-requires : tie.Need-limits-hold-requires
-limits-hold-requires c κs = search needs
+    let at-if1 = c .before in
+    let at-start = at-if1 .before .before in
+    let a = at-start .args in
+    rw (le-leb trailerSize (length (a .job .now)) (at-if1 .if1 .left), lt-leb (length (a .job .now)) maxBytes (c .if2 .taken))
 
 offsets-hold-requires : tie.Need-offsets-hold-requires
 offsets-hold-requires c κs = limits-hold _ (sym (c .before .limits-hold .ensures) ∙ c .if3 .taken) .cells
@@ -81,8 +77,8 @@ read-job-spec =
     (tie.spec
     returns
     returns-2
-    trailer-at-requires
-    limits-hold-requires
+    (λ c κs. search needs)
+    (λ c κs. search needs)
     offsets-hold-requires
     check-parts-requires
     returns-3

@@ -6,9 +6,6 @@ use borrow.Author.Needs.{needs}
 use Rattle.job_run.proofs.run_state.Statement.{statement}
 use Rattle.job_run.proofs.run_state.Tie as tie
 
-locations-requires : tie.Need-locations-requires
-locations-requires c κs = search needs
-
 load-state-requires : tie.Need-load-state-requires
 load-state-requires c κs =
     let at-start = c .before .before .before .before .before .before in
@@ -17,12 +14,6 @@ load-state-requires c κs =
     let s = r .state in
     let m = r .room in
     (omega arith, omega arith)
-
-sub-p : tie.Need-sub-p
-sub-p c = search needs
-
-part-p-start : tie.Need-part-p-start
-part-p-start c = search needs
 
 part-p-end : tie.Need-part-p-end
 part-p-end c =
@@ -55,12 +46,6 @@ run-requires c κs =
     loaded (r .accepts) (same-part (a .t .state) (a .job .now)) (omega arith) (at-load-state .load-state .ensures)
     (at-write-words .write-words .ensures) m
 
-same-length : tie.Need-same-length
-same-length c = search needs
-
-same-length-2 : tie.Need-same-length-2
-same-length-2 c = search needs
-
 returns : tie.Need-returns
 returns c =
     let at-run = c .before .before .before .before in
@@ -81,13 +66,13 @@ pub run-state-spec : {M : Type 1} → statement M
 run-state-spec =
     tie.close
     (tie.spec
-    locations-requires
+    (λ c κs. search needs)
     load-state-requires
-    sub-p
-    part-p-start
+    (λ c. search needs)
+    (λ c. search needs)
     part-p-end
     write-words-requires
     run-requires
-    same-length
-    same-length-2
+    (λ c. search needs)
+    (λ c. search needs)
     returns)

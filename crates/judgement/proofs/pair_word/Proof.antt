@@ -8,11 +8,9 @@ use Rattle.judgement.proofs.pair_word.Tie as tie
 
 returns : tie.Need-returns
 returns c =
-    let a = c .before .before .before .args in
+    let at-start = c .before .before .before in
+    let a = at-start .args in
     word-not-alike (a .alike) (a .first) (a .second) (a .a .now) (a .b .now) (not-true _ (c .if1 .taken))
-
-finished-requires : tie.Need-finished-requires
-finished-requires c κs = search needs
 
 returns-2 : tie.Need-returns-2
 returns-2 c =
@@ -21,9 +19,6 @@ returns-2 c =
     let a = at-if1 .before .before .before .args in
     word-first-open (a .alike) (a .first) (a .second) (a .a .now) (a .b .now) (not-false _ (at-if1 .if1 .left))
     (sym (at-first .finished .ensures) ∙ not-true _ (c .if2 .taken))
-
-finished-requires-2 : tie.Need-finished-requires-2
-finished-requires-2 c κs = search needs
 
 returns-3 : tie.Need-returns-3
 returns-3 c =
@@ -35,9 +30,6 @@ returns-3 c =
     let first = sym (at-first .finished .ensures) ∙ not-false _ (at-if2 .if2 .left) in
     word-second-open (a .alike) (a .first) (a .second) (a .a .now) (a .b .now) (not-false _ (at-if1 .if1 .left)) first
     (sym (at-second .finished2 .ensures) ∙ not-true _ (c .if3 .taken))
-
-same-struck-requires : tie.Need-same-struck-requires
-same-struck-requires c κs = search needs
 
 returns-4 : tie.Need-returns-4
 returns-4 c =
@@ -52,9 +44,6 @@ returns-4 c =
     let second = sym (at-second .finished2 .ensures) ∙ not-false _ (at-if3 .if3 .left) in
     word-plain (a .alike) (a .first) (a .second) (a .a .now) (a .b .now) (not-false _ (at-if1 .if1 .left)) first second
     (sym (at-struck .same-struck .ensures) ∙ not-true _ (c .if4 .taken))
-
-same-requires : tie.Need-same-requires
-same-requires c κs = search needs
 
 returns-5 : tie.Need-returns-5
 returns-5 c =
@@ -95,12 +84,12 @@ pair-word-spec =
     tie.close
     (tie.spec
     returns
-    finished-requires
+    (λ c κs. search needs)
     returns-2
-    finished-requires-2
+    (λ c κs. search needs)
     returns-3
-    same-struck-requires
+    (λ c κs. search needs)
     returns-4
-    same-requires
+    (λ c κs. search needs)
     returns-5
     returns-6)

@@ -6,17 +6,11 @@ use Rattle.judgement.proofs.Laws.{judged-undecided, judged-clean, judge
 use Rattle.judgement.proofs.verdict_of.Statement.{statement}
 use Rattle.judgement.proofs.verdict_of.Tie as tie
 
-finished-requires : tie.Need-finished-requires
-finished-requires c κs = search needs
-
 returns : tie.Need-returns
 returns c =
     let at-finished = c .before in
     let a = at-finished .before .args in
     judged-undecided (a .public) (a .stop) (a .full) (a .plain) (sym (at-finished .finished .ensures) ∙ not-true _ (c .if1 .taken))
-
-subset-requires : tie.Need-subset-requires
-subset-requires c κs = search needs
 
 returns-2 : tie.Need-returns-2
 returns-2 c =
@@ -26,12 +20,6 @@ returns-2 c =
     let a = at-finished .before .args in
     let finished = sym (at-finished .finished .ensures) ∙ not-false _ (at-if1 .if1 .left) in
     judged-clean (a .public) (a .stop) (a .full) (a .plain) finished (at-subset .subset .ensures) (c .if2 .taken)
-
-union-requires : tie.Need-union-requires
-union-requires c κs = search needs
-
-subset-requires-2 : tie.Need-subset-requires-2
-subset-requires-2 c κs = search needs
 
 returns-3 : tie.Need-returns-3
 returns-3 c =
@@ -63,11 +51,11 @@ pub verdict-of-spec : {M : Type 1} → statement M
 verdict-of-spec =
     tie.close
     (tie.spec
-    finished-requires
+    (λ c κs. search needs)
     returns
-    subset-requires
+    (λ c κs. search needs)
     returns-2
-    union-requires
-    subset-requires-2
+    (λ c κs. search needs)
+    (λ c κs. search needs)
     returns-3
     returns-4)

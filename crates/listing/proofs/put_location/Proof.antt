@@ -9,9 +9,6 @@ use borrow.Author.Needs.{needs}
 use Rattle.listing.proofs.put_location.Statement.{statement}
 use Rattle.listing.proofs.put_location.Tie as tie
 
-slice-aggregate-put-text : tie.Need-slice-aggregate-put-text
-slice-aggregate-put-text c = search needs
-
 put-text-requires : tie.Need-put-text-requires
 unfolding text
 put-text-requires c κs =
@@ -24,9 +21,6 @@ put-decimal-requires c κs =
     let test = c .before .before .before .before .before .before in
     omega (arith, ap length (register-text (test .before .before .args .l) (test .if1 .taken)))
 
-same-length : tie.Need-same-length
-same-length c = search needs
-
 returns : tie.Need-returns
 unfolding text
 returns c =
@@ -34,9 +28,6 @@ returns c =
     let letter = digits .before .before .before .before in
     let test = letter .before .before .before in
     rw (register-text (test .before .before .args .l) (test .if1 .taken)) (put-append (letter .put-text .ensures) (digits .put-decimal .ensures))
-
-slice-aggregate-put-text-2 : tie.Need-slice-aggregate-put-text-2
-slice-aggregate-put-text-2 c = search needs
 
 put-text-requires-2 : tie.Need-put-text-requires-2
 unfolding text
@@ -50,9 +41,6 @@ put-decimal-requires-2 c κs =
     let test = c .before .before .before .before .before .before in
     omega (arith, ap length (cell-text (test .before .before .args .l) (test .if1 .left)))
 
-same-length-2 : tie.Need-same-length-2
-same-length-2 c = search needs
-
 returns-2 : tie.Need-returns-2
 unfolding text
 returns-2 c =
@@ -65,13 +53,13 @@ pub put-location-spec : {M : Type 1} → statement M
 put-location-spec =
     tie.close
     (tie.spec
-    slice-aggregate-put-text
+    (λ c. search needs)
     put-text-requires
     put-decimal-requires
-    same-length
+    (λ c. search needs)
     returns
-    slice-aggregate-put-text-2
+    (λ c. search needs)
     put-text-requires-2
     put-decimal-requires-2
-    same-length-2
+    (λ c. search needs)
     returns-2)

@@ -8,43 +8,46 @@ use borrow.Author.Needs.{needs}
 use Rattle.listing.proofs.put_member.Statement.{statement}
 use Rattle.listing.proofs.put_member.Tie as tie
 
-location-of-requires : tie.Need-location-of-requires
-location-of-requires c κs = search needs
-
-member-requires : tie.Need-member-requires
-member-requires c κs = search needs
-
 put-location-requires : tie.Need-put-location-requires
 put-location-requires c κs =
-    let a = c .before .before .before .before .before .args in
-    let l = c .before .before .before .location-of in
-    let m = c .before .before .member in
-    omega (arith, ap length (member-text (a .s) (a .l) (l .result .0) (m .result) (l .ensures) (m .ensures) (c .before .if1 .taken)))
-
-same-length : tie.Need-same-length
-same-length c = search needs
+    let at-if1 = c .before in
+    let at-member = at-if1 .before in
+    let at-location-of = at-member .before in
+    let at-start = at-location-of .before .before in
+    let a = at-start .args in
+    let l = at-location-of .location-of in
+    let m = at-member .member in
+    omega (arith, ap length (member-text (a .s) (a .l) (l .result .0) (m .result) (l .ensures) (m .ensures) (at-if1 .if1 .taken)))
 
 returns : tie.Need-returns
 returns c =
-    let a = c .before .before .before .before .before .before .before .before .args in
-    let l = c .before .before .before .before .before .before .location-of in
-    let m = c .before .before .before .before .before .member in
-    rw (member-text (a .s) (a .l) (l .result .0) (m .result) (l .ensures) (m .ensures) (c .before .before .before .before .if1 .taken)) (c .before .before .put-location .ensures)
+    let at-put-location = c .before .before in
+    let at-if1 = at-put-location .before .before in
+    let at-member = at-if1 .before in
+    let at-location-of = at-member .before in
+    let at-start = at-location-of .before .before in
+    let a = at-start .args in
+    let l = at-location-of .location-of in
+    let m = at-member .member in
+    rw (member-text (a .s) (a .l) (l .result .0) (m .result) (l .ensures) (m .ensures) (at-if1 .if1 .taken)) (at-put-location .put-location .ensures)
 
 returns-2 : tie.Need-returns-2
 returns-2 c =
-    let a = c .before .before .before .before .args in
-    let l = c .before .before .location-of in
-    let m = c .before .member in
+    let at-member = c .before in
+    let at-location-of = at-member .before in
+    let at-start = at-location-of .before .before in
+    let a = at-start .args in
+    let l = at-location-of .location-of in
+    let m = at-member .member in
     rw (no-member-text (a .s) (a .l) (l .result .0) (m .result) (l .ensures) (m .ensures) (c .if1 .left)) (put-nothing (a .out .now) (a .at))
 
 pub put-member-spec : {M : Type 1} → statement M
 put-member-spec =
     tie.close
     (tie.spec
-    location-of-requires
-    member-requires
+    (λ c κs. search needs)
+    (λ c κs. search needs)
     put-location-requires
-    same-length
+    (λ c. search needs)
     returns
     returns-2)

@@ -24,8 +24,10 @@ sub-put-member c = omega arith
 
 put-member-requires : tie.Need-put-member-requires Inv-loop μ-loop
 put-member-requires c κs =
-    let a = c .before .before .before .before .args in
-    let v = c .before .before .loop in
+    let at-loop = c .before .before in
+    let at-start = at-loop .before .before in
+    let a = at-start .args in
+    let v = at-loop .loop in
     let x = memberText (a .s) (limit - v .left) in
     let later = members (a .s) (limit - (v .left - 1)) (v .left - 1) in
     let split = members-next (a .s) (v .left) (omega arith) (omega arith) in
@@ -39,12 +41,15 @@ loop-less c = omega arith
 
 loop-again : tie.Need-loop-again Inv-loop μ-loop
 loop-again c =
-    let a = c .before .before .before .before .before .before .before .args in
-    let v = c .before .before .before .before .before .loop in
+    let at-put-member = c .before .before in
+    let at-loop = at-put-member .before .before .before in
+    let at-start = at-loop .before .before in
+    let a = at-start .args in
+    let v = at-loop .loop in
     let x = memberText (a .s) (limit - v .left) in
     let later = members (a .s) (limit - (v .left - 1)) (v .left - 1) in
     let split = members-next (a .s) (v .left) (omega arith) (omega arith) in
-    (omega arith, left-next x later (v .inv .1) split (c .before .before .put-member .ensures))
+    (omega arith, left-next x later (v .inv .1) split (at-put-member .put-member .ensures))
 
 same-length : tie.Need-same-length Inv-loop μ-loop
 same-length c = left-length (c .before .loop .inv .1)

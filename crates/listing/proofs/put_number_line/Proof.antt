@@ -9,32 +9,28 @@ use Rattle.listing.proofs.put_number_line.Tie as tie
 
 put-text-requires : tie.Need-put-text-requires
 put-text-requires c κs =
-    let a = c .before .before .before .args in
+    let at-start = c .before .before .before in
+    let a = at-start .args in
     omega (arith, number-line-length (a .word .now) (a .n))
-
-slice-aggregate-put-text : tie.Need-slice-aggregate-put-text
-slice-aggregate-put-text c = search needs
 
 put-text-requires-2 : tie.Need-put-text-requires-2
 put-text-requires-2 c κs =
-    let a = c .before .before .before .before .before .before .before .before .args in
+    let at-start = c .before .before .before .before .before .before .before .before in
+    let a = at-start .args in
     omega (arith, number-line-length (a .word .now) (a .n))
 
 put-decimal-requires : tie.Need-put-decimal-requires
 put-decimal-requires c κs =
-    let a = c .before .before .before .before .before .before .before .before .before .before .before .before .args in
+    let at-start = c .before .before .before .before .before .before .before .before .before .before .before .before in
+    let a = at-start .args in
     omega (arith, number-line-length (a .word .now) (a .n))
-
-slice-aggregate-put-text-2 : tie.Need-slice-aggregate-put-text-2
-slice-aggregate-put-text-2 c = search needs
 
 put-text-requires-3 : tie.Need-put-text-requires-3
 put-text-requires-3 c κs =
-    let a = c .before .before .before .before .before .before .before .before .before .before .before .before .before .before .before .before .before .args in
+    let back-1 = c .before .before .before .before .before .before .before .before .before .before .before .before in
+    let at-start = back-1 .before .before .before .before .before in
+    let a = at-start .args in
     omega (arith, number-line-length (a .word .now) (a .n))
-
-same-length : tie.Need-same-length
-same-length c = search needs
 
 returns : tie.Need-returns
 unfolding numberLine line
@@ -52,10 +48,10 @@ put-number-line-spec =
     tie.close
     (tie.spec
     put-text-requires
-    slice-aggregate-put-text
+    (λ c. search needs)
     put-text-requires-2
     put-decimal-requires
-    slice-aggregate-put-text-2
+    (λ c. search needs)
     put-text-requires-3
-    same-length
+    (λ c. search needs)
     returns)

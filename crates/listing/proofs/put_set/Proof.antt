@@ -9,24 +9,21 @@ use Rattle.listing.proofs.put_set.Tie as tie
 
 put-text-requires : tie.Need-put-text-requires
 put-text-requires c κs =
-    let a = c .before .before .before .args in
+    let at-start = c .before .before .before in
+    let a = at-start .args in
     omega (arith, set-line-length (a .word .now) (a .s))
 
 put-members-requires : tie.Need-put-members-requires
 put-members-requires c κs =
-    let a = c .before .before .before .before .before .before .before .args in
+    let at-start = c .before .before .before .before .before .before .before in
+    let a = at-start .args in
     omega (arith, set-line-length (a .word .now) (a .s))
-
-slice-aggregate-put-text : tie.Need-slice-aggregate-put-text
-slice-aggregate-put-text c = search needs
 
 put-text-requires-2 : tie.Need-put-text-requires-2
 put-text-requires-2 c κs =
-    let a = c .before .before .before .before .before .before .before .before .before .before .before .before .args in
+    let at-start = c .before .before .before .before .before .before .before .before .before .before .before .before in
+    let a = at-start .args in
     omega (arith, set-line-length (a .word .now) (a .s))
-
-same-length : tie.Need-same-length
-same-length c = search needs
 
 returns : tie.Need-returns
 unfolding setLine line
@@ -42,7 +39,7 @@ put-set-spec =
     (tie.spec
     put-text-requires
     put-members-requires
-    slice-aggregate-put-text
+    (λ c. search needs)
     put-text-requires-2
-    same-length
+    (λ c. search needs)
     returns)

@@ -15,9 +15,6 @@ put-stop-requires c κs =
     let a = start .args in
     omega (arith, summary-length (a .counts) (a .full) (a .plain) (a .verdict), start .pre)
 
-slice-aggregate-put-number-line : tie.Need-slice-aggregate-put-number-line
-slice-aggregate-put-number-line c = search needs
-
 put-number-line-requires : tie.Need-put-number-line-requires
 unfolding text
 put-number-line-requires c κs =
@@ -25,9 +22,6 @@ put-number-line-requires c κs =
     let start = at-put-stop .before .before .before in
     let a = start .args in
     omega (arith, summary-length (a .counts) (a .full) (a .plain) (a .verdict), start .pre, at-put-stop .put-stop .ensures .place)
-
-slice-aggregate-put-number-line-2 : tie.Need-slice-aggregate-put-number-line-2
-slice-aggregate-put-number-line-2 c = search needs
 
 put-number-line-requires-2 : tie.Need-put-number-line-requires-2
 unfolding text
@@ -43,9 +37,6 @@ put-number-line-requires-2 c κs =
       at-put-number-line .put-number-line .ensures .place,
       at-put-stop .put-stop .ensures .place,
     )
-
-slice-aggregate-put-set : tie.Need-slice-aggregate-put-set
-slice-aggregate-put-set c = search needs
 
 put-set-requires : tie.Need-put-set-requires
 unfolding text
@@ -63,9 +54,6 @@ put-set-requires c κs =
       at-put-number-line .put-number-line .ensures .place,
       at-put-stop .put-stop .ensures .place,
     )
-
-slice-aggregate-put-set-2 : tie.Need-slice-aggregate-put-set-2
-slice-aggregate-put-set-2 c = search needs
 
 put-set-requires-2 : tie.Need-put-set-requires-2
 unfolding text
@@ -107,9 +95,6 @@ put-verdict-requires c κs =
       at-put-stop .put-stop .ensures .place,
     )
 
-same-length : tie.Need-same-length
-same-length c = search needs
-
 returns : tie.Need-returns
 unfolding summary text
 returns c =
@@ -134,14 +119,14 @@ put-summary-spec =
     tie.close
     (tie.spec
     put-stop-requires
-    slice-aggregate-put-number-line
+    (λ c. search needs)
     put-number-line-requires
-    slice-aggregate-put-number-line-2
+    (λ c. search needs)
     put-number-line-requires-2
-    slice-aggregate-put-set
+    (λ c. search needs)
     put-set-requires
-    slice-aggregate-put-set-2
+    (λ c. search needs)
     put-set-requires-2
     put-verdict-requires
-    same-length
+    (λ c. search needs)
     returns)

@@ -22,8 +22,10 @@ shared-slice-read-put-byte c = omega arith
 
 put-byte-requires : tie.Need-put-byte-requires Inv-loop μ-loop
 put-byte-requires c κs =
-    let v = c .before .before .before .loop in
-    let a = c .before .before .before .before .before .before .args in
+    let at-loop = c .before .before .before in
+    let at-start = at-loop .before .before .before in
+    let v = at-loop .loop in
+    let a = at-start .args in
     left-room (getD (a .bytes .now) (v .i) 0 ∷ []) (drop (v .i + 1) (a .bytes .now)) (v .inv .1)
     (byte-next (a .bytes .now) (v .i) (omega arith)) (2 ^ 64) (omega arith)
 
@@ -35,11 +37,14 @@ loop-less c = omega arith
 
 loop-again : tie.Need-loop-again Inv-loop μ-loop
 loop-again c =
-    let v = c .before .before .before .before .before .before .loop in
-    let a = c .before .before .before .before .before .before .before .before .before .args in (
+    let at-put-byte = c .before .before in
+    let at-loop = at-put-byte .before .before .before .before in
+    let at-start = at-loop .before .before .before in
+    let v = at-loop .loop in
+    let a = at-start .args in (
       omega arith,
       left-next (getD (a .bytes .now) (v .i) 0 ∷ []) (drop (v .i + 1) (a .bytes .now)) (v .inv .1)
-          (byte-next (a .bytes .now) (v .i) (omega arith)) (c .before .before .put-byte .ensures),
+          (byte-next (a .bytes .now) (v .i) (omega arith)) (at-put-byte .put-byte .ensures),
     )
 
 same-length : tie.Need-same-length Inv-loop μ-loop
@@ -47,8 +52,10 @@ same-length c = left-length (c .before .loop .inv .1)
 
 returns : tie.Need-returns Inv-loop μ-loop
 returns c =
-    let v = c .before .loop in
-    let a = c .before .before .before .before .args in
+    let at-loop = c .before in
+    let at-start = at-loop .before .before .before in
+    let v = at-loop .loop in
+    let a = at-start .args in
     let past : length (a .bytes .now) ≤ v .i = omega arith in
     left-done (rw (drop-of-length-le (a .bytes .now)) at (v .inv .1))
 

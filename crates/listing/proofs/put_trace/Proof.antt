@@ -43,8 +43,10 @@ shared-slice-read-put-observation-2 c = omega (arith, ltb-true)
 
 put-observation-requires : tie.Need-put-observation-requires Inv-loop μ-loop
 put-observation-requires c κs =
-    let a = c .before .before .before .before .before .before .before .before .args in
-    let v = c .before .before .before .before .before .loop in
+    let at-loop = c .before .before .before .before .before in
+    let at-start = at-loop .before .before .before in
+    let a = at-start .args in
+    let v = at-loop .loop in
     let ws = a .trace .now in
     let x = observationLine (a .n) (observed (getD ws (v .i) 0) (getD ws (v .i + 1) 0)) in
     let later = traceLines (a .n) (observationsIn (v .left - 1) (drop (v .i + 2) ws)) in
@@ -62,21 +64,26 @@ loop-less c = omega arith
 
 loop-again : tie.Need-loop-again Inv-loop μ-loop
 loop-again c =
-    let a = c .before .before .before .before .before .before .before .before .before .before .before .args in
-    let v = c .before .before .before .before .before .before .before .before .loop in
+    let at-put-observation = c .before .before in
+    let at-loop = at-put-observation .before .before .before .before .before .before in
+    let at-start = at-loop .before .before .before in
+    let a = at-start .args in
+    let v = at-loop .loop in
     let ws = a .trace .now in
     let x = observationLine (a .n) (observed (getD ws (v .i) 0) (getD ws (v .i + 1) 0)) in
     let later = traceLines (a .n) (observationsIn (v .left - 1) (drop (v .i + 2) ws)) in
     let split = trace-next (a .n) (v .left) ws (v .i) (omega arith) (omega (arith, ltb-true)) in
-    (left-next x later (v .inv .0) split (c .before .before .put-observation .ensures), omega (arith, ltb-true))
+    (left-next x later (v .inv .0) split (at-put-observation .put-observation .ensures), omega (arith, ltb-true))
 
 same-length : tie.Need-same-length Inv-loop μ-loop
 same-length c = left-length (c .before .before .loop .inv .0)
 
 returns : tie.Need-returns Inv-loop μ-loop
 returns c =
-    let a = c .before .before .before .before .before .args in
-    let v = c .before .before .loop in
+    let at-loop = c .before .before in
+    let at-start = at-loop .before .before .before in
+    let a = at-start .args in
+    let v = at-loop .loop in
     left-done (rw (trace-over (a .n) (v .left) (a .trace .now) (v .i) (omega (arith, ltb-false))) at (v .inv .0))
 
 same-length-2 : tie.Need-same-length-2 Inv-loop μ-loop
@@ -84,8 +91,10 @@ same-length-2 c = left-length (c .before .loop .inv .0)
 
 returns-2 : tie.Need-returns-2 Inv-loop μ-loop
 returns-2 c =
-    let a = c .before .before .before .before .args in
-    let v = c .before .loop in
+    let at-loop = c .before in
+    let at-start = at-loop .before .before .before in
+    let a = at-start .args in
+    let v = at-loop .loop in
     let none : v .left ≡ 0 = omega arith in
     left-done (rw (none, trace-counted (a .n) (drop (v .i) (a .trace .now))) at (v .inv .0))
 

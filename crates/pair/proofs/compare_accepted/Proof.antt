@@ -20,14 +20,16 @@ returns : tie.Need-returns
 returns c =
     let at-locations = c .before in
     let at-start = at-locations .before .before .before .before .before .before in
-    let a = at-start .args in other-size (at-start .pre) (a .second .now) (a .first-trace .now) (a .second-trace .now) (a .work .now) (rw (at-locations .locations .ensures) at (c .if1 .taken))
+    let a = at-start .args in other-size (at-start .pre) (a .second .now) (a .first-trace .now) (a .second-trace .now) (a .work .now)
+    (rw (at-locations .locations .ensures) at (c .if1 .taken))
 
 returns-2 : tie.Need-returns-2
 returns-2 c =
     let at-if1 = c .before in
     let at-locations = at-if1 .before in
     let at-start = at-locations .before .before .before .before .before .before in
-    let a = at-start .args in short-work (at-start .pre) (a .second .now) (a .first-trace .now) (a .second-trace .now) (a .work .now) (rw (at-locations .locations .ensures) at (at-if1 .if1 .left)) (c .if2 .taken)
+    let a = at-start .args in short-work (at-start .pre) (a .second .now) (a .first-trace .now) (a .second-trace .now) (a .work .now)
+    (rw (at-locations .locations .ensures) at (at-if1 .if1 .left)) (c .if2 .taken)
 
 returns-3 : tie.Need-returns-3
 returns-3 c =
@@ -35,22 +37,8 @@ returns-3 c =
     let at-if1 = at-if2 .before in
     let at-locations = at-if1 .before in
     let at-start = at-locations .before .before .before .before .before .before in
-    let a = at-start .args in unequal-traces (at-start .pre) (a .second .now) (a .first-trace .now) (a .second-trace .now) (a .work .now) (rw (at-locations .locations .ensures) at (at-if1 .if1 .left)) (at-if2 .if2 .left) (c .if3 .taken)
-
-compare-runs-requires : tie.Need-compare-runs-requires
-compare-runs-requires c κs = search needs
-
-same-length : tie.Need-same-length
-same-length c = search needs
-
-same-length-2 : tie.Need-same-length-2
-same-length-2 c = search needs
-
-same-length-3 : tie.Need-same-length-3
-same-length-3 c = search needs
-
-returns-4 : tie.Need-returns-4
-returns-4 c = search needs
+    let a = at-start .args in unequal-traces (at-start .pre) (a .second .now) (a .first-trace .now) (a .second-trace .now) (a .work .now)
+    (rw (at-locations .locations .ensures) at (at-if1 .if1 .left)) (at-if2 .if2 .left) (c .if3 .taken)
 
 pub compare-accepted-spec : {M : Type 1} → statement M
 compare-accepted-spec =
@@ -61,8 +49,8 @@ compare-accepted-spec =
     returns
     returns-2
     returns-3
-    compare-runs-requires
-    same-length
-    same-length-2
-    same-length-3
-    returns-4)
+    (λ c κs. search needs)
+    (λ c. search needs)
+    (λ c. search needs)
+    (λ c. search needs)
+    (λ c. search needs))

@@ -46,22 +46,14 @@ compared-requires c κs =
       second-fits = second-fits k o o′;
     }
 
-same-length : tie.Need-same-length
-same-length c = search needs
-
-same-length-2 : tie.Need-same-length-2
-same-length-2 c = search needs
-
-same-length-3 : tie.Need-same-length-3
-same-length-3 c = search needs
-
 returns : tie.Need-returns
 returns c =
     let at-clear = c .before .before .before .before .before in
     let at-run-state2 = at-clear .before .before .before .before .before .before in
     let at-run-state = at-run-state2 .before .before .before .before .before .before .before in
     let at-start = at-run-state .before .before .before .before .before .before .before .before in
-    exact-compared (at-start .pre) (at-run-state .run-state .ensures) (at-run-state2 .run-state2 .ensures) (at-clear .clear .ensures) (c .compared .ensures)
+    exact-compared (at-start .pre) (at-run-state .run-state .ensures) (at-run-state2 .run-state2 .ensures) (at-clear .clear .ensures)
+    (c .compared .ensures)
 
 pub compare-runs-spec : {M : Type 1} → statement M
 compare-runs-spec =
@@ -71,7 +63,7 @@ compare-runs-spec =
     run-state-requires-2
     clear-requires
     compared-requires
-    same-length
-    same-length-2
-    same-length-3
+    (λ c. search needs)
+    (λ c. search needs)
+    (λ c. search needs)
     returns)

@@ -35,30 +35,15 @@ mul-l c =
     let at-start = c .before .before .before .before .before .before .before .before .before .before .before in
     let f = at-start .pre .second-fits in omega (arith, f, at-start .good)
 
-sub-pair-word : tie.Need-sub-pair-word
-sub-pair-word c = search needs
-
-part-pair-word-start : tie.Need-part-pair-word-start
-part-pair-word-start c = search needs
-
 part-pair-word-end : tie.Need-part-pair-word-end
 part-pair-word-end c =
     let at-start = c .before .before .before .before .before .before .before .before .before .before .before in
     let f = at-start .pre .first-fits in omega arith
 
-sub-pair-word-2 : tie.Need-sub-pair-word-2
-sub-pair-word-2 c = search needs
-
-part-pair-word-start-2 : tie.Need-part-pair-word-start-2
-part-pair-word-start-2 c = search needs
-
 part-pair-word-end-2 : tie.Need-part-pair-word-end-2
 part-pair-word-end-2 c =
     let at-start = c .before .before .before .before .before .before .before .before .before .before .before .before in
     let f = at-start .pre .second-fits in omega arith
-
-pair-word-requires : tie.Need-pair-word-requires
-pair-word-requires c κs = search needs
 
 returns : tie.Need-returns
 returns c =
@@ -79,11 +64,11 @@ compared-spec =
     alike-bytes-requires
     mul-k
     mul-l
-    sub-pair-word
-    part-pair-word-start
+    (λ c. search needs)
+    (λ c. search needs)
     part-pair-word-end
-    sub-pair-word-2
-    part-pair-word-start-2
+    (λ c. search needs)
+    (λ c. search needs)
     part-pair-word-end-2
-    pair-word-requires
+    (λ c κs. search needs)
     returns)

@@ -4,43 +4,16 @@ use borrow.Author.Needs.{needs}
 use Rattle.program.proofs.branch_label_holds.Statement.{statement}
 use Rattle.program.proofs.branch_label_holds.Tie as tie
 
-enum-told : tie.Need-enum-told
-enum-told c = search needs
-
-enum-told-2 : tie.Need-enum-told-2
-enum-told-2 c = search needs
-
-enum-told-3 : tie.Need-enum-told-3
-enum-told-3 c = search needs
-
-enum-told-4 : tie.Need-enum-told-4
-enum-told-4 c = search needs
-
-enum-told-5 : tie.Need-enum-told-5
-enum-told-5 c = search needs
-
-enum-known-i : tie.Need-enum-known-i
-enum-known-i c = search needs
-
-index-requires : tie.Need-index-requires
-index-requires c κs = search needs
-
 returns : tie.Need-returns
-returns c = λ p. rw (c .before .before .before .i .given .1, ← (c .before .index .ensures)) (simp (lt-leb _ _ (c .if1 .taken)))
-
-add-next : tie.Need-add-next
-add-next c = search needs
+returns c =
+    let at-index = c .before in
+    let at-i = at-index .before .before in
+    λ p. rw (at-i .i .given .1, ← (at-index .index .ensures)) (simp (lt-leb _ _ (c .if1 .taken)))
 
 returns-2 : tie.Need-returns-2
 returns-2 c = λ p.
     let b = c .before .before in
     rw (b .before .before .i .given .1, ← (b .index .ensures)) (simp (le-leb _ _ (c .before .if1 .left), eq-eqb _ _ (c .if2 .taken)))
-
-enum-told-6 : tie.Need-enum-told-6
-enum-told-6 c = search needs
-
-enum-told-7 : tie.Need-enum-told-7
-enum-told-7 c = search needs
 
 returns-3 : tie.Need-returns-3
 returns-3 c = λ p. rw (c .enum-told .given .1)
@@ -72,18 +45,18 @@ pub branch-label-holds-spec : {M : Type 1} → statement M
 branch-label-holds-spec =
     tie.close
     (tie.spec
-    enum-told
-    enum-told-2
-    enum-told-3
-    enum-told-4
-    enum-told-5
-    enum-known-i
-    index-requires
+    (λ c. search needs)
+    (λ c. search needs)
+    (λ c. search needs)
+    (λ c. search needs)
+    (λ c. search needs)
+    (λ c. search needs)
+    (λ c κs. search needs)
     returns
-    add-next
+    (λ c. search needs)
     returns-2
-    enum-told-6
-    enum-told-7
+    (λ c. search needs)
+    (λ c. search needs)
     returns-3
     returns-4
     returns-5

@@ -4,18 +4,6 @@ use borrow.Author.Needs.{needs}
 use Rattle.program.proofs.check_instruction.Statement.{statement}
 use Rattle.program.proofs.check_instruction.Tie as tie
 
-decode-requires : tie.Need-decode-requires
-decode-requires c κs = search needs
-
-enum-known-d : tie.Need-enum-known-d
-enum-known-d c = search needs
-
-branch-label-holds-requires : tie.Need-branch-label-holds-requires
-branch-label-holds-requires c κs = search needs
-
-enum-known-r : tie.Need-enum-known-r
-enum-known-r c = search needs
-
 returns : tie.Need-returns
 unfolding instruction
 returns c =
@@ -41,16 +29,19 @@ returns-3 c =
 
 returns-4 : tie.Need-returns-4
 unfolding instruction
-returns-4 c = rw (← (c .before .before .before .decode .ensures .0), c .before .r .given .1)
+returns-4 c =
+    let at-r = c .before in
+    let at-decode = at-r .before .before in
+    rw (← (at-decode .decode .ensures .0), at-r .r .given .1)
 
 pub check-instruction-spec : {M : Type 1} → statement M
 check-instruction-spec =
     tie.close
     (tie.spec
-    decode-requires
-    enum-known-d
-    branch-label-holds-requires
-    enum-known-r
+    (λ c κs. search needs)
+    (λ c. search needs)
+    (λ c κs. search needs)
+    (λ c. search needs)
     returns
     returns-2
     returns-3

@@ -21,12 +21,6 @@ abbrev μ-loop : tie.MeasureT-loop
 loop-holds : tie.Need-loop-holds Inv-loop μ-loop
 loop-holds c = (zero-le, rw sub-zero)
 
-check-instruction-requires : tie.Need-check-instruction-requires Inv-loop μ-loop
-check-instruction-requires c κs = search needs
-
-enum-known-next : tie.Need-enum-known-next Inv-loop μ-loop
-enum-known-next c = search needs
-
 add-i : tie.Need-add-i Inv-loop μ-loop
 add-i c = omega arith
 
@@ -35,36 +29,45 @@ loop-less c = omega arith
 
 loop-again : tie.Need-loop-again Inv-loop μ-loop
 loop-again c =
-    let a = c .before .before .before .before .before .before .before .args in
-    let v = c .before .before .before .before .before .loop in
+    let at-next = c .before in
+    let at-check-instruction = at-next .before .before in
+    let at-loop = at-check-instruction .before .before in
+    let at-start = at-loop .before .before in
+    let a = at-start .args in
+    let v = at-loop .loop in
     let e : a .n - v .i ≡ suc (a .n - (v .i + 1)) = omega arith in
-    let t = sym (c .before .next .given .1) ∙ c .before .before .before .check-instruction .ensures in
+    let t = sym (at-next .next .given .1) ∙ at-check-instruction .check-instruction .ensures in
     (omega arith, sym (program-next (a .n) (a .n - (v .i + 1)) (v .i) (a .p .now) (v .at) _ t) ∙ (rw e at (v .inv .1)))
-
-enum-known-r : tie.Need-enum-known-r Inv-loop μ-loop
-enum-known-r c = search needs
 
 returns : tie.Need-returns Inv-loop μ-loop
 returns c =
-    let a = c .before .before .before .before .before .before .before .args in
-    let v = c .before .before .before .before .before .loop in
+    let at-r = c .before in
+    let at-check-instruction = at-r .before .before in
+    let at-loop = at-check-instruction .before .before in
+    let at-start = at-loop .before .before in
+    let a = at-start .args in
+    let v = at-loop .loop in
     let e : a .n - v .i ≡ suc (a .n - (v .i + 1)) = omega arith in
-    let t = sym (c .before .r .given .1) ∙ c .before .before .before .check-instruction .ensures in
+    let t = sym (at-r .r .given .1) ∙ at-check-instruction .check-instruction .ensures in
     sym (program-refused (a .n) (a .n - (v .i + 1)) (v .i) (a .p .now) (v .at) _ t) ∙ (rw e at (v .inv .1))
 
 returns-2 : tie.Need-returns-2 Inv-loop μ-loop
 unfolding program nothingLeft
 returns-2 c =
-    let a = c .before .before .before .before .args in
-    let v = c .before .before .loop in
+    let at-loop = c .before .before in
+    let at-start = at-loop .before .before in
+    let a = at-start .args in
+    let v = at-loop .loop in
     let e : a .n - v .i ≡ 0 = omega arith in
     (simp (eq-eqb _ _ (c .if1 .taken)) at (rw e at (v .inv .1)))
 
 returns-3 : tie.Need-returns-3 Inv-loop μ-loop
 unfolding program nothingLeft
 returns-3 c =
-    let a = c .before .before .before .before .args in
-    let v = c .before .before .loop in
+    let at-loop = c .before .before in
+    let at-start = at-loop .before .before in
+    let a = at-start .args in
+    let v = at-loop .loop in
     let e : a .n - v .i ≡ 0 = omega arith in
     (simp (ne-eqb _ _ (c .if1 .left)) at (rw e at (v .inv .1)))
 
@@ -75,12 +78,12 @@ check-program-spec =
     Inv-loop
     μ-loop
     loop-holds
-    check-instruction-requires
-    enum-known-next
+    (λ c κs. search needs)
+    (λ c. search needs)
     add-i
     loop-less
     loop-again
-    enum-known-r
+    (λ c. search needs)
     returns
     returns-2
     returns-3)

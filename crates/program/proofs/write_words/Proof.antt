@@ -44,11 +44,14 @@ loop-less c = omega arith
 loop-again : tie.Need-loop-again Inv-loop μ-loop
 unfolding wordsFrom
 loop-again c =
-    let a = c .before .before .before .before .before .before .args in
-    let v = c .before .before .before .loop in
+    let at-word-at = c .before in
+    let at-loop = at-word-at .before .before in
+    let at-start = at-loop .before .before .before in
+    let a = at-start .args in
+    let v = at-loop .loop in
     let e : a .n - v .i ≡ suc (a .n - (v .i + 1)) = omega arith in
     let f : a .base + (v .i + 1) ≡ suc (a .base + v .i) = omega arith in
-    (omega arith, simp length-set (v .inv .1), rw (f, c .next-offset .ensures, c .before .word-at .ensures) (rw e at (v .inv .2)))
+    (omega arith, simp length-set (v .inv .1), rw (f, c .next-offset .ensures, at-word-at .word-at .ensures) (rw e at (v .inv .2)))
 
 same-length : tie.Need-same-length Inv-loop μ-loop
 same-length c = c .before .loop .inv .1
@@ -56,8 +59,10 @@ same-length c = c .before .loop .inv .1
 returns : tie.Need-returns Inv-loop μ-loop
 unfolding wordsFrom
 returns c =
-    let a = c .before .before .before .before .args in
-    let v = c .before .loop in
+    let at-loop = c .before in
+    let at-start = at-loop .before .before .before in
+    let a = at-start .args in
+    let v = at-loop .loop in
     let e : a .n - v .i ≡ 0 = omega arith in
     rw e at (v .inv .2)
 

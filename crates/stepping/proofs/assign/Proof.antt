@@ -8,15 +8,6 @@ use borrow.Author.Needs.{needs}
 use Rattle.stepping.proofs.assign.Statement.{statement}
 use Rattle.stepping.proofs.assign.Tie as tie
 
-remaining-window-requires : tie.Need-remaining-window-requires
-remaining-window-requires c κs = search needs
-
-register-requires : tie.Need-register-requires
-register-requires c κs = search needs
-
-add-place : tie.Need-add-place
-add-place c = search needs
-
 assign-requires : tie.Need-assign-requires
 assign-requires c κs =
     let at-register = c .before .before in
@@ -27,16 +18,10 @@ assign-requires c κs =
     let h = p .3 in
     (p .0 .fits, (at-remaining-window .remaining-window .ensures .left (p .0 .window), omega arith))
 
-empty-requires : tie.Need-empty-requires
-empty-requires c κs = search needs
-
 count-step-requires : tie.Need-count-step-requires
 count-step-requires c κs =
     let at-start = c .before .before .before .before .before .before .before .before .before .before in
     let p = at-start .pre in omega (arith, p .2, at-start .good)
-
-same-length : tie.Need-same-length
-same-length c = search needs
 
 returns : tie.Need-returns
 returns c =
@@ -57,11 +42,11 @@ pub assign-spec : {M : Type 1} → statement M
 assign-spec =
     tie.close
     (tie.spec
-    remaining-window-requires
-    register-requires
-    add-place
+    (λ c κs. search needs)
+    (λ c κs. search needs)
+    (λ c. search needs)
     assign-requires
-    empty-requires
+    (λ c κs. search needs)
     count-step-requires
-    same-length
+    (λ c. search needs)
     returns)

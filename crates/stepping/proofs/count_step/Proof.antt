@@ -4,18 +4,6 @@ use borrow.Author.Needs.{needs}
 use Rattle.stepping.proofs.count_step.Statement.{statement}
 use Rattle.stepping.proofs.count_step.Tie as tie
 
-add-t8 : tie.Need-add-t8
-add-t8 c = search needs
-
-add-t9 : tie.Need-add-t9
-add-t9 c = search needs
-
-union-requires : tie.Need-union-requires
-union-requires c κs = search needs
-
-gather-plain-requires : tie.Need-gather-plain-requires
-gather-plain-requires c κs = search needs
-
 returns : tie.Need-returns
 returns c =
     let a = c .before .before .before .before .before .before .before .args in
@@ -29,4 +17,4 @@ returns c =
 
 pub count-step-spec : {M : Type 1} → statement M
 count-step-spec =
-    tie.close (tie.spec add-t8 add-t9 union-requires gather-plain-requires returns)
+    tie.close (tie.spec (λ c. search needs) (λ c. search needs) (λ c κs. search needs) (λ c κs. search needs) returns)

@@ -5,9 +5,6 @@ use borrow.Author.Needs.{needs}
 use Rattle.stepping.proofs.gather_plain.Statement.{statement}
 use Rattle.stepping.proofs.gather_plain.Tie as tie
 
-union-requires : tie.Need-union-requires
-union-requires c κs = search needs
-
 returns : tie.Need-returns
 returns c =
     let a = c .before .before .args in
@@ -17,4 +14,4 @@ returns-2 : tie.Need-returns-2
 returns-2 c = let a = c .before .args in keeps-plain (a .depth) (a .plain) (a .seen) (c .if1 .left)
 
 pub gather-plain-spec : {M : Type 1} → statement M
-gather-plain-spec = tie.close (tie.spec union-requires returns returns-2)
+gather-plain-spec = tie.close (tie.spec (λ c κs. search needs) returns returns-2)

@@ -6,21 +6,6 @@ use borrow.Author.Needs.{needs}
 use Rattle.stepping.proofs.go_to.Statement.{statement}
 use Rattle.stepping.proofs.go_to.Tie as tie
 
-remaining-window-requires : tie.Need-remaining-window-requires
-remaining-window-requires c κs = search needs
-
-go-requires : tie.Need-go-requires
-go-requires c κs = search needs
-
-observe-requires : tie.Need-observe-requires
-observe-requires c κs = search needs
-
-count-step-requires : tie.Need-count-step-requires
-count-step-requires c κs = search needs
-
-same-length : tie.Need-same-length
-same-length c = search needs
-
 returns : tie.Need-returns
 unfolding traceWords
 returns c =
@@ -37,9 +22,9 @@ pub go-to-spec : {M : Type 1} → statement M
 go-to-spec =
     tie.close
     (tie.spec
-    remaining-window-requires
-    go-requires
-    observe-requires
-    count-step-requires
-    same-length
+    (λ c κs. search needs)
+    (λ c κs. search needs)
+    (λ c κs. search needs)
+    (λ c κs. search needs)
+    (λ c. search needs)
     returns)

@@ -11,18 +11,6 @@ use borrow.Author.Needs.{needs}
 use Rattle.stepping.proofs.load.Statement.{statement}
 use Rattle.stepping.proofs.load.Tie as tie
 
-remaining-window-requires : tie.Need-remaining-window-requires
-remaining-window-requires c κs = search needs
-
-loaded-from-requires : tie.Need-loaded-from-requires
-loaded-from-requires c κs = search needs
-
-register-requires : tie.Need-register-requires
-register-requires c κs = search needs
-
-add-place : tie.Need-add-place
-add-place c = search needs
-
 assign-requires : tie.Need-assign-requires
 assign-requires c κs =
     let at-register = c .before .before in
@@ -33,20 +21,11 @@ assign-requires c κs =
     let h = p .register in
     (p .unexpired .fits, (at-remaining-window .remaining-window .ensures .left (p .unexpired .window), omega arith))
 
-observe-requires : tie.Need-observe-requires
-observe-requires c κs = search needs
-
 count-step-requires : tie.Need-count-step-requires
 count-step-requires c κs =
     let back-1 = c .before .before .before .before .before .before .before .before .before .before .before .before in
     let at-start = back-1 .before .before .before .before .before in
     let p = at-start .pre in omega (arith, p .room, p .steps, at-start .good)
-
-same-length : tie.Need-same-length
-same-length c = search needs
-
-same-length-2 : tie.Need-same-length-2
-same-length-2 c = search needs
 
 returns : tie.Need-returns
 returns c =
@@ -71,13 +50,13 @@ pub load-spec : {M : Type 1} → statement M
 load-spec =
     tie.close
     (tie.spec
-    remaining-window-requires
-    loaded-from-requires
-    register-requires
-    add-place
+    (λ c κs. search needs)
+    (λ c κs. search needs)
+    (λ c κs. search needs)
+    (λ c. search needs)
     assign-requires
-    observe-requires
+    (λ c κs. search needs)
     count-step-requires
-    same-length
-    same-length-2
+    (λ c. search needs)
+    (λ c. search needs)
     returns)

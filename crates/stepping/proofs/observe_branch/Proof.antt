@@ -4,18 +4,6 @@ use borrow.Author.Needs.{needs}
 use Rattle.stepping.proofs.observe_branch.Statement.{statement}
 use Rattle.stepping.proofs.observe_branch.Tie as tie
 
-observe-requires : tie.Need-observe-requires
-observe-requires c κs = search needs
-
-add-observe : tie.Need-add-observe
-add-observe c = search needs
-
-observe-requires-2 : tie.Need-observe-requires-2
-observe-requires-2 c κs = search needs
-
-same-length : tie.Need-same-length
-same-length c = search needs
-
 returns : tie.Need-returns
 returns c =
     let at-observe2 = c .before .before in
@@ -27,4 +15,4 @@ returns c =
 
 pub observe-branch-spec : {M : Type 1} → statement M
 observe-branch-spec =
-    tie.close (tie.spec observe-requires add-observe observe-requires-2 same-length returns)
+    tie.close (tie.spec (λ c κs. search needs) (λ c. search needs) (λ c κs. search needs) (λ c. search needs) returns)

@@ -12,21 +12,6 @@ add-next c =
     let at-start = c .before .before .before .before in
     let h = at-start .pre .0 .place in omega arith
 
-branch-to-requires : tie.Need-branch-to-requires
-branch-to-requires c κs = search needs
-
-new-requires : tie.Need-new-requires
-new-requires c κs = search needs
-
-index-requires : tie.Need-index-requires
-index-requires c κs = search needs
-
-branch-to-requires-2 : tie.Need-branch-to-requires-2
-branch-to-requires-2 c κs = search needs
-
-remaining-window-requires : tie.Need-remaining-window-requires
-remaining-window-requires c κs = search needs
-
 open-branch-requires : tie.Need-open-branch-requires
 open-branch-requires c κs =
     let at-remaining-window = c .before in
@@ -47,12 +32,6 @@ count-step-requires c κs =
     let at-start = back-1 .before .before .before .before .before .before in
     omega (arith, at-start .pre .0 .more, at-start .pre .0 .counted .steps, at-start .good .1 .0)
 
-same-length : tie.Need-same-length
-same-length c = search needs
-
-same-length-2 : tie.Need-same-length-2
-same-length-2 c = search needs
-
 returns : tie.Need-returns
 returns c =
     let at-observe-branch = c .before .before .before .before in
@@ -72,14 +51,14 @@ open-branch-spec =
     tie.close
     (tie.spec
     add-next
-    branch-to-requires
-    new-requires
-    index-requires
-    branch-to-requires-2
-    remaining-window-requires
+    (λ c κs. search needs)
+    (λ c κs. search needs)
+    (λ c κs. search needs)
+    (λ c κs. search needs)
+    (λ c κs. search needs)
     open-branch-requires
     observe-branch-requires
     count-step-requires
-    same-length
-    same-length-2
+    (λ c. search needs)
+    (λ c. search needs)
     returns)

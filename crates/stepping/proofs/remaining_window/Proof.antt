@@ -7,11 +7,8 @@ use Rattle.stepping.proofs.remaining_window.Tie as tie
 returns : tie.Need-returns
 returns c = let a = c .before .before .args in closed-leaves (a .c) (a .i) (c .if1 .taken)
 
-lowered-requires : tie.Need-lowered-requires
-lowered-requires c κs = search needs
-
 returns-2 : tie.Need-returns-2
 returns-2 c = let a = c .before .before .before .args in open-leaves (a .c) (a .i) _ (c .before .if1 .left) (c .lowered .ensures)
 
 pub remaining-window-spec : {M : Type 1} → statement M
-remaining-window-spec = tie.close (tie.spec returns lowered-requires returns-2)
+remaining-window-spec = tie.close (tie.spec returns (λ c κs. search needs) returns-2)

@@ -4,24 +4,6 @@ use borrow.Author.Needs.{needs}
 use Rattle.stepping.proofs.roll_back.Statement.{statement}
 use Rattle.stepping.proofs.roll_back.Tie as tie
 
-roll-back-requires : tie.Need-roll-back-requires
-roll-back-requires c κs = search needs
-
-observe-branch-requires : tie.Need-observe-branch-requires
-observe-branch-requires c κs = search needs
-
-empty-requires : tie.Need-empty-requires
-empty-requires c κs = search needs
-
-count-step-requires : tie.Need-count-step-requires
-count-step-requires c κs = search needs
-
-same-length : tie.Need-same-length
-same-length c = search needs
-
-same-length-2 : tie.Need-same-length-2
-same-length-2 c = search needs
-
 returns : tie.Need-returns
 returns c =
     let at-empty = c .before in
@@ -35,10 +17,10 @@ pub roll-back-spec : {M : Type 1} → statement M
 roll-back-spec =
     tie.close
     (tie.spec
-    roll-back-requires
-    observe-branch-requires
-    empty-requires
-    count-step-requires
-    same-length
-    same-length-2
+    (λ c κs. search needs)
+    (λ c κs. search needs)
+    (λ c κs. search needs)
+    (λ c κs. search needs)
+    (λ c. search needs)
+    (λ c. search needs)
     returns)

@@ -12,9 +12,6 @@ use borrow.Author.Needs.{needs}
 use Rattle.stepping.proofs.store.Statement.{statement}
 use Rattle.stepping.proofs.store.Tie as tie
 
-remaining-window-requires : tie.Need-remaining-window-requires
-remaining-window-requires c κs = search needs
-
 store-word-requires : tie.Need-store-word-requires
 store-word-requires c κs =
     let at-remaining-window = c .before in
@@ -22,20 +19,11 @@ store-word-requires c κs =
     let p = at-start .pre in
     (p .unexpired .fits, at-remaining-window .remaining-window .ensures .left (p .unexpired .window), p .place, p .register, p .most)
 
-observe-requires : tie.Need-observe-requires
-observe-requires c κs = search needs
-
 count-step-requires : tie.Need-count-step-requires
 count-step-requires c κs =
     let back-1 = c .before .before .before .before .before .before .before .before .before .before .before .before in
     let at-start = back-1 .before in
     let p = at-start .pre in omega (arith, p .room, p .steps, at-start .good)
-
-same-length : tie.Need-same-length
-same-length c = search needs
-
-same-length-2 : tie.Need-same-length-2
-same-length-2 c = search needs
 
 returns : tie.Need-returns
 returns c =
@@ -59,10 +47,10 @@ pub store-spec : {M : Type 1} → statement M
 store-spec =
     tie.close
     (tie.spec
-    remaining-window-requires
+    (λ c κs. search needs)
     store-word-requires
-    observe-requires
+    (λ c κs. search needs)
     count-step-requires
-    same-length
-    same-length-2
+    (λ c. search needs)
+    (λ c. search needs)
     returns)

@@ -11,12 +11,6 @@ use borrow.Author.Needs.{needs}
 use Rattle.stepping.proofs.store_word.Statement.{statement}
 use Rattle.stepping.proofs.store_word.Tie as tie
 
-add-place : tie.Need-add-place
-add-place c = search needs
-
-go-requires : tie.Need-go-requires
-go-requires c κs = search needs
-
 returns : tie.Need-returns
 returns c =
     let at-if1 = c .before in
@@ -30,21 +24,6 @@ returns c =
     moves-at n (λ (σ : State). σ) (λ (σ : State). storedTo code σ (a .a) (at σ (a .r))) (p .4) m
     (store-outside w (a .cells) (a .a) code ec (at (stateIn w n) (a .r)) (at-if1 .if1 .taken))
 
-new-requires : tie.Need-new-requires
-new-requires c κs = search needs
-
-cell-requires : tie.Need-cell-requires
-cell-requires c κs = search needs
-
-register-requires : tie.Need-register-requires
-register-requires c κs = search needs
-
-load-requires : tie.Need-load-requires
-load-requires c κs = search needs
-
-joined-requires : tie.Need-joined-requires
-joined-requires c κs = search needs
-
 assign-requires : tie.Need-assign-requires
 assign-requires c κs =
     let at-cell = c .before .before .before .before .before in
@@ -57,9 +36,6 @@ assign-requires c κs =
     let h = at-if1 .if1 .left in
     let m = p .4 in
     (p .0, (p .1, omega arith))
-
-same-length : tie.Need-same-length
-same-length c = search needs
 
 returns-2 : tie.Need-returns-2
 returns-2 c =
@@ -85,14 +61,14 @@ pub store-word-spec : {M : Type 1} → statement M
 store-word-spec =
     tie.close
     (tie.spec
-    add-place
-    go-requires
+    (λ c. search needs)
+    (λ c κs. search needs)
     returns
-    new-requires
-    cell-requires
-    register-requires
-    load-requires
-    joined-requires
+    (λ c κs. search needs)
+    (λ c κs. search needs)
+    (λ c κs. search needs)
+    (λ c κs. search needs)
+    (λ c κs. search needs)
     assign-requires
-    same-length
+    (λ c. search needs)
     returns-2)

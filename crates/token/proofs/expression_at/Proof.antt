@@ -8,14 +8,15 @@ use Rattle.token.proofs.expression_at.Tie as tie
 shared-slice-read-wide : tie.Need-shared-slice-read-wide
 shared-slice-read-wide c = let a = c .before .before .args in expr-read (a .p .now) (a .at) (c .before .before .pre) .0
 
-wide-requires : tie.Need-wide-requires
-wide-requires c κs = search needs
-
 add-t7 : tie.Need-add-t7
-add-t7 c = let a = c .before .before .before .args in let h = expr-read (a .p .now) (a .at) (c .before .before .before .pre) .0 in search needs
+add-t7 c =
+    let at-start = c .before .before .before in
+    let a = at-start .args in let h = expr-read (a .p .now) (a .at) (at-start .pre) .0 in search needs
 
 returns : tie.Need-returns
-returns c = let a = c .before .before .before .args in rw (c .wide .ensures .0) (sym (expr-read (a .p .now) (a .at) (c .before .before .before .pre) .1))
+returns c =
+    let at-start = c .before .before .before in
+    let a = at-start .args in rw (c .wide .ensures .0) (sym (expr-read (a .p .now) (a .at) (at-start .pre) .1))
 
 pub expression-at-spec : {M : Type 1} → statement M
-expression-at-spec = tie.close (tie.spec shared-slice-read-wide wide-requires add-t7 returns)
+expression-at-spec = tie.close (tie.spec shared-slice-read-wide (λ c κs. search needs) add-t7 returns)

@@ -7,15 +7,6 @@ use borrow.Author.Needs.{needs}
 use Rattle.token.proofs.expression_end.Statement.{statement}
 use Rattle.token.proofs.expression_end.Tie as tie
 
-scan-tokens-requires : tie.Need-scan-tokens-requires
-scan-tokens-requires c κs = search needs
-
-enum-known-next : tie.Need-enum-known-next
-enum-known-next c = search needs
-
-enum-told : tie.Need-enum-told
-enum-told c = search needs
-
 returns : tie.Need-returns
 unfolding nextOffset
 returns c =
@@ -34,4 +25,4 @@ returns-2 c =
 
 pub expression-end-spec : {M : Type 1} → statement M
 expression-end-spec =
-    tie.close (tie.spec scan-tokens-requires enum-known-next enum-told returns returns-2)
+    tie.close (tie.spec (λ c κs. search needs) (λ c. search needs) (λ c. search needs) returns returns-2)

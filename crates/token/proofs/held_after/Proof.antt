@@ -17,12 +17,9 @@ returns-3 : tie.Need-returns-3
 unfolding after
 returns-3 c = simp (le-leb _ _ (c .before .before .if1 .left), le-leb _ _ (c .before .if2 .left), lt-leb _ _ (c .if3 .taken))
 
-add-result : tie.Need-add-result
-add-result c = search needs
-
 returns-4 : tie.Need-returns-4
 unfolding after
 returns-4 c = simp (le-leb _ _ (c .before .before .if1 .left), le-leb _ _ (c .before .if2 .left), le-leb _ _ (c .if3 .left))
 
 pub held-after-spec : {M : Type 1} → statement M
-held-after-spec = tie.close (tie.spec returns returns-2 returns-3 add-result returns-4)
+held-after-spec = tie.close (tie.spec returns returns-2 returns-3 (λ c. search needs) returns-4)

@@ -25,7 +25,10 @@ sub-i : tie.Need-sub-i Inv-loop μ-loop
 sub-i c = omega arith
 
 mul-x : tie.Need-mul-x Inv-loop μ-loop
-mul-x c = let k = c .before .before .before .args .k in let v = c .before .loop in let m = pow-mono {i = 8 * (k - v .i)} {j = 56} (omega arith) in omega arith
+mul-x c =
+    let at-loop = c .before in
+    let at-start = at-loop .before .before in
+    let k = at-start .args .k in let v = at-loop .loop in let m = pow-mono {i = 8 * (k - v .i)} {j = 56} (omega arith) in omega arith
 
 add-wide : tie.Need-add-wide Inv-loop μ-loop
 add-wide c = omega arith
@@ -37,23 +40,30 @@ wide-requires : tie.Need-wide-requires Inv-loop μ-loop
 wide-requires c κs = tt
 
 add-x : tie.Need-add-x Inv-loop μ-loop
-add-x c = let k = c .before .before .before .before .before .args .k in let v = c .before .before .before .loop in let m = pow-mono {i = 8 * (k - v .i)} {j = 56} (omega arith) in omega arith
+add-x c =
+    let at-loop = c .before .before .before in
+    let at-start = at-loop .before .before in
+    let k = at-start .args .k in let v = at-loop .loop in let m = pow-mono {i = 8 * (k - v .i)} {j = 56} (omega arith) in omega arith
 
 loop-less : tie.Need-loop-less Inv-loop μ-loop
 loop-less c = omega arith
 
 loop-again : tie.Need-loop-again Inv-loop μ-loop
 loop-again c =
-    let a = c .before .before .before .before .before .args in
-    let v = c .before .before .before .loop in
+    let at-loop = c .before .before .before in
+    let at-start = at-loop .before .before in
+    let a = at-start .args in
+    let v = at-loop .loop in
     let e : a .k - (v .i - 1) ≡ a .k - v .i + 1 = omega arith in
     let f : a .at + (v .i - 1) + 1 ≡ a .at + v .i = omega arith in
     (omega arith, little-step (a .s .now) _ _ _ _ _ _ f e (v .inv .1) (c .wide .ensures .0), below-step _ _ _ _ e (v .inv .2) (c .wide .ensures .1))
 
 returns : tie.Need-returns Inv-loop μ-loop
 returns c =
-    let v = c .before .loop in
-    let a = c .before .before .before .args in
+    let at-loop = c .before in
+    let at-start = at-loop .before .before in
+    let v = at-loop .loop in
+    let a = at-start .args in
     let e : a .k - v .i ≡ a .k = omega arith in
     let f : a .at + v .i ≡ a .at = omega arith in
     (rw (e, f) at (v .inv .1), rw e at (v .inv .2))

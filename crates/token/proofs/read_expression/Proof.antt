@@ -16,43 +16,30 @@ returns : tie.Need-returns
 unfolding expr
 returns c = let a = c .before .before .args in (simp (byte-past (a .p .now) (a .at) (c .if1 .taken)), tt)
 
-shared-slice-read-wide : tie.Need-shared-slice-read-wide
-shared-slice-read-wide c = search needs
-
-wide-requires : tie.Need-wide-requires
-wide-requires c κs = search needs
-
-add-start : tie.Need-add-start
-add-start c = search needs
-
 returns-2 : tie.Need-returns-2
 unfolding expr
 returns-2 c =
-    let a = c .before .before .before .before .before .args in
-    (rw (byte-got (a .p .now) (a .at) (c .before .before .before .if1 .left), ← (c .before .wide .ensures .0), lt-leb 1 _ (c .if2 .taken)), tt)
+    let at-wide = c .before in
+    let at-if1 = at-wide .before .before in
+    let at-start = at-if1 .before .before in
+    let a = at-start .args in
+    (rw (byte-got (a .p .now) (a .at) (at-if1 .if1 .left), ← (at-wide .wide .ensures .0), lt-leb 1 _ (c .if2 .taken)), tt)
 
 returns-3 : tie.Need-returns-3
 unfolding expr
 returns-3 c =
     let b = c .before .before in
     let a = b .before .before .before .before .args in
-    (rw (byte-got (a .p .now) (a .at) (b .before .before .if1 .left), ← (b .wide .ensures .0), le-leb 1 _ (c .before .if2 .left), lt-leb _ 16 (c .if3 .taken)), tt)
-
-scan-tokens-requires : tie.Need-scan-tokens-requires
-scan-tokens-requires c κs = search needs
-
-enum-known-next : tie.Need-enum-known-next
-enum-known-next c = search needs
-
-enum-known-r : tie.Need-enum-known-r
-enum-known-r c = search needs
+    (rw (byte-got (a .p .now) (a .at) (b .before .before .if1 .left), ← (b .wide .ensures .0), le-leb 1 _ (c .before .if2 .left), lt-leb _ 16
+    (c .if3 .taken)), tt)
 
 returns-4 : tie.Need-returns-4
 unfolding tokensOf sound
 returns-4 c =
     let b = c .before .before .before .before in
     let a = b .before .before .before .before .before .before .args in
-    let e = expr-tokens (a .p .now) (a .at) _ (b .before .before .before .before .if1 .left) (b .before .before .wide .ensures .0) (b .before .if2 .left) (b .if3 .left) in
+    let e = expr-tokens (a .p .now) (a .at) _ (b .before .before .before .before .if1 .left) (b .before .before .wide .ensures .0)
+    (b .before .if2 .left) (b .if3 .left) in
     let k = sym (c .before .next .given .1) ∙ c .before .before .before .scan-tokens .ensures in
     (scan-got _ 0 _ _ k ∙ sym e, ap (λ (h : ℕ). eqb h 1) (scan-held (tokens _ (a .p .now) (a .at + 1)) 0 _ _ k))
 
@@ -60,7 +47,8 @@ returns-5 : tie.Need-returns-5
 returns-5 c =
     let b = c .before .before .before .before in
     let a = b .before .before .before .before .before .before .args in
-    let e = expr-tokens (a .p .now) (a .at) _ (b .before .before .before .before .if1 .left) (b .before .before .wide .ensures .0) (b .before .if2 .left) (b .if3 .left) in
+    let e = expr-tokens (a .p .now) (a .at) _ (b .before .before .before .before .if1 .left) (b .before .before .wide .ensures .0)
+    (b .before .if2 .left) (b .if3 .left) in
     (scan-refused _ 0 _ (sym (c .before .r .given .1) ∙ c .before .before .before .scan-tokens .ensures) ∙ sym e, tt)
 
 pub read-expression-spec : {M : Type 1} → statement M
@@ -68,13 +56,13 @@ read-expression-spec =
     tie.close
     (tie.spec
     returns
-    shared-slice-read-wide
-    wide-requires
-    add-start
+    (λ c. search needs)
+    (λ c κs. search needs)
+    (λ c. search needs)
     returns-2
     returns-3
-    scan-tokens-requires
-    enum-known-next
-    enum-known-r
+    (λ c κs. search needs)
+    (λ c. search needs)
+    (λ c. search needs)
     returns-4
     returns-5)

@@ -24,9 +24,6 @@ loop-holds c = (zero-le, rw sub-zero)
 read-token-requires : tie.Need-read-token-requires Inv-loop μ-loop
 read-token-requires c κs = tt
 
-enum-known-t : tie.Need-enum-known-t Inv-loop μ-loop
-enum-known-t c = search needs
-
 taken-requires : tie.Need-taken-requires Inv-loop μ-loop
 taken-requires c κs = tt
 
@@ -41,26 +38,36 @@ loop-less c = omega arith
 
 loop-again : tie.Need-loop-again Inv-loop μ-loop
 loop-again c =
-    let a = c .before .before .before .before .before .before .before .before .before .args in
-    let v = c .before .before .before .before .before .before .before .loop in
+    let at-taken = c .before in
+    let at-t = at-taken .before .before in
+    let at-read-token = at-t .before .before in
+    let at-loop = at-read-token .before .before in
+    let at-start = at-loop .before .before in
+    let a = at-start .args in
+    let v = at-loop .loop in
     let e : a .count - v .i ≡ suc (a .count - (v .i + 1)) = omega arith in
-    let t = (rw (c .before .before .before .t .given .1) at (c .before .before .before .before .before .read-token .ensures)) in
-    (omega arith, rw (c .held-after .ensures, c .before .taken .ensures) (sym (tokens-got _ (a .p .now) (v .offset) (v .held) _ _ t) ∙ (rw e at (v .inv .1))))
-
-enum-known-r : tie.Need-enum-known-r Inv-loop μ-loop
-enum-known-r c = search needs
+    let t = (rw (at-t .t .given .1) at (at-read-token .read-token .ensures)) in
+    (omega arith, rw (c .held-after .ensures, at-taken .taken .ensures)
+    (sym (tokens-got _ (a .p .now) (v .offset) (v .held) _ _ t) ∙ (rw e at (v .inv .1))))
 
 returns : tie.Need-returns Inv-loop μ-loop
 returns c =
-    let a = c .before .before .before .before .before .before .before .args in
-    let v = c .before .before .before .before .before .loop in
+    let at-r = c .before in
+    let at-read-token = at-r .before .before in
+    let at-loop = at-read-token .before .before in
+    let at-start = at-loop .before .before in
+    let a = at-start .args in
+    let v = at-loop .loop in
     let e : a .count - v .i ≡ suc (a .count - (v .i + 1)) = omega arith in
-    let t = (rw (c .before .r .given .1) at (c .before .before .before .read-token .ensures)) in
+    let t = (rw (at-r .r .given .1) at (at-read-token .read-token .ensures)) in
     sym (tokens-refused _ (a .p .now) (v .offset) (v .held) _ t) ∙ (rw e at (v .inv .1))
 
 returns-2 : tie.Need-returns-2 Inv-loop μ-loop
 unfolding tokens held
-returns-2 c = let v = c .before .loop in let a = c .before .before .before .args in let e : a .count - v .i ≡ 0 = omega arith in rw e at (v .inv .1)
+returns-2 c =
+    let at-loop = c .before in
+    let at-start = at-loop .before .before in
+    let v = at-loop .loop in let a = at-start .args in let e : a .count - v .i ≡ 0 = omega arith in rw e at (v .inv .1)
 
 pub scan-tokens-spec : {M : Type 1} → statement M
 scan-tokens-spec =
@@ -70,12 +77,12 @@ scan-tokens-spec =
     μ-loop
     loop-holds
     read-token-requires
-    enum-known-t
+    (λ c. search needs)
     taken-requires
     held-after-requires
     add-i
     loop-less
     loop-again
-    enum-known-r
+    (λ c. search needs)
     returns
     returns-2)

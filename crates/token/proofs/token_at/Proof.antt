@@ -15,26 +15,40 @@ add-next c = let h = token-read (c .before .before .args .p .now) (c .before .be
 
 returns : tie.Need-returns
 unfolding tokenOf
-returns c = simp (token-read (c .before .before .before .args .p .now) (c .before .before .before .args .at) (c .before .before .before .pre) .1, lt-ltb _ _ (c .if1 .taken))
+returns c =
+    let at-start = c .before .before .before in
+    simp (token-read (at-start .args .p .now) (at-start .args .at) (at-start .pre) .1, lt-ltb _ _ (c .if1 .taken))
 
 number-requires : tie.Need-number-requires
-number-requires c κs = let h = constant-read (c .before .before .before .before .args .p .now) (c .before .before .before .before .args .at) (c .before .before .before .before .pre) (c .if2 .taken) .0 in search needs
+number-requires c κs =
+    let at-start = c .before .before .before .before in
+    let h = constant-read (at-start .args .p .now) (at-start .args .at) (at-start .pre) (c .if2 .taken) .0 in search needs
 
 add-t11 : tie.Need-add-t11
-add-t11 c = let h = constant-read (c .before .before .before .before .before .args .p .now) (c .before .before .before .before .before .args .at) (c .before .before .before .before .before .pre) (c .before .if2 .taken) .0 in search needs
+add-t11 c =
+    let at-if2 = c .before in
+    let at-start = at-if2 .before .before .before .before in
+    let h = constant-read (at-start .args .p .now) (at-start .args .at) (at-start .pre) (at-if2 .if2 .taken) .0 in search needs
 
 returns-2 : tie.Need-returns-2
-returns-2 c = rw (c .number .ensures .0) (sym (constant-read (c .before .before .before .before .before .args .p .now) (c .before .before .before .before .before .args .at) (c .before .before .before .before .before .pre) (c .before .if2 .taken) .1))
-
-sub-t12 : tie.Need-sub-t12
-sub-t12 c = search needs
+returns-2 c =
+    let at-if2 = c .before in
+    let at-start = at-if2 .before .before .before .before in
+    rw (c .number .ensures .0) (sym (constant-read (at-start .args .p .now) (at-start .args .at) (at-start .pre) (at-if2 .if2 .taken) .1))
 
 returns-3 : tie.Need-returns-3
 unfolding tokenOf
-returns-3 c = simp (token-read (c .before .before .before .before .before .args .p .now) (c .before .before .before .before .before .args .at) (c .before .before .before .before .before .pre) .1, le-ltb _ _ (c .before .before .if1 .left), ne-eqb _ _ (c .before .if2 .left), lt-ltb _ _ (c .if3 .taken))
+returns-3 c =
+    let at-if2 = c .before in
+    let at-if1 = at-if2 .before in
+    let at-start = at-if1 .before .before .before in
+    simp (token-read (at-start .args .p .now) (at-start .args .at) (at-start .pre) .1, le-ltb _ _ (at-if1 .if1 .left), ne-eqb _ _
+    (at-if2 .if2 .left), lt-ltb _ _ (c .if3 .taken))
 
 returns-4 : tie.Need-returns-4
-returns-4 c = sym (operator-read (c .before .before .before .before .before .args .p .now) (c .before .before .before .before .before .args .at) (c .before .before .before .before .before .pre) (c .if3 .left))
+returns-4 c =
+    let at-start = c .before .before .before .before .before in
+    sym (operator-read (at-start .args .p .now) (at-start .args .at) (at-start .pre) (c .if3 .left))
 
 pub token-at-spec : {M : Type 1} → statement M
 token-at-spec =
@@ -46,6 +60,6 @@ token-at-spec =
     number-requires
     add-t11
     returns-2
-    sub-t12
+    (λ c. search needs)
     returns-3
     returns-4)

@@ -30,8 +30,10 @@ shared-slice-read-if1 c = omega arith
 
 returns : tie.Need-returns Inv-loop μ-loop
 returns c =
-    let t = c .before .before .before .before .before .args .t .now in
-    let v = c .before .before .before .loop in
+    let at-loop = c .before .before .before in
+    let at-start = at-loop .before .before in
+    let t = at-start .args .t .now in
+    let v = at-loop .loop in
     let e = start-step t (v .i) (omega arith) in
     record { later = omega arith; room = omega arith; same = v .inv .2; kept = λ _. rw (ne-eqb _ _ (c .if1 .taken)) at e }
 
@@ -58,12 +60,15 @@ loop-less c = let l = c .past-rollback .ensures .later in omega arith
 
 loop-again : tie.Need-loop-again Inv-loop μ-loop
 loop-again c =
-    let t = c .before .before .before .before .before .before .before .args .t .now in
-    let v = c .before .before .before .before .before .loop in
+    let at-if1 = c .before .before in
+    let at-loop = at-if1 .before .before .before in
+    let at-start = at-loop .before .before in
+    let t = at-start .args .t .now in
+    let v = at-loop .loop in
     let e = start-step t (v .i) (omega arith) in
     let x = c .past-rollback .ensures in
     let l = x .later in
-    (omega arith, x .room, v .inv .2 ∙ (rw (eq-eqb _ _ (c .before .before .if1 .left)) at e) ∙ x .same)
+    (omega arith, x .room, v .inv .2 ∙ (rw (eq-eqb _ _ (at-if1 .if1 .left)) at e) ∙ x .same)
 
 returns-2 : tie.Need-returns-2 Inv-loop μ-loop
 returns-2 c =

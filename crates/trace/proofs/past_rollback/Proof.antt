@@ -27,10 +27,13 @@ add-result c = omega arith
 
 returns : tie.Need-returns Inv-loop μ-loop
 returns c =
-    let a = c .before .before .before .before .before .args in
-    let v = c .before .before .before .loop in
+    let at-closes = c .before in
+    let at-loop = at-closes .before .before in
+    let at-start = at-loop .before .before in
+    let a = at-start .args in
+    let v = at-loop .loop in
     let e = closes-step (a .t .now) (v .i) (a .id) (omega arith) in
-    record { later = omega arith; room = omega arith; same = v .inv .2 ∙ rw (← c .before .closes .ensures, c .if1 .taken) at e }
+    record { later = omega arith; room = omega arith; same = v .inv .2 ∙ rw (← at-closes .closes .ensures, c .if1 .taken) at e }
 
 add-i : tie.Need-add-i Inv-loop μ-loop
 add-i c = omega arith
@@ -40,15 +43,20 @@ loop-less c = omega arith
 
 loop-again : tie.Need-loop-again Inv-loop μ-loop
 loop-again c =
-    let a = c .before .before .before .before .before .args in
-    let v = c .before .before .before .loop in
+    let at-closes = c .before in
+    let at-loop = at-closes .before .before in
+    let at-start = at-loop .before .before in
+    let a = at-start .args in
+    let v = at-loop .loop in
     let e = closes-step (a .t .now) (v .i) (a .id) (omega arith) in
-    (omega arith, omega arith, v .inv .2 ∙ rw (← c .before .closes .ensures, c .if1 .left) at e)
+    (omega arith, omega arith, v .inv .2 ∙ rw (← at-closes .closes .ensures, c .if1 .left) at e)
 
 returns-2 : tie.Need-returns-2 Inv-loop μ-loop
 returns-2 c =
-    let a = c .before .before .before .args in
-    let v = c .before .loop in
+    let at-loop = c .before in
+    let at-start = at-loop .before .before in
+    let a = at-start .args in
+    let v = at-loop .loop in
     let h : length (a .t .now) < 2 * v .i + 2 = omega arith in
     record { later = omega arith; room = omega arith; same = v .inv .2 ∙ done-to (a .t .now) (v .i) (a .id) h ∙ sym (done (a .t .now) (v .i) h) }
 

@@ -26,12 +26,15 @@ outside-requires-2 : tie.Need-outside-requires-2 Inv-loop μ-loop
 outside-requires-2 c κs = zero-le
 
 loop-holds : tie.Need-loop-holds Inv-loop μ-loop
-loop-holds c = let x = c .before .outside .ensures in let y = c .outside2 .ensures in (settled x, settled y, ap₂ sameWords (sym (x .same)) (sym (y .same)))
+loop-holds c = let x = c .before .outside .ensures in let y = c .outside2 .ensures in
+    (settled x, settled y, ap₂ sameWords (sym (x .same)) (sym (y .same)))
 
 returns : tie.Need-returns Inv-loop μ-loop
 returns c =
-    let a = c .before .before .before .before .before .before .before .args in
-    let v = c .before .before .loop in
+    let at-loop = c .before .before in
+    let at-start = at-loop .before .before .before .before .before in
+    let a = at-start .args in
+    let v = at-loop .loop in
     sym (second-ended (a .a .now) (a .b .now) (v .i) (v .j) (v .inv .0) (omega arith) (omega arith)) ∙ v .inv .2
 
 same-observation-requires : tie.Need-same-observation-requires Inv-loop μ-loop
@@ -39,10 +42,14 @@ same-observation-requires c κs = (omega arith, omega arith)
 
 returns-2 : tie.Need-returns-2 Inv-loop μ-loop
 returns-2 c =
-    let a = c .before .before .before .before .before .before .before .before .before .args in
-    let v = c .before .before .before .before .loop in
+    let at-same-observation = c .before in
+    let at-loop = at-same-observation .before .before .before in
+    let at-start = at-loop .before .before .before .before .before in
+    let a = at-start .args in
+    let v = at-loop .loop in
     let e = struck-step (a .a .now) (a .b .now) (v .i) (v .j) (v .inv .0) (v .inv .1) (omega arith) (omega arith) in
-    sym (rw (← c .before .same-observation .ensures, not-true (c .before .same-observation .result) (c .if2 .taken)) at e) ∙ v .inv .2
+    sym (rw (← at-same-observation .same-observation .ensures, not-true (at-same-observation .same-observation .result) (c .if2 .taken)) at e)
+    ∙ v .inv .2
 
 add-outside : tie.Need-add-outside Inv-loop μ-loop
 add-outside c = omega arith
@@ -61,18 +68,27 @@ loop-less c = let l = c .before .outside3 .ensures .later in omega arith
 
 loop-again : tie.Need-loop-again Inv-loop μ-loop
 loop-again c =
-    let a = c .before .before .before .before .before .before .before .before .before .before .before .args in
-    let v = c .before .before .before .before .before .before .loop in
+    let at-outside3 = c .before in
+    let at-if2 = at-outside3 .before in
+    let at-same-observation = at-if2 .before in
+    let at-loop = at-same-observation .before .before .before in
+    let at-start = at-loop .before .before .before .before .before in
+    let a = at-start .args in
+    let v = at-loop .loop in
     let e = struck-step (a .a .now) (a .b .now) (v .i) (v .j) (v .inv .0) (v .inv .1) (omega arith) (omega arith) in
-    let x = c .before .outside3 .ensures in
+    let x = at-outside3 .outside3 .ensures in
     let y = c .outside4 .ensures in
-    let g = sym (rw (← c .before .before .before .same-observation .ensures, not-false (c .before .before .before .same-observation .result) (c .before .before .if2 .left)) at e) ∙ v .inv .2 in
+    let g = sym
+    (rw (← at-same-observation .same-observation .ensures, not-false (at-same-observation .same-observation .result) (at-if2 .if2 .left)) at e)
+    ∙ v .inv .2 in
     (settled x, settled y, ap₂ sameWords (sym (x .same)) (sym (y .same)) ∙ g)
 
 returns-3 : tie.Need-returns-3 Inv-loop μ-loop
 returns-3 c =
-    let a = c .before .before .before .before .before .before .args in
-    let v = c .before .loop in
+    let at-loop = c .before in
+    let at-start = at-loop .before .before .before .before .before in
+    let a = at-start .args in
+    let v = at-loop .loop in
     first-ended (a .a .now) (a .b .now) (v .i) (v .j) (v .inv .1) (omega arith) ∙ v .inv .2
 
 pub same-struck-spec : {M : Type 1} → statement M

@@ -12,15 +12,11 @@ returns : tie.Need-returns
 unfolding offsets
 returns c = simp (lt-leb _ _ (c .if1 .taken))
 
-mul-if2 : tie.Need-mul-if2
-mul-if2 c = search needs
-
-add-if2 : tie.Need-add-if2
-add-if2 c = search needs
-
 returns-2 : tie.Need-returns-2
 unfolding offsets
-returns-2 c = simp (le-leb _ _ (c .before .before .before .if1 .left), ne-eqb _ _ (c .if2 .taken))
+returns-2 c =
+    let at-if1 = c .before .before .before in
+    simp (le-leb _ _ (at-if1 .if1 .left), ne-eqb _ _ (c .if2 .taken))
 
 returns-3 : tie.Need-returns-3
 unfolding offsets
@@ -34,15 +30,17 @@ unfolding offsets
 returns-4 c =
     let b = c .before .before .before .before .before .before in
     let a = b .before .before .args in
-    simp (le-leb _ _ (b .if1 .left), eq-eqb _ _ (c .before .before .before .if2 .left), eq-eqb (a .t .list + (listSize + trailerSize)) (a .len) (omega arith))
+    simp (le-leb _ _ (b .if1 .left), eq-eqb _ _ (c .before .before .before .if2 .left), eq-eqb (a .t .list + (listSize + trailerSize)) (a .len)
+    (omega arith))
 
 returns-5 : tie.Need-returns-5
 unfolding offsets
 returns-5 c =
     let b = c .before .before .before .before .before .before in
     let a = b .before .before .args in
-    simp (le-leb _ _ (b .if1 .left), eq-eqb _ _ (c .before .before .before .if2 .left), ne-eqb (a .t .list + (listSize + trailerSize)) (a .len) (omega arith))
+    simp (le-leb _ _ (b .if1 .left), eq-eqb _ _ (c .before .before .before .if2 .left), ne-eqb (a .t .list + (listSize + trailerSize)) (a .len)
+    (omega arith))
 
 pub offsets-hold-spec : {M : Type 1} → statement M
 offsets-hold-spec =
-    tie.close (tie.spec returns mul-if2 add-if2 returns-2 returns-3 returns-4 returns-5)
+    tie.close (tie.spec returns (λ c. search needs) (λ c. search needs) returns-2 returns-3 returns-4 returns-5)

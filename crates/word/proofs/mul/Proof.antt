@@ -10,17 +10,8 @@ mul-wrapping-add-u64 c = product-fits (search needs) (search needs)
 mul-wrapping-add-u64-2 : tie.Need-mul-wrapping-add-u64-2
 mul-wrapping-add-u64-2 c = product-fits (search needs) (search needs)
 
-wrapping-add-u64-requires : tie.Need-wrapping-add-u64-requires
-wrapping-add-u64-requires c κs = search needs
-
-mul-wrapping-add-u64-3 : tie.Need-mul-wrapping-add-u64-3
-mul-wrapping-add-u64-3 c = search needs
-
 mul-wrapping-add-u64-4 : tie.Need-mul-wrapping-add-u64-4
 mul-wrapping-add-u64-4 c = product-fits (search needs) (search needs)
-
-wrapping-add-u64-requires-2 : tie.Need-wrapping-add-u64-requires-2
-wrapping-add-u64-requires-2 c κs = search needs
 
 returns : tie.Need-returns
 returns c = let a = c .before .before .args in by-halves (a .x) (a .y) _ _ (c .before .wrapping-add-u64 .ensures) (c .wrapping-add-u642 .ensures)
@@ -31,8 +22,8 @@ mul-spec =
     (tie.spec
     mul-wrapping-add-u64
     mul-wrapping-add-u64-2
-    wrapping-add-u64-requires
-    mul-wrapping-add-u64-3
+    (λ c κs. search needs)
+    (λ c. search needs)
     mul-wrapping-add-u64-4
-    wrapping-add-u64-requires-2
+    (λ c κs. search needs)
     returns)

@@ -13,9 +13,6 @@ use borrow.Author.Needs.{needs}
 use Rattle.execution.proofs.halt.halt_of.Statement.{statement}
 use Rattle.execution.proofs.halt.halt_of.Tie as tie
 
-is-over-requires : tie.Need-is-over-requires
-is-over-requires c κs = search needs
-
 returns : tie.Need-returns
 returns c =
     let at-is-over = c .before in
@@ -80,7 +77,7 @@ pub halt-of-spec : {M : Type 1} → statement M
 halt-of-spec =
     tie.close
     (tie.spec
-    is-over-requires
+    (λ c κs. search needs)
     returns
     returns-2
     next-observations-requires

@@ -20,18 +20,6 @@ rule-of-requires c κs =
     let at-start = c .before .before .before in
     closed-window (at-start .args .c .control) (at-start .pre .0 .fits)
 
-enum-told : tie.Need-enum-told
-enum-told c = search needs
-
-enum-told-2 : tie.Need-enum-told-2
-enum-told-2 c = search needs
-
-enum-told-3 : tie.Need-enum-told-3
-enum-told-3 c = search needs
-
-new-requires : tie.Need-new-requires
-new-requires c κs = search needs
-
 fetch-requires : tie.Need-fetch-requires
 fetch-requires c κs =
     let at-enum-told3 = c .before in
@@ -56,9 +44,6 @@ instruction-of-requires c κs =
     (sym (at-enum-told3 .enum-told3 .given .1) ∙ at-rule-of .rule-of .ensures (a .work .now) (locations (a .t))) in
     fetched-valid (a .p .now) (a .t) (a .mode) (a .work .now) (a .c .control) (at-start .pre .0) (place-inside g) (at-new .new .ensures)
     (c .fetch .ensures)
-
-observations-of-requires : tie.Need-observations-of-requires
-observations-of-requires c κs = search needs
 
 returns : tie.Need-returns
 returns c =
@@ -103,13 +88,13 @@ next-observations-spec =
     tie.close
     (tie.spec
     rule-of-requires
-    enum-told
-    enum-told-2
-    enum-told-3
-    new-requires
+    (λ c. search needs)
+    (λ c. search needs)
+    (λ c. search needs)
+    (λ c κs. search needs)
     fetch-requires
     instruction-of-requires
-    observations-of-requires
+    (λ c κs. search needs)
     returns
     returns-2
     returns-3)

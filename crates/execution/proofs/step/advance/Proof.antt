@@ -21,9 +21,6 @@ use borrow.Author.Needs.{needs}
 use Rattle.execution.proofs.step.advance.Statement.{statement}
 use Rattle.execution.proofs.step.advance.Tie as tie
 
-new-requires : tie.Need-new-requires
-new-requires c κs = search needs
-
 fetch-requires : tie.Need-fetch-requires
 fetch-requires c κs =
     let at-new = c .before in
@@ -43,12 +40,6 @@ source-value-requires c κs =
     (at-new .new .ensures) (at-fetch .fetch .ensures) in
     let r = at-start .pre .ready .steady .fits .room in
     (v, omega arith)
-
-opening-of-requires : tie.Need-opening-of-requires
-opening-of-requires c κs = search needs
-
-enum-known-r : tie.Need-enum-known-r
-enum-known-r c = search needs
 
 open-branch-requires : tie.Need-open-branch-requires
 open-branch-requires c κs =
@@ -75,9 +66,6 @@ open-branch-requires c κs =
       place = omega arith;
     }, rw (o .1) at (v .below), rw (o .1) at (at-source-value .source-value .ensures)
     ∙ register-value _ _, at-start .pre .ready .steady .loaded .limits .window)
-
-enum-told : tie.Need-enum-told
-enum-told c = search needs
 
 instruction-of-requires : tie.Need-instruction-of-requires
 instruction-of-requires c κs =
@@ -123,12 +111,6 @@ carry-out-requires c κs =
       value = at-source-value .source-value .ensures ∙ ap (λ (y : Instr). eval (taggedAt w) (firstTokens y)) (sym e);
     }
 
-same-length : tie.Need-same-length
-same-length c = search needs
-
-same-length-2 : tie.Need-same-length-2
-same-length-2 c = search needs
-
 returns : tie.Need-returns
 returns c =
     let at-open-branch = c .before .before .before .before in
@@ -151,12 +133,6 @@ returns c =
     let s = code-of (a .p .now) (a .t) (drop labels w) in
     let step = branch-step (a .p .now) (a .t) (a .mode) w k (still-going (at-start .pre .inside) (at-start .pre .window)) same o in
     made-as step (at-open-branch .open-branch .ensures .made n _ (omega arith) most (s .window) (s .costs))
-
-same-length-3 : tie.Need-same-length-3
-same-length-3 c = search needs
-
-same-length-4 : tie.Need-same-length-4
-same-length-4 c = search needs
 
 returns-2 : tie.Need-returns-2
 returns-2 c =
@@ -185,18 +161,18 @@ pub advance-spec : {M : Type 1} → statement M
 advance-spec =
     tie.close
     (tie.spec
-    new-requires
+    (λ c κs. search needs)
     fetch-requires
     source-value-requires
-    opening-of-requires
-    enum-known-r
+    (λ c κs. search needs)
+    (λ c. search needs)
     open-branch-requires
-    enum-told
+    (λ c. search needs)
     instruction-of-requires
     carry-out-requires
-    same-length
-    same-length-2
+    (λ c. search needs)
+    (λ c. search needs)
     returns
-    same-length-3
-    same-length-4
+    (λ c. search needs)
+    (λ c. search needs)
     returns-2)

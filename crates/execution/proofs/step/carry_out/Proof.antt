@@ -12,16 +12,10 @@ add-next c =
     let at-start = c .before .before .before .before .before in
     let h = at-start .pre .place in omega arith
 
-enum-told : tie.Need-enum-told
-enum-told c = search needs
-
 skip-requires : tie.Need-skip-requires
 skip-requires c κs =
     let at-start = c .before .before .before .before .before .before .before in
     let h = at-start .pre .place in let s = at-start .pre .counted .steps in (omega arith, omega arith)
-
-enum-known-i : tie.Need-enum-known-i
-enum-known-i c = search needs
 
 assign-requires : tie.Need-assign-requires
 assign-requires c κs =
@@ -31,9 +25,6 @@ assign-requires c κs =
     let h = q .place in
     let s = q .counted .steps in
     (q .unexpired, omega arith, omega arith, q .below)
-
-enum-known-i-2 : tie.Need-enum-known-i-2
-enum-known-i-2 c = search needs
 
 load-requires : tie.Need-load-requires
 load-requires c κs =
@@ -52,9 +43,6 @@ load-requires c κs =
       most = omega arith;
     }
 
-enum-known-i-3 : tie.Need-enum-known-i-3
-enum-known-i-3 c = search needs
-
 store-requires : tie.Need-store-requires
 store-requires c κs =
     let at-i3 = c .before .before .before in
@@ -72,32 +60,17 @@ store-requires c κs =
       most = omega arith;
     }
 
-enum-told-2 : tie.Need-enum-told-2
-enum-told-2 c = search needs
-
-jump-to-requires : tie.Need-jump-to-requires
-jump-to-requires c κs = search needs
-
 go-to-requires : tie.Need-go-to-requires
 go-to-requires c κs =
     let at-enum-told2 = c .before .before in
     let at-start = at-enum-told2 .before .before .before .before .before .before .before in
     let s = at-start .pre .counted .steps in (jump-shown (at-start .pre) (at-enum-told2 .enum-told2 .given .1), omega arith)
 
-enum-known-i-4 : tie.Need-enum-known-i-4
-enum-known-i-4 c = search needs
-
-branch-to-requires : tie.Need-branch-to-requires
-branch-to-requires c κs = search needs
-
 go-to-requires-2 : tie.Need-go-to-requires-2
 go-to-requires-2 c κs =
     let at-i4 = c .before .before .before in
     let at-start = at-i4 .before .before .before .before .before .before .before in
     let s = at-start .pre .counted .steps in (branch-shown (at-start .pre) (at-i4 .i4 .given .1), omega arith)
-
-enum-known-i-5 : tie.Need-enum-known-i-5
-enum-known-i-5 c = search needs
 
 chosen-requires : tie.Need-chosen-requires
 chosen-requires c κs =
@@ -116,9 +89,6 @@ assign-requires-2 c κs =
     let s = q .counted .steps in
     (q .unexpired, omega arith, omega arith, q .below)
 
-enum-told-3 : tie.Need-enum-told-3
-enum-told-3 c = search needs
-
 skip-requires-2 : tie.Need-skip-requires-2
 skip-requires-2 c κs =
     let at-start = c .before .before .before .before .before .before .before in
@@ -133,9 +103,6 @@ returns c =
     skip-carried (at-enum-told .enum-told .given .1)
     (c .skip .ensures .1 (a .work .now) (a .trace .now) (a .t .cells) (at-start .pre .unexpired) (omega arith))
 
-same-length : tie.Need-same-length
-same-length c = search needs
-
 returns-2 : tie.Need-returns-2
 returns-2 c =
     let at-assign = c .before .before in
@@ -146,12 +113,6 @@ returns-2 c =
     assign-carried (at-i .i .given .1) (rw (at-i .i .given .1) at (at-start .pre .value))
     (at-assign .assign .ensures (a .trace .now) (a .t .cells) (omega arith))
 
-same-length-2 : tie.Need-same-length-2
-same-length-2 c = search needs
-
-same-length-3 : tie.Need-same-length-3
-same-length-3 c = search needs
-
 returns-3 : tie.Need-returns-3
 returns-3 c =
     let at-load = c .before .before .before .before in
@@ -159,21 +120,12 @@ returns-3 c =
     let at-start = at-i2 .before .before .before .before .before .before .before in
     load-carried (at-i2 .i2 .given .1) (rw (at-i2 .i2 .given .1) at (at-start .pre .value)) (at-load .load .ensures)
 
-same-length-4 : tie.Need-same-length-4
-same-length-4 c = search needs
-
-same-length-5 : tie.Need-same-length-5
-same-length-5 c = search needs
-
 returns-4 : tie.Need-returns-4
 returns-4 c =
     let at-store = c .before .before .before .before in
     let at-i3 = at-store .before .before .before .before in
     let at-start = at-i3 .before .before .before .before .before .before .before in
     store-carried (at-i3 .i3 .given .1) (rw (at-i3 .i3 .given .1) at (at-start .pre .value)) (at-store .store .ensures)
-
-same-length-6 : tie.Need-same-length-6
-same-length-6 c = search needs
 
 returns-5 : tie.Need-returns-5
 returns-5 c =
@@ -186,9 +138,6 @@ returns-5 c =
     (at-jump-to .jump-to .ensures)
     (at-go-to .go-to .ensures .1 (at-start .args .work .now) (at-start .args .t .cells) (at-start .pre .unexpired) (omega arith))
 
-same-length-7 : tie.Need-same-length-7
-same-length-7 c = search needs
-
 returns-6 : tie.Need-returns-6
 returns-6 c =
     let at-go-to2 = c .before .before in
@@ -200,9 +149,6 @@ returns-6 c =
     branch-carried (at-i4 .i4 .given .1) (q .below) (rw (at-i4 .i4 .given .1) at (at-start .pre .value) ∙ register-value _ _)
     (at-branch-to .branch-to .ensures)
     (at-go-to2 .go-to2 .ensures .1 (at-start .args .work .now) (at-start .args .t .cells) (at-start .pre .unexpired) (omega arith))
-
-same-length-8 : tie.Need-same-length-8
-same-length-8 c = search needs
 
 returns-7 : tie.Need-returns-7
 returns-7 c =
@@ -230,38 +176,38 @@ carry-out-spec =
     tie.close
     (tie.spec
     add-next
-    enum-told
+    (λ c. search needs)
     skip-requires
-    enum-known-i
+    (λ c. search needs)
     assign-requires
-    enum-known-i-2
+    (λ c. search needs)
     load-requires
-    enum-known-i-3
+    (λ c. search needs)
     store-requires
-    enum-told-2
-    jump-to-requires
+    (λ c. search needs)
+    (λ c κs. search needs)
     go-to-requires
-    enum-known-i-4
-    branch-to-requires
+    (λ c. search needs)
+    (λ c κs. search needs)
     go-to-requires-2
-    enum-known-i-5
+    (λ c. search needs)
     chosen-requires
     assign-requires-2
-    enum-told-3
+    (λ c. search needs)
     skip-requires-2
     returns
-    same-length
+    (λ c. search needs)
     returns-2
-    same-length-2
-    same-length-3
+    (λ c. search needs)
+    (λ c. search needs)
     returns-3
-    same-length-4
-    same-length-5
+    (λ c. search needs)
+    (λ c. search needs)
     returns-4
-    same-length-6
+    (λ c. search needs)
     returns-5
-    same-length-7
+    (λ c. search needs)
     returns-6
-    same-length-8
+    (λ c. search needs)
     returns-7
     returns-8)

@@ -26,23 +26,11 @@ loop-holds c =
 rule-of-requires : tie.Need-rule-of-requires Inv-loop μ-loop
 rule-of-requires c κs = closed-window _ (c .before .before .loop .inv .2 .ready .steady .fits)
 
-enum-told : tie.Need-enum-told Inv-loop μ-loop
-enum-told c = search needs
-
-same-length : tie.Need-same-length Inv-loop μ-loop
-same-length c = search needs
-
-same-length-2 : tie.Need-same-length-2 Inv-loop μ-loop
-same-length-2 c = search needs
-
 returns : tie.Need-returns Inv-loop μ-loop
 returns c =
     let at-rule-of = c .before .before in
     let at-loop = at-rule-of .before .before .before in
     stepping-over _ _ _ (at-loop .loop .inv .2) (at-rule-of .rule-of .ensures) (c .enum-told .given .1)
-
-enum-told-2 : tie.Need-enum-told-2 Inv-loop μ-loop
-enum-told-2 c = search needs
 
 roll-back-requires : tie.Need-roll-back-requires Inv-loop μ-loop
 roll-back-requires c κs =
@@ -81,9 +69,6 @@ loop-again c =
     let g = back-next _ _ _ (at-loop .loop .inv .2) (at-rule-of .rule-of .ensures) (at-enum-told2 .enum-told2 .given .1) in
     (search needs, search needs, stepping-on _ _ _ s (at-if1 .if1 .taken) (g .on) (rolled _ _ _ _ _ (s .ready) g (at-roll-back .roll-back .ensures)))
 
-enum-told-3 : tie.Need-enum-told-3 Inv-loop μ-loop
-enum-told-3 c = search needs
-
 advance-requires : tie.Need-advance-requires Inv-loop μ-loop
 advance-requires c κs =
     let at-enum-told3 = c .before .before in
@@ -114,12 +99,6 @@ loop-again-2 c =
     let g = advance-next _ _ _ (at-loop .loop .inv .2) (at-rule-of .rule-of .ensures) (at-enum-told3 .enum-told3 .given .1) in
     (search needs, search needs, stepping-on _ _ _ s (at-if1 .if1 .taken) (g .on) (at-advance .advance .ensures))
 
-same-length-3 : tie.Need-same-length-3 Inv-loop μ-loop
-same-length-3 c = search needs
-
-same-length-4 : tie.Need-same-length-4 Inv-loop μ-loop
-same-length-4 c = search needs
-
 returns-2 : tie.Need-returns-2 Inv-loop μ-loop
 returns-2 c =
     let at-loop = c .before .before in
@@ -133,18 +112,18 @@ make-steps-spec =
     μ-loop
     loop-holds
     rule-of-requires
-    enum-told
-    same-length
-    same-length-2
+    (λ c. search needs)
+    (λ c. search needs)
+    (λ c. search needs)
     returns
-    enum-told-2
+    (λ c. search needs)
     roll-back-requires
     loop-less
     loop-again
-    enum-told-3
+    (λ c. search needs)
     advance-requires
     loop-less-2
     loop-again-2
-    same-length-3
-    same-length-4
+    (λ c. search needs)
+    (λ c. search needs)
     returns-2)

@@ -12,15 +12,6 @@ returns c =
     let at-start = c .before .before in
     λ p v. never-opens (at-start .args .mode) _ (other-shaped v (c .if1 .taken))
 
-enum-told : tie.Need-enum-told
-enum-told c = search needs
-
-enum-told-2 : tie.Need-enum-told-2
-enum-told-2 c = search needs
-
-new-requires : tie.Need-new-requires
-new-requires c κs = search needs
-
 returns-2 : tie.Need-returns-2
 returns-2 c = λ p v. rw (c .enum-told .given .1) (λ code M. refl)
 
@@ -34,4 +25,4 @@ returns-3 c =
 
 pub opening-of-spec : {M : Type 1} → statement M
 opening-of-spec =
-    tie.close (tie.spec returns enum-told enum-told-2 new-requires returns-2 returns-3)
+    tie.close (tie.spec returns (λ c. search needs) (λ c. search needs) (λ c κs. search needs) returns-2 returns-3)

@@ -14,18 +14,9 @@ returns c =
     let h : length (c .before .before .args .self .words) ≡ 4 = search needs in
     sym (has-out (c .before .before .args .self .words) (c .before .before .args .l .0) (omega arith))
 
-mul-result : tie.Need-mul-result
-mul-result c = search needs
-
-array-read-result : tie.Need-array-read-result
-array-read-result c = search needs
-
-shr-result : tie.Need-shr-result
-shr-result c = search needs
-
 returns-2 : tie.Need-returns-2
 unfolding member has bit
 returns-2 c = search needs
 
 pub member-spec : {M : Type 1} → statement M
-member-spec = tie.close (tie.spec returns mul-result array-read-result shr-result returns-2)
+member-spec = tie.close (tie.spec returns (λ c. search needs) (λ c. search needs) (λ c. search needs) returns-2)

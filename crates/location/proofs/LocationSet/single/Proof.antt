@@ -10,12 +10,6 @@ use borrow.Author.Needs.{needs}
 use Rattle.location.proofs.LocationSet.single.Statement.{statement}
 use Rattle.location.proofs.LocationSet.single.Tie as tie
 
-shl-bit : tie.Need-shl-bit
-shl-bit c = search needs
-
-empty-requires : tie.Need-empty-requires
-empty-requires c κs = search needs
-
 returns : tie.Need-returns
 unfolding single only none
 returns c = rw (word-bit (c .before .args .l .0 % 64) (omega arith), c .match .keys1)
@@ -39,4 +33,4 @@ returns-5 c =
 
 pub single-spec : {M : Type 1} → statement M
 single-spec =
-    tie.close (tie.spec shl-bit empty-requires returns returns-2 returns-3 returns-4 returns-5)
+    tie.close (tie.spec (λ c. search needs) (λ c κs. search needs) returns returns-2 returns-3 returns-4 returns-5)

@@ -22,57 +22,41 @@ abbrev μ-loop : tie.MeasureT-loop
 loop-holds : tie.Need-loop-holds Inv-loop μ-loop
 loop-holds c = (search needs, search needs, search needs, refl)
 
-mul-if1 : tie.Need-mul-if1 Inv-loop μ-loop
-mul-if1 c = search needs
-
-array-read-if1 : tie.Need-array-read-if1 Inv-loop μ-loop
-array-read-if1 c = search needs
-
-mul-if1-2 : tie.Need-mul-if1-2 Inv-loop μ-loop
-mul-if1-2 c = search needs
-
-array-read-if1-2 : tie.Need-array-read-if1-2 Inv-loop μ-loop
-array-read-if1-2 c = search needs
-
-mul-if1-3 : tie.Need-mul-if1-3 Inv-loop μ-loop
-mul-if1-3 c = search needs
-
-array-read-if1-3 : tie.Need-array-read-if1-3 Inv-loop μ-loop
-array-read-if1-3 c = search needs
-
 returns : tie.Need-returns Inv-loop μ-loop
 unfolding subset
 returns c =
-    let a = c .before .before .before .before .before .args .self .words in
-    let b = c .before .before .before .before .before .args .other .words in
-    let i = c .before .before .loop .i in
+    let at-loop = c .before .before in
+    let at-start = at-loop .before .before .before in
+    let a = at-start .args .self .words in
+    let b = at-start .args .other .words in
+    let i = at-loop .loop .i in
     let ha : i < length a = omega arith in
     let hb : i < length b = omega arith in
-    sym (ap (λ (t : Bool). t && inside (drop (i + 1) a) (drop (i + 1) b)) (ne-eqb _ _ (c .if1 .taken))) ∙ sym (inside-step a b i ha hb) ∙ c .before .before .loop .inv .3
-
-add-i : tie.Need-add-i Inv-loop μ-loop
-add-i c = search needs
-
-loop-less : tie.Need-loop-less Inv-loop μ-loop
-loop-less c = search needs
+    sym (ap (λ (t : Bool). t && inside (drop (i + 1) a) (drop (i + 1) b)) (ne-eqb _ _ (c .if1 .taken))) ∙ sym (inside-step a b i ha hb)
+    ∙ at-loop .loop .inv .3
 
 loop-again : tie.Need-loop-again Inv-loop μ-loop
 loop-again c =
-    let a = c .before .before .before .before .before .args .self .words in
-    let b = c .before .before .before .before .before .args .other .words in
-    let i = c .before .before .loop .i in
+    let at-loop = c .before .before in
+    let at-start = at-loop .before .before .before in
+    let a = at-start .args .self .words in
+    let b = at-start .args .other .words in
+    let i = at-loop .loop .i in
     let ha : i < length a = omega arith in
     let hb : i < length b = omega arith in
-    (search needs, search needs, search needs, sym (ap (λ (t : Bool). t && inside (drop (i + 1) a) (drop (i + 1) b)) (eq-eqb _ _ (c .if1 .left))) ∙ sym (inside-step a b i ha hb) ∙ c .before .before .loop .inv .3)
+    (search needs, search needs, search needs, sym (ap (λ (t : Bool). t && inside (drop (i + 1) a) (drop (i + 1) b)) (eq-eqb _ _ (c .if1 .left)))
+    ∙ sym (inside-step a b i ha hb) ∙ at-loop .loop .inv .3)
 
 returns-2 : tie.Need-returns-2 Inv-loop μ-loop
 unfolding subset inside
 returns-2 c =
-    let a = c .before .before .before .before .args .self .words in
-    let b = c .before .before .before .before .args .other .words in
-    let i = c .before .loop .i in
+    let at-loop = c .before in
+    let at-start = at-loop .before .before .before in
+    let a = at-start .args .self .words in
+    let b = at-start .args .other .words in
+    let i = at-loop .loop .i in
     let e : i ≡ length a = omega arith in
-    ap (λ (l : List ℕ). inside l (drop i b)) (sym (drop-of-length-le a (le-of-eq (sym e)))) ∙ c .before .loop .inv .3
+    ap (λ (l : List ℕ). inside l (drop i b)) (sym (drop-of-length-le a (le-of-eq (sym e)))) ∙ at-loop .loop .inv .3
 
 pub subset-spec : {M : Type 1} → statement M
 subset-spec =
@@ -81,14 +65,14 @@ subset-spec =
     Inv-loop
     μ-loop
     loop-holds
-    mul-if1
-    array-read-if1
-    mul-if1-2
-    array-read-if1-2
-    mul-if1-3
-    array-read-if1-3
+    (λ c. search needs)
+    (λ c. search needs)
+    (λ c. search needs)
+    (λ c. search needs)
+    (λ c. search needs)
+    (λ c. search needs)
     returns
-    add-i
-    loop-less
+    (λ c. search needs)
+    (λ c. search needs)
     loop-again
     returns-2)
