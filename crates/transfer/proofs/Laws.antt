@@ -18,7 +18,7 @@ use Rattle.rules.specs.Rules.JobFile.{little, wordsAt}
 use Rattle.rules.specs.Rules.Calls.{written}
 use Rattle.rules.specs.Rules.Pairs.{alikeFrom}
 use Rattle.work.specs.Layout.{operandBase}
-use Rattle.work.specs.Words.{taggedAt, stored}
+use Rattle.work.specs.Words.{taggedAt, stored, taggedWords}
 use Rattle.work.specs.Machines.{stateFrom, stateIn}
 use Rattle.work.proofs.Ranges.{drop-sets}
 use Rattle.work.proofs.States.{state-more}
@@ -49,7 +49,7 @@ module _ (bs : List ℕ) (at n : ℕ) (w₀ w w₁ : List ℕ) (l : ℕ) (known 
   unfolding ownFrom wordsAt
   loading-more j k x s h f ej ek ex es e =
       let v = tagged (little bs (at + 8 * l) 8) (single l) in
-      let vs = v .value ∷ v .deps .words in
+      let vs = taggedWords v in
       let g : w₁ ≡ stored w l v = e ∙ (λ t. stored w (ek t) (tagged (ex t) ((es ∙ ap single ej) t))) in
       let four = single-length l in
       let room : operandBase l + 5 ≤ length w = rw (known .size) (omega arith) in

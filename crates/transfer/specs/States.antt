@@ -26,7 +26,7 @@ tagged-take w m i h =
     let e₂ = getD-take m w (i + 2) 0 (omega arith) in
     let e₃ = getD-take m w (i + 3) 0 (omega arith) in
     let e₄ = getD-take m w (i + 4) 0 (omega arith) in
-    λ t. record { value = e₀ t; deps = record { words = e₁ t ∷ e₂ t ∷ e₃ t ∷ e₄ t ∷ [] } }
+    λ t. record { value = e₄ t; deps = record { words = e₀ t ∷ e₁ t ∷ e₂ t ∷ e₃ t ∷ [] } }
 
 from-take : (w : List ℕ) (m l n : ℕ) → operandBase (l + n) ≤ m → stateFrom (take m w) l n ≡ stateFrom w l n
 from-take w m l zero h = refl

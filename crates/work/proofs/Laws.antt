@@ -20,9 +20,9 @@ four (a ∷ b ∷ c ∷ []) h = absurd (omega arith)
 four (a ∷ b ∷ c ∷ d ∷ []) h = refl
 four (a ∷ b ∷ c ∷ d ∷ e ∷ l) h = absurd (omega arith)
 
-pub store-five : (w : List ℕ) (i a : ℕ) (l : List ℕ) → length l ≡ 4
-    → set (set (set (set (set w i a) (i + 1) (getD l 0 0)) (i + 2) (getD l 1 0)) (i + 3) (getD l 2 0)) (i + 4) (getD l 3 0) ≡ sets w i (a ∷ l)
-store-five w i a l h = rw (add-one, add-two, add-three, add-four) (ap (λ (t : List ℕ). sets w i (a ∷ t)) (four l h))
+pub store-five : (w : List ℕ) (i a b c d e : ℕ)
+    → set (set (set (set (set w i a) (i + 1) b) (i + 2) c) (i + 3) d) (i + 4) e ≡ sets w i (a ∷ b ∷ c ∷ d ∷ e ∷ [])
+store-five w i a b c d e = rw (add-one, add-two, add-three, add-four)
 
 pub store-four : (w : List ℕ) (i a b c d : ℕ)
     → set (set (set (set w i a) (i + 1) b) (i + 2) c) (i + 3) d ≡ sets w i (a ∷ b ∷ c ∷ d ∷ [])

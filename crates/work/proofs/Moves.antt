@@ -92,7 +92,7 @@ module _ (w : List ℕ) (c : Control) (l p v : ℕ) (x : Tagged) (f : Fit w c) (
           bound = subst (λ (d : ℕ). WindowBound (branchAt w₁) v d k) (sym z) (h .0, b .some z);
           opened = f .opened;
         };
-        frame = drop-sets xs w (operandBase l) labels (omega (arith, e));
+        frame = drop-sets xs w (operandBase l) labels (omega arith);
       }
 
   pub assign-open : (c .depth ≡ 0 → ⊥)
@@ -119,7 +119,7 @@ module _ (w : List ℕ) (c : Control) (l p v : ℕ) (x : Tagged) (f : Fit w c) (
           opened = f .opened;
         };
         frame =
-            drop-sets xs (sets w (changeBase k) ls) (operandBase l) labels (omega (arith, e)) ∙ drop-sets ls w (changeBase k) labels (omega arith);
+            drop-sets xs (sets w (changeBase k) ls) (operandBase l) labels (omega arith) ∙ drop-sets ls w (changeBase k) labels (omega arith);
       }
 
 -- ---- rule 2

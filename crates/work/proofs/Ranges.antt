@@ -72,7 +72,7 @@ tagged-same s =
     let e₂ = s .word 2 (lit< tt) in
     let e₃ = s .word 3 (lit< tt) in
     let e₄ = s .word 4 (lit< tt) in
-    λ t. record { value = e₀ t; deps = record { words = e₁ t ∷ e₂ t ∷ e₃ t ∷ e₄ t ∷ [] } }
+    λ t. record { value = e₄ t; deps = record { words = e₀ t ∷ e₁ t ∷ e₂ t ∷ e₃ t ∷ [] } }
 
 pub change-same : {w w′ : List ℕ} (k : ℕ) → SameRange w w′ (changeBase k) 6 → changeAt w k ≡ changeAt w′ k
 change-same {w} {w′} k s =
@@ -103,15 +103,13 @@ first-in vs w i h f = ap (λ (j : ℕ). getD (sets w i vs) j 0) (sym (add-zero i
 pub tagged-stored : (w : List ℕ) (i : ℕ) (v : Tagged) → length (v .deps .words) ≡ 4 → i + 5 ≤ length w → taggedIn (storedIn w i v) i ≡ v
 tagged-stored w i v h f =
     let vs = taggedWords v in
-    let g : i + length vs ≤ length w = omega arith in
-    let e₀ = first-in vs w i (omega arith) g in
-    let e₁ = in-sets vs w i 1 (omega arith) g in
-    let e₂ = in-sets vs w i 2 (omega arith) g in
-    let e₃ = in-sets vs w i 3 (omega arith) g in
-    let e₄ = in-sets vs w i 4 (omega arith) g in
-    let F = four (v .deps .words) h in
-    let e = (λ t. e₁ t ∷ e₂ t ∷ e₃ t ∷ e₄ t ∷ []) ∙ F in
-    λ t. record { value = e₀ t; deps = record { words = e t } }
+    let e₀ = first-in vs w i (lit< tt) f in
+    let e₁ = in-sets vs w i 1 (lit< tt) f in
+    let e₂ = in-sets vs w i 2 (lit< tt) f in
+    let e₃ = in-sets vs w i 3 (lit< tt) f in
+    let e₄ = in-sets vs w i 4 (lit< tt) f in
+    let e = (λ t. e₀ t ∷ e₁ t ∷ e₂ t ∷ e₃ t ∷ []) ∙ four (v .deps .words) h in
+    λ t. record { value = e₄ t; deps = record { words = e t } }
 
 pub change-stored : (w : List ℕ) (k l : ℕ) (v : Tagged) → l < limit → length (v .deps .words) ≡ 4 → changeBase k + 6 ≤ length w
     → changeAt (sets w (changeBase k) (l ∷ taggedWords v)) k ≡ record { location = l; before = v }

@@ -19,11 +19,11 @@ use Rattle.work.specs.Machines.{stateFrom, stateIn, lastChanges, savedAt
 use Rattle.work.proofs.Ranges.{same-before, same-after, tagged-same, change-same, branch-same, log-same, tagged-stored, change-stored, drop-sets}
 
 -- ---- one operand stored
-out-stored : (w : List ℕ) (i n l : ℕ) (v : Tagged) → l < i → length (v .deps .words) ≡ 4 → stateFrom (stored w l v) i n ≡ stateFrom w i n
-out-stored w i zero l v h e = refl
-out-stored w i (suc n) l v h e =
+out-stored : (w : List ℕ) (i n l : ℕ) (v : Tagged) → l < i → stateFrom (stored w l v) i n ≡ stateFrom w i n
+out-stored w i zero l v h = refl
+out-stored w i (suc n) l v h =
     let e₁ = tagged-same (same-after (taggedWords v) w (operandBase l) (operandBase i) 5 (omega arith)) in
-    let e₂ = out-stored w (suc i) n l v (omega arith) e in
+    let e₂ = out-stored w (suc i) n l v (omega arith) in
     λ t. e₁ t ∷ e₂ t
 
 from-stored : (w : List ℕ) (i n j l : ℕ) (v : Tagged) → l ≡ i + j → length (v .deps .words) ≡ 4 → operandBase l + 5 ≤ length w
@@ -32,7 +32,7 @@ from-stored w i zero j l v h e f = refl
 from-stored w i (suc n) zero l v h e f =
     let p : i ≡ l = omega arith in
     let e₁ : taggedAt (stored w l v) i ≡ v = ap (taggedAt (stored w l v)) p ∙ tagged-stored w (operandBase l) v e f in
-    let e₂ = out-stored w (suc i) n l v (omega arith) e in
+    let e₂ = out-stored w (suc i) n l v (omega arith) in
     λ t. e₁ t ∷ e₂ t
 from-stored w i (suc n) (suc j) l v h e f =
     let e₁ = tagged-same (same-before (taggedWords v) w (operandBase l) (operandBase i) 5 (omega arith)) in

@@ -2,7 +2,7 @@
 -- Assumes nothing.
 use Prim.Native.Nat.{ℕ, _+_, _-_, _*_}
 
--- words 0 to 1279: 256 operands of 5 words, by location: the value, then the four words of its set
+-- words 0 to 1279: 256 operands of 5 words, by location: the four words of its set, then the value
 abbrev pub operandBase : ℕ → ℕ
 operandBase l = 5 * l
 

@@ -11,15 +11,18 @@ use Rattle.rules.specs.Rules.Changes.{Change}
 use Rattle.work.specs.declared.OpenBranch.{OpenBranch}
 use Rattle.work.specs.Layout.{operandBase, changeBase, branchBase}
 
--- ---- an operand: its value, then the words of its set
+-- ---- an operand: the four words of its set, then its value
 abbrev pub taggedIn : List ℕ → ℕ → Tagged
 taggedIn w i = record {
-  value = getD w i 0;
-  deps = record { words = getD w (i + 1) 0 ∷ getD w (i + 2) 0 ∷ getD w (i + 3) 0 ∷ getD w (i + 4) 0 ∷ [] };
+  value = getD w (i + 4) 0;
+  deps = record { words = getD w i 0 ∷ getD w (i + 1) 0 ∷ getD w (i + 2) 0 ∷ getD w (i + 3) 0 ∷ [] };
 }
 
+-- as its five words, whatever the length of the list that stands for the set
 abbrev pub taggedWords : Tagged → List ℕ
-taggedWords v = v .value ∷ v .deps .words
+taggedWords v =
+    let s = v .deps .words in
+    getD s 0 0 ∷ getD s 1 0 ∷ getD s 2 0 ∷ getD s 3 0 ∷ v .value ∷ []
 
 abbrev pub storedIn : List ℕ → ℕ → Tagged → List ℕ
 storedIn w i v = sets w i (taggedWords v)

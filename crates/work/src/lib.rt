@@ -7,14 +7,14 @@ use location::LocationSet;
 use rules::Tagged;
 ghost use mathlib.Core.Path.{_≡_};
 ghost use Prim.Native.Nat.{_+_, _-_, _*_, _≤_};
-ghost use mathlib.Core.List.{_∷_};
 ghost use lib.ListN.{length, replicate};
-ghost use lib.Seq.{sets};
+ghost use Rattle.rules.specs.Rules.Expressions.{tagged};
 ghost use Rattle.rules.specs.Rules.Calls.{written, workingWords};
 ghost use Rattle.work.specs.Layout.{operandBase, changeBase, firstBranch, branchBase};
-ghost use Rattle.work.specs.Words.{taggedIn, taggedAt, stored, changed, undone, branchAt, branchStored};
+ghost use Rattle.work.specs.Words.{taggedIn, storedIn, taggedAt, stored, changed, undone, branchAt, branchStored};
 
-// Location l has its operand from OPERAND * l on: the value, then the words of the set.
+// Location l has its operand from OPERAND * l on: the words of the set, then the value. With the set first a load reads the same pairs
+// of words as the store before it wrote.
 pub const OPERAND: usize = 5;
 // Change k of the log stands from LOG + CHANGE * k on: the location, then its operand of before.
 pub const LOG: usize = 1680;
@@ -42,23 +42,23 @@ fn load_at(work: &[u64], at: usize) -> Tagged
     requires { ⌜ at + 5 ≤ length (now work) ⌝ }
     ensures { λ r. ⌜ r ≡ taggedIn (now (work .entry)) at ⌝ }
 {
-    let words = [work[at + 1], work[at + 2], work[at + 3], work[at + 4]];
+    let words = [work[at], work[at + 1], work[at + 2], work[at + 3]];
     Tagged {
-        value: work[at],
+        value: work[at + 4],
         deps: LocationSet { words },
     }
 }
 
 fn store_at(work: &mut [u64], at: usize, value: u64, deps: LocationSet)
     requires { ⌜ at + 5 ≤ length (now work) ⌝ }
-    ensures { λ _. ⌜ now (work .exit) ≡ sets (now (work .entry)) at (value ∷ deps .words) ⌝ }
+    ensures { λ _. ⌜ now (work .exit) ≡ storedIn (now (work .entry)) at (tagged value deps) ⌝ }
 {
     let words = deps.words;
-    work[at] = value;
-    work[at + 1] = words[0];
-    work[at + 2] = words[1];
-    work[at + 3] = words[2];
-    work[at + 4] = words[3];
+    work[at] = words[0];
+    work[at + 1] = words[1];
+    work[at + 2] = words[2];
+    work[at + 3] = words[3];
+    work[at + 4] = value;
 }
 
 pub fn load(work: &[u64], l: Location) -> Tagged
