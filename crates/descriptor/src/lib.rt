@@ -1,6 +1,6 @@
 // An instruction's word in the table of labels: its byte offset, with the shape of what it reads first, so that a step finds the
-// operands where they stand and tests no token again. A word without operands, or of a branch, describes its instruction alone. What
-// stands at which byte of an accepted instruction is known here only.
+// operands where they stand and tests no token again. The word of an instruction without operands, or of a branch, describes
+// it alone. The bytes of an accepted instruction are read without tests here only.
 use instruction::Instruction;
 use location::Label;
 use token::Expression;

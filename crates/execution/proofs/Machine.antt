@@ -23,32 +23,32 @@ use Rattle.execution.specs.declared.Mode.the-variants as modes
 use Rattle.execution.specs.declared.rule.Rule.{Rule}
 use Rattle.execution.specs.declared.rule.Rule.the-variants as rule
 use Rattle.execution.specs.declared.step.Opening.the-variants as openings
-use Rattle.execution.specs.Next.{stepBy, forwardBy, closedAt, expiredOn, ruleBy, ruleAt, Opens}
+use Rattle.execution.specs.Next.{stepBy, forwardBy, overAt, expiredOn, ruleBy, ruleAt, Opens}
 
 -- ---- END with nothing open
-pub closed-zero : (d last p : ℕ) → d ≡ 0 → leb last p ≡ closedAt d last p
-closed-zero zero last p e = refl
-closed-zero (suc d) last p e = absurd (omega arith)
+pub over-zero : (d last p : ℕ) → d ≡ 0 → leb last p ≡ overAt d last p
+over-zero zero last p e = refl
+over-zero (suc d) last p e = absurd (omega arith)
 
-pub closed-open : (d last p : ℕ) → (d ≡ 0 → ⊥) → false ≡ closedAt d last p
-closed-open zero last p h = absurd (h refl)
-closed-open (suc d) last p h = refl
+pub over-open : (d last p : ℕ) → (d ≡ 0 → ⊥) → false ≡ overAt d last p
+over-open zero last p h = absurd (h refl)
+over-open (suc d) last p h = refl
 
 -- a place of the program is not END
-closed-inside : (d last p : ℕ) → p < last → closedAt d last p ≡ false
-closed-inside zero last p h = lt-leb last p h
-closed-inside (suc d) last p h = refl
+over-inside : (d last p : ℕ) → p < last → overAt d last p ≡ false
+over-inside zero last p h = lt-leb last p h
+over-inside (suc d) last p h = refl
 
 module _ (code : Code) where
   over-branches : (e : ℕ → OpenBranch) (g : ℕ → Change) (σ : State) (v k d p : ℕ)
-      → overOn code p (branchesOf e g σ v k d) ≡ closedAt d (endPlace code) p
+      → overOn code p (branchesOf e g σ v k d) ≡ overAt d (endPlace code) p
   unfolding overOn
   over-branches e g σ v k zero p = refl
   over-branches e g σ v k (suc d) p = refl
 
-  pub over-closed : (w : List ℕ) (c : Control) (n : ℕ) → over code (machineOf w c n) ≡ closedAt (c .depth) (endPlace code) (c .place)
+  pub over-by : (w : List ℕ) (c : Control) (n : ℕ) → over code (machineOf w c n) ≡ overAt (c .depth) (endPlace code) (c .place)
   unfolding over
-  over-closed w c n = over-branches (branchAt w) (changeAt w) (stateIn w n) (c .window) (c .log) (c .depth) (c .place)
+  over-by w c n = over-branches (branchAt w) (changeAt w) (stateIn w n) (c .window) (c .log) (c .depth) (c .place)
 
 -- ---- rule 1, by the control's numbers
 module _ (e : ℕ → OpenBranch) (g : ℕ → Change) (σ : State) (v k : ℕ) where
@@ -74,54 +74,54 @@ module _ (c : Control) (last : ℕ) (w : List ℕ) (n : ℕ) where
   abbrev branches : List Branch
   branches = machineOf w c n .branches
 
-  named : {x y : Bool} → closedAt (c .depth) last (c .place) ≡ x → expiredOn last (c .place) branches ≡ y
+  named : {x y : Bool} → overAt (c .depth) last (c .place) ≡ x → expiredOn last (c .place) branches ≡ y
       → ruleBy x y ≡ ruleAt last (c .depth) (machineOf w c n)
   named a b = sym (λ i. ruleBy (a i) (b i))
 
   pub names-over : last ≤ c .place → c .depth ≡ 0 → rule.Over ≡ ruleAt last (c .depth) (machineOf w c n)
-  names-over h z = named (sym (closed-zero (c .depth) last (c .place) z) ∙ le-leb last (c .place) h) refl
+  names-over h z = named (sym (over-zero (c .depth) last (c .place) z) ∙ le-leb last (c .place) h) refl
 
   pub names-end : last ≤ c .place → (c .depth ≡ 0 → ⊥) → rule.RollBack ≡ ruleAt last (c .depth) (machineOf w c n)
   names-end h o =
-      named (sym (closed-open (c .depth) last (c .place) o))
+      named (sym (over-open (c .depth) last (c .place) o))
       (expired-end (branchAt w) (changeAt w) (stateIn w n) (c .window) (c .log) (c .depth) last (c .place) o h)
 
   pub names-spent : (c .depth ≡ 0 → 0 < c .window) → c .place < last → c .window ≡ 0 → rule.RollBack ≡ ruleAt last (c .depth) (machineOf w c n)
   names-spent some h z =
-      named (closed-inside (c .depth) last (c .place) h)
+      named (over-inside (c .depth) last (c .place) h)
       (expired-spent (branchAt w) (changeAt w) (stateIn w n) (c .window) (c .log) (c .depth) last (c .place) (λ d. let k = some d in omega arith) z)
 
   pub names-advance : c .place < last → (c .window ≡ 0 → ⊥) → rule.Advance ≡ ruleAt last (c .depth) (machineOf w c n)
   names-advance h o =
-      named (closed-inside (c .depth) last (c .place) h)
+      named (over-inside (c .depth) last (c .place) h)
       (expired-not (branchAt w) (changeAt w) (stateIn w n) (c .window) (c .log) (c .depth) last (c .place) o h)
 
   -- and what the names say
-  pub over-named : rule.Over ≡ ruleAt last (c .depth) (machineOf w c n) → closedAt (c .depth) last (c .place) ≡ true
-  over-named = go (closedAt (c .depth) last (c .place)) (expiredOn last (c .place) branches) refl
+  pub over-named : rule.Over ≡ ruleAt last (c .depth) (machineOf w c n) → overAt (c .depth) last (c .place) ≡ true
+  over-named = go (overAt (c .depth) last (c .place)) (expiredOn last (c .place) branches) refl
     where
-      go : (x y : Bool) → closedAt (c .depth) last (c .place) ≡ x → rule.Over ≡ ruleBy x y → closedAt (c .depth) last (c .place) ≡ true
+      go : (x y : Bool) → overAt (c .depth) last (c .place) ≡ x → rule.Over ≡ ruleBy x y → overAt (c .depth) last (c .place) ≡ true
       go true y a h = a
       go false true a h = absurd (let q : _≡_ {A = ℕ} 0 1 = cc in omega arith)
       go false false a h = absurd (let q : _≡_ {A = ℕ} 0 1 = cc in omega arith)
 
   -- neither is the run over, nor has the top expired otherwise than said
   pub record Going (x : Bool) : Type 0 where
-    pub on : closedAt (c .depth) last (c .place) ≡ false
+    pub on : overAt (c .depth) last (c .place) ≡ false
     pub top : expiredOn last (c .place) branches ≡ x
 
   pub back-named : rule.RollBack ≡ ruleAt last (c .depth) (machineOf w c n) → Going true
-  back-named = go (closedAt (c .depth) last (c .place)) (expiredOn last (c .place) branches) refl refl
+  back-named = go (overAt (c .depth) last (c .place)) (expiredOn last (c .place) branches) refl refl
     where
-      go : (x y : Bool) → closedAt (c .depth) last (c .place) ≡ x → expiredOn last (c .place) branches ≡ y → rule.RollBack ≡ ruleBy x y → Going true
+      go : (x y : Bool) → overAt (c .depth) last (c .place) ≡ x → expiredOn last (c .place) branches ≡ y → rule.RollBack ≡ ruleBy x y → Going true
       go true y a b h = absurd (let q : _≡_ {A = ℕ} 0 1 = cc in omega arith)
       go false true a b h = record { on = a; top = b }
       go false false a b h = absurd (let q : _≡_ {A = ℕ} 0 1 = cc in omega arith)
 
   pub advance-named : rule.Advance ≡ ruleAt last (c .depth) (machineOf w c n) → Going false
-  advance-named = go (closedAt (c .depth) last (c .place)) (expiredOn last (c .place) branches) refl refl
+  advance-named = go (overAt (c .depth) last (c .place)) (expiredOn last (c .place) branches) refl refl
     where
-      go : (x y : Bool) → closedAt (c .depth) last (c .place) ≡ x → expiredOn last (c .place) branches ≡ y → rule.Advance ≡ ruleBy x y → Going false
+      go : (x y : Bool) → overAt (c .depth) last (c .place) ≡ x → expiredOn last (c .place) branches ≡ y → rule.Advance ≡ ruleBy x y → Going false
       go true y a b h = absurd (let q : _≡_ {A = ℕ} 0 1 = cc in omega arith)
       go false true a b h = absurd (let q : _≡_ {A = ℕ} 0 1 = cc in omega arith)
       go false false a b h = record { on = a; top = b }
@@ -152,16 +152,16 @@ module _ (c : Control) (last : ℕ) (w : List ℕ) (n : ℕ) where
       go zero h lt = absurd (omega arith)
       go (suc d) h lt = pick (c .window) (eqb (c .window) 0) (leb last (c .place)) refl refl h
 
-  closed-false : (d : ℕ) → closedAt d last (c .place) ≡ false → d ≡ 0 → c .place < last
-  closed-false zero e z = leb-false last (c .place) e
-  closed-false (suc d) e z = absurd (omega arith)
+  over-false : (d : ℕ) → overAt d last (c .place) ≡ false → d ≡ 0 → c .place < last
+  over-false zero e z = leb-false last (c .place) e
+  over-false (suc d) e z = absurd (omega arith)
 
 module _ {c : Control} {last : ℕ} {w : List ℕ} {n : ℕ} where
   pub place-inside : Going c last w n false → c .place < last
   place-inside g = go (c .depth) refl
     where
       go : (d : ℕ) → c .depth ≡ d → c .place < last
-      go zero z = closed-false c last w n (c .depth) (g .on) z
+      go zero z = over-false c last w n (c .depth) (g .on) z
       go (suc d) z = not-expired c last w n (g .top) (omega arith) .1
 
   pub window-left : Fit w c → Going c last w n false → 0 < c .window
@@ -174,7 +174,7 @@ module _ {c : Control} {last : ℕ} {w : List ℕ} {n : ℕ} where
   -- a place of the program, with some window left: the top has not expired
   pub still-going : c .place < last → 0 < c .window → Going c last w n false
   still-going h v = record {
-    on = closed-inside (c .depth) last (c .place) h;
+    on = over-inside (c .depth) last (c .place) h;
     top = expired-not (branchAt w) (changeAt w) (stateIn w n) (c .window) (c .log) (c .depth) last (c .place) (λ z. omega arith) h;
   }
 

@@ -39,10 +39,10 @@ use Rattle.execution.specs.declared.halt.Halt.the-variants as halt
 use Rattle.execution.specs.declared.rule.Rule.{Rule}
 use Rattle.execution.specs.declared.rule.Rule.the-variants as rule
 use Rattle.execution.specs.declared.step.Opening.the-variants as openings
-use Rattle.execution.specs.Next.{stepBy, forwardBy, closedAt, ruleAt, Opens}
+use Rattle.execution.specs.Next.{stepBy, forwardBy, overAt, ruleAt, Opens}
 use Rattle.execution.specs.Running.{codeIn, Loaded, CodeOf, Steady, Ready, codeAt, nextStep, observedBy, Permitted, Halts, HaltOf, FreeUntil, Running, GoesOn, reportOf, RanTo}
 use Rattle.execution.specs.Starts.{beginning, whole}
-use Rattle.execution.proofs.Machine.{over-closed, over-named, back-named, advance-named, Going, step-expired, forward-step, closed-not-expired, plain-closed, same-shown, step-most}
+use Rattle.execution.proofs.Machine.{over-by, over-named, back-named, advance-named, Going, step-expired, forward-step, closed-not-expired, plain-closed, same-shown, step-most}
 use Rattle.execution.proofs.TraceArea.{observed-more}
 
 -- at most 256 locations
@@ -78,18 +78,18 @@ module _ (p : List ℕ) (t : Trailer) where
       abbrev room : ℕ
       room = length (x .trace) / 2
 
-      over-tested : over code machine ≡ closedAt (control .depth) (t .count) (control .place)
+      over-tested : over code machine ≡ overAt (control .depth) (t .count) (control .place)
       over-tested =
-          over-closed code (x .work) control (locations t)
-          ∙ ap (λ (k : ℕ). closedAt (control .depth) k (control .place)) (code-of (drop labels (x .work)) .count)
+          over-by code (x .work) control (locations t)
+          ∙ ap (λ (k : ℕ). overAt (control .depth) k (control .place)) (code-of (drop labels (x .work)) .count)
 
-      pub halts-finished : closedAt (control .depth) (t .count) (control .place) ≡ true → Halts p t mode x Finished
+      pub halts-finished : overAt (control .depth) (t .count) (control .place) ≡ true → Halts p t mode x Finished
       halts-finished h = record {
         stops = λ os e.
             run-over (stepBy mode code) code room (t .budget - x .progress .steps) machine (gatheredOf os (x .progress)) (over-tested ∙ h);
       }
 
-      module _ (on : closedAt (control .depth) (t .count) (control .place) ≡ false) where
+      module _ (on : overAt (control .depth) (t .count) (control .place) ≡ false) where
         pub still-on : over code machine ≡ false
         still-on = over-tested ∙ on
 
@@ -290,12 +290,12 @@ module _ (p : List ℕ) (t : Trailer) where
 
     module _ {until : ℕ} {x y : Standing} (s : Stepping until x y) where
       -- the next step may be made
-      pub stepping-may : y .progress .steps < until → closedAt (y .progress .control .depth) (t .count) (y .progress .control .place) ≡ false
+      pub stepping-may : y .progress .steps < until → overAt (y .progress .control .depth) (t .count) (y .progress .control .place) ≡ false
           → Permitted p t mode y
       stepping-may h on = permitted y on (let b = s .most in omega arith) (s .room h)
 
       pub stepping-on : {z : Standing} → y .progress .steps < until
-          → closedAt (y .progress .control .depth) (t .count) (y .progress .control .place) ≡ false
+          → overAt (y .progress .control .depth) (t .count) (y .progress .control .place) ≡ false
           → Made (locations t) (nextStep p t mode y) y z → Stepping until x z
       stepping-on {z} h on m =
           let o = stepping-may h on in
@@ -363,13 +363,13 @@ module _ (p : List ℕ) (t : Trailer) where
     unfolding ended counts
     ends {w₀} {a₀} {x} {s} {R} r g h =
         let M = machineAt x (locations t) in
-        let log = gatheredOf (g .observed) (x .progress) in
+        let sofar = gatheredOf (g .observed) (x .progress) in
         let begun = codeIn p t (drop labels w₀) in
         let k = t .budget - x .progress .steps in
-        let halts : run (stepBy mode begun) begun (length a₀ / 2) k M log ≡ ended s M log =
-        subst (λ (ws : List ℕ). run (stepBy mode (codeIn p t ws)) (codeIn p t ws) (length a₀ / 2) k M log ≡ ended s M log) (g .frame)
+        let halts : run (stepBy mode begun) begun (length a₀ / 2) k M sofar ≡ ended s M sofar =
+        subst (λ (ws : List ℕ). run (stepBy mode (codeIn p t ws)) (codeIn p t ws) (length a₀ / 2) k M sofar ≡ ended s M sofar) (g .frame)
         (rw (g .size) at (h .stops (g .observed) (g .count))) in
-        let e : ended s M log ≡ R = sym halts ∙ g .rest in
+        let e : ended s M sofar ≡ R = sym halts ∙ g .rest in
         let same : g .observed ≡ R .gathered .trace = ap (λ (z : Result). z .gathered .trace) e in
         record {
           ends = record {

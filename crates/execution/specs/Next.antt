@@ -26,9 +26,9 @@ forwardBy modes.Plain code M i = ordinary code M i
 forwardBy modes.Mispredicting code M i = forward code M i
 
 -- whether a machine with d branches open, at place p of a program that ends at `last`, is at END with nothing open
-abbrev pub closedAt : ℕ → ℕ → ℕ → Bool
-closedAt zero last p = leb last p
-closedAt (suc d) last p = false
+abbrev pub overAt : ℕ → ℕ → ℕ → Bool
+overAt zero last p = leb last p
+overAt (suc d) last p = false
 
 -- whether rule 1 is the one
 abbrev pub expiredOn : ℕ → ℕ → List Branch → Bool
@@ -43,7 +43,7 @@ ruleBy false false = rule.Advance
 
 -- of a machine with d branches open, in a program that ends at `last`
 abbrev pub ruleAt : ℕ → ℕ → Machine → Rule
-ruleAt last d M = ruleBy (closedAt d last (M .place)) (expiredOn last (M .place) (M .branches))
+ruleAt last d M = ruleBy (overAt d last (M .place)) (expiredOn last (M .place) (M .branches))
 
 -- What an instruction opens: a branch is rule 2's, in the mispredicting run, and nothing leaves it to rule 3.
 abbrev pub Opens : Mode → Instr → Opening → Type 0

@@ -72,13 +72,16 @@ pub record Ready (p : List ℕ) (t : Trailer) (mode : Mode) (x : Standing) : Typ
 abbrev pub codeAt : List ℕ → Trailer → Standing → Code
 codeAt p t x = codeIn p t (drop labels (x .work))
 
--- the rules' next step from x
-abbrev pub nextStep : List ℕ → Trailer → Mode → Standing → Step
-nextStep p t mode x = stepBy mode (codeAt p t x) (machineAt x (locations t))
+-- the rules' next step of the machine in the words w, and how many observations it makes
+abbrev pub stepIn : List ℕ → Trailer → Mode → List ℕ → Control → Step
+stepIn p t mode w c = stepBy mode (codeIn p t (drop labels w)) (machineOf w c (locations t))
 
--- how many observations it makes
 abbrev pub observedBy : List ℕ → Trailer → Mode → List ℕ → Control → ℕ
-observedBy p t mode w c = length (stepBy mode (codeIn p t (drop labels w)) (machineOf w c (locations t)) .obs)
+observedBy p t mode w c = length (stepIn p t mode w c .obs)
+
+-- and from x
+abbrev pub nextStep : List ℕ → Trailer → Mode → Standing → Step
+nextStep p t mode x = stepIn p t mode (x .work) (x .progress .control)
 
 -- The next step may be made: the run is not over, the budget is not spent, and the step's observations fit.
 pub record Permitted (p : List ℕ) (t : Trailer) (mode : Mode) (x : Standing) : Type 0 where

@@ -6,18 +6,17 @@ use location::Label;
 use rules::Stop;
 use rules::Trailer;
 use stepping::Progress;
+use work::machine::Control;
 ghost use mathlib.Core.Path.{_≡_};
 ghost use mathlib.Core.Bool.{false};
 ghost use mathlib.Core.List.{List};
 ghost use Prim.Native.Nat.{ℕ, _*_, _≤_, _<_};
 ghost use lib.ListN.{length};
-ghost use Rattle.rules.specs.Rules.JobFile.{locations};
 ghost use Rattle.rules.specs.Rules.Mispredicting.{Machine};
 ghost use Rattle.rules.specs.Rules.Plain.{Code};
 ghost use Rattle.instruction.specs.Meaning.{meaning};
-ghost use Rattle.work.specs.Machines.{machineOf};
 ghost use Rattle.stepping.specs.Progress.{standing, standingBefore};
-ghost use Rattle.execution.specs.Next.{forwardBy, closedAt};
+ghost use Rattle.execution.specs.Next.{forwardBy, overAt};
 ghost use Rattle.execution.specs.Running.{Steady, observedBy, Ready, HaltOf, FreeUntil};
 
 // Nothing halts the run before its next step, or a stop does.
@@ -46,16 +45,15 @@ fn observations_of(mode: Mode, i: Instruction) -> usize
 }
 
 // How many observations the next step makes: nothing is evaluated for it.
-fn next_observations(p: &[u8], t: Trailer, mode: Mode, work: &[u64], c: Progress) -> usize
-    requires { ⌜ Steady (now p) t mode (now work) (c .control) × (closedAt (c .control .depth) (t .count) (c .control .place) ≡ false) ⌝ }
-    ensures { λ r. ⌜ r ≡ observedBy (now (p .entry)) t mode (now (work .entry)) (c .control) ⌝ }
+fn next_observations(p: &[u8], t: Trailer, mode: Mode, work: &[u64], c: Control) -> usize
+    requires { ⌜ Steady (now p) t mode (now work) c × (overAt (c .depth) (t .count) (c .place) ≡ false) ⌝ }
+    ensures { λ r. ⌜ r ≡ observedBy (now (p .entry)) t mode (now (work .entry)) c ⌝ }
 {
-    let control = c.control;
-    match super::rule::rule_of(control, t.count) {
+    match super::rule::rule_of(c, t.count) {
         Rule::Over => 0,
         Rule::RollBack => 2,
         Rule::Advance => {
-            let label = Label::new(control.place);
+            let label = Label::new(c.place);
             let d = program::fetch(work, work::LABELS, label);
             let i = descriptor::instruction_of(p, d);
             observations_of(mode, i)
@@ -75,7 +73,7 @@ pub fn halt_of(p: &[u8], t: Trailer, mode: Mode, work: &[u64], trace: &[u64], c:
     if t.budget <= c.steps {
         return Halt::Halted(Stop::Spent);
     }
-    if c.observations + next_observations(p, t, mode, work, c) <= trace.len() / 2 {
+    if c.observations + next_observations(p, t, mode, work, control) <= trace.len() / 2 {
         return Halt::Proceed;
     }
     Halt::Halted(Stop::TraceFull)

@@ -31,7 +31,7 @@ pub struct Ran {
 }
 
 // Nothing is done yet. With nothing open the window is not 0.
-fn start() -> Progress
+fn beginning() -> Progress
     ensures { λ r. ⌜ r ≡ beginning ⌝ }
 {
     Progress {
@@ -76,7 +76,7 @@ pub fn run(p: &[u8], t: Trailer, mode: Mode, work: &mut [u64], trace: &mut [u64]
     ensures { λ r. ⌜ RanTo t (now (work .entry)) (now (trace .entry)) (now (work .exit)) (now (trace .exit)) r
         (whole (now (p .entry)) t mode (now (work .entry)) (now (trace .entry))) ⌝ }
 {
-    let mut c = start();
+    let mut c = beginning();
     loop {
         match halt::halt_of(p, t, mode, &work[..], &trace[..], c) {
             Halt::Proceed => {

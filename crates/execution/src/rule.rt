@@ -4,7 +4,7 @@ ghost use mathlib.Core.Path.{_≡_};
 ghost use mathlib.Core.List.{List};
 ghost use Prim.Native.Nat.{ℕ, _<_};
 ghost use Rattle.work.specs.Machines.{machineOf};
-ghost use Rattle.execution.specs.Next.{closedAt, ruleAt};
+ghost use Rattle.execution.specs.Next.{overAt, ruleAt};
 
 // `Over` is END with nothing open; `Advance` is the next instruction, by rule 2 or 3.
 pub enum Rule {
@@ -15,7 +15,7 @@ pub enum Rule {
 
 // Whether the machine is at END with nothing open.
 pub fn is_over(c: Control, end: usize) -> bool
-    ensures { λ r. ⌜ r ≡ closedAt (c .depth) end (c .place) ⌝ }
+    ensures { λ r. ⌜ r ≡ overAt (c .depth) end (c .place) ⌝ }
 {
     if c.depth == 0 {
         return end <= c.place;

@@ -200,7 +200,7 @@ pub fn decode(p: &[u8], at: usize) -> InstructionRead
 }
 
 // What each kind of instruction takes from an open branch's window, by the kind's number.
-pub const WINDOW_COSTS: [u64; 8] = [1, 1, 1, 1, 1, 1, 1, 1];
+const WINDOW_COSTS: [u64; 8] = [1, 1, 1, 1, 1, 1, 1, 1];
 
 const BARRIER: usize = 7;
 

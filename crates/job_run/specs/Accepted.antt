@@ -5,6 +5,7 @@ use mathlib.Core.List.{List}
 use Prim.Native.Nat.{ℕ, _+_, _*_}
 use lib.ListN.{length}
 use Rattle.rules.specs.declared.Trailer.{Trailer}
+use Rattle.rules.specs.Rules.Limits.{registersSize, listSize, trailerSize}
 use Rattle.rules.specs.Rules.JobFile.{trailer, locations, stateOf, publicOf, wordsAt}
 use Rattle.rules.specs.Rules.Pairs.{withState}
 use Rattle.rules.specs.Theorems.JobLaws.{Passed, passed, Limits, limits-hold, job-init, job-public, length-stateOf, state-list, list-length}
@@ -18,10 +19,10 @@ module _ {bs : List ℕ} {t : Trailer} (a : Accepts bs t) where
   pub accepted-limits : Limits t
   accepted-limits = rw (a .trailer) (limits-hold (trailer bs) (accepted-passed .limits))
 
-  pub accepted-list : t .state + 128 + 8 * t .cells ≡ t .list
+  pub accepted-list : t .state + registersSize + 8 * t .cells ≡ t .list
   accepted-list = rw (a .trailer) (state-list accepted-passed)
 
-  pub accepted-length : t .list + 48 ≡ length bs
+  pub accepted-length : t .list + (listSize + trailerSize) ≡ length bs
   accepted-length = rw (a .trailer) (list-length accepted-passed)
 
   pub accepted-size : length (a .job .init) ≡ locations t

@@ -1,6 +1,6 @@
 // The pair of states: both runs of an accepted job, and the answer on them.
 use execution::Mode;
-use execution::Ran;
+use rules::Counts;
 use rules::PairAnswer;
 use rules::Refusal;
 use rules::Trailer;
@@ -16,20 +16,18 @@ fn compared(
     job: &[u8],
     t: Trailer,
     second: &[u8],
-    r: Ran,
-    s: Ran,
+    c: Counts,
+    d: Counts,
     first_trace: &[u64],
     second_trace: &[u64],
 ) -> PairAnswer
-    requires { ⌜ BothRan (now job) t (now second) (r .counts) (s .counts) (now «first_trace») (now «second_trace») ⌝ }
-    ensures { λ x. ⌜ x ≡ comparedOf (now (job .entry)) t (now (second .entry)) (r .counts) (s .counts)
+    requires { ⌜ BothRan (now job) t (now second) c d (now «first_trace») (now «second_trace») ⌝ }
+    ensures { λ x. ⌜ x ≡ comparedOf (now (job .entry)) t (now (second .entry)) c d
         (now («first_trace» .entry)) (now («second_trace» .entry)) ⌝ }
 {
     let public = job::public_list(job, t);
     let n = t.locations();
     let alike = transfer::alike_bytes(public, job, t.state, second, n);
-    let c = r.counts;
-    let d = s.counts;
     let first_stop = c.stop;
     let second_stop = d.stop;
     let k = 2 * c.observations;
@@ -61,7 +59,7 @@ fn compare_runs(
     let r = job_run::run_state(job, t, m, job, t.state, &mut work[..], &mut first_trace[..]);
     let s = job_run::run_state(job, t, m, second, 0, &mut work[..], &mut second_trace[..]);
     work::clear(&mut work[..]);
-    compared(job, t, second, r, s, &first_trace[..], &second_trace[..])
+    compared(job, t, second, r.counts, s.counts, &first_trace[..], &second_trace[..])
 }
 
 // The pair of an accepted job: too short or unequal areas and a second state of another size are refused before anything is written.

@@ -123,7 +123,3 @@ module _ (n : ℕ) (p : List ℕ) {xs : List Instr} {q : ℕ} (read : program n 
       → (programIn p n (drop base (sets table base (wordsFrom n p 0))) ≡ xs) × Describes p n (drop base (sets table base (wordsFrom n p 0)))
   table-written table base h =
       rw (table-words n p table base h) (written n n 0 p 0 xs q (drop (base + n) table) size read)
-
-  pub program-written : (ws : List ℕ) → n ≤ length ws
-      → (programIn p n (sets ws 0 (wordsFrom n p 0)) ≡ xs) × Describes p n (sets ws 0 (wordsFrom n p 0))
-  program-written ws h = table-written ws 0 (omega arith)

@@ -36,7 +36,7 @@ use Rattle.stepping.proofs.Laws.{gathered, counted-back, depth-of, leng
 -- ---- any step
 module _ (w w′ t t′ : List ℕ) (c c′ : Progress) (n : ℕ) (s : Step) (control : Control)
     (counted : c′ ≡ progressAfter c control (length (s .obs)) (s .seen)) where
-  -- the counts and sets are the rules' log after the step
+  -- the counts and sets are what the rules have gathered after the step
   noted : rolledBack control ≡ rolledBack (c .control) + s .back → (os : List Observation)
       → gatheredOf (os ++ s .obs) c′ ≡ note (machineOf w (c .control) n) s (gatheredOf os c)
   unfolding note

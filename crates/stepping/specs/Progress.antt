@@ -1,4 +1,4 @@
--- Where a run stands, and what it has come to: the code's progress, as the rules' log.
+-- Where a run stands, and what it has come to: the code's progress, as what the rules gather.
 -- Assumes nothing.
 use mathlib.Core.List.{List}
 use Prim.Native.Nat.{ℕ, zero, suc, _+_, _-_}
@@ -37,7 +37,7 @@ machineAt x n = machineOf (x .work) (x .progress .control) n
 abbrev pub rolledBack : Control → ℕ
 rolledBack k = k .opened - k .depth
 
--- the rules' log, with the observations that stand in the trace area
+-- what the rules gather, with the observations that stand in the trace area
 abbrev pub gatheredOf : List Observation → Progress → Gathered
 gatheredOf os c = record { trace = os; steps = c .steps; rollbacks = rolledBack (c .control); full = c .full; plain = c .plain }
 

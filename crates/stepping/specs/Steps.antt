@@ -7,7 +7,7 @@ use lib.ListN.{length, drop}
 use lib.Seq.{sets}
 use Rattle.location.specs.declared.LocationSet.{LocationSet}
 use Rattle.location.specs.Sets.{registers, limit}
-use Rattle.rules.specs.Rules.Limits.{maxInstructions, maxBudget}
+use Rattle.rules.specs.Rules.Limits.{maxBudget}
 use Rattle.rules.specs.Rules.Instructions.{Instr, Observation, windowCosts}
 use Rattle.rules.specs.Rules.Plain.{State, Code}
 use Rattle.rules.specs.Rules.Plain as plain
@@ -71,21 +71,12 @@ pub record Unexpired (w : List ℕ) (c : Progress) : Type 0 where
   pub fits : Fit w (c .control)
   pub window : 0 < c .control .window
 
--- What a step of rule 2 or 3 asks that makes so many observations.
+-- What a step of rule 2 or 3 asks that makes so many observations: some window left, room for them, and counts that do not wrap.
 pub record Steppable (observations : ℕ) (x : Standing) : Type 0 where
   pub unexpired : Unexpired (x .work) (x .progress)
-  pub counted : Counted x
-  pub more : 2 * (x .progress .observations + observations) ≤ length (x .trace)
-  pub place : x .progress .control .place < maxInstructions
-
--- What a load or a store of register r asks, with so many cells: some window left, room for its observation, and numbers in range.
-pub record Accessible (cells r : ℕ) (x : Standing) : Type 0 where
-  pub unexpired : Unexpired (x .work) (x .progress)
-  pub room : 2 * (x .progress .observations + 1) ≤ length (x .trace)
+  pub room : 2 * (x .progress .observations + observations) ≤ length (x .trace)
   pub place : x .progress .control .place + 1 < 2 ^ 64
   pub steps : x .progress .steps + 1 < 2 ^ 64
-  pub register : r < registers
-  pub most : registers + cells ≤ limit
 
 -- What instruction i leaves of the window: with a branch open less than there was, and with none not 0, if there was any.
 pub record Leaves (c : Control) (i : Instruction) (v : ℕ) : Type 0 where

@@ -19,13 +19,13 @@ ghost use lib.ListN.{length};
 ghost use lib.Seq.{sets};
 ghost use Rattle.location.specs.Sets.{registers, limit, empty};
 ghost use Rattle.rules.specs.Rules.Calls.{traceWords};
-ghost use Rattle.rules.specs.Rules.Instructions.{pc};
+ghost use Rattle.rules.specs.Rules.Instructions.{pcKind, pc};
 ghost use Rattle.rules.specs.Rules.Plain.{Code, at, put, storedTo, silent, loadEffect, storeEffect, goEffect};
 ghost use Rattle.work.specs.Words.{taggedAt};
 ghost use Rattle.work.specs.Machines.{maxWindow, Fit, Left};
 ghost use Rattle.work.specs.Moves.{ordinaryNext, MovesAt};
 ghost use Rattle.stepping.specs.Progress.{standing, standingBefore, standingAfter, gatherAt, progressAfter};
-ghost use Rattle.stepping.specs.Steps.{Unexpired, Steppable, Accessible, Leaves, RolledBackTo, OpenedTo, CarriedOut, StateKept};
+ghost use Rattle.stepping.specs.Steps.{Unexpired, Steppable, Leaves, RolledBackTo, OpenedTo, CarriedOut, StateKept};
 
 // Where a run stands: the machine's control, the counts, the full set and the plain set. The rollbacks are not counted: every branch
 // that was opened is open or rolled back.
@@ -50,7 +50,7 @@ fn observe(trace: &mut [u64], k: usize, kind: u64, value: u64)
 // Two observations, from number k on: a start or rollback with its id, then a place.
 fn observe_branch(trace: &mut [u64], k: usize, kind: u64, id: usize, place: usize)
     requires { ⌜ 2 * k + 4 ≤ length (now trace) ⌝ }
-    ensures { λ _. ⌜ now (trace .exit) ≡ sets (now (trace .entry)) (2 * k) (kind ∷ id ∷ 2 ∷ place ∷ []) ⌝ }
+    ensures { λ _. ⌜ now (trace .exit) ≡ sets (now (trace .entry)) (2 * k) (kind ∷ id ∷ pcKind ∷ place ∷ []) ⌝ }
 {
     observe(&mut trace[..], k, kind, id as u64);
     observe(&mut trace[..], k + 1, PC, place as u64);
@@ -116,7 +116,7 @@ pub fn open_branch(
     t: Tagged,
     w: usize,
 ) -> Progress
-    requires { ⌜ Steppable 2 (standing (now work) (now trace) c) × (r < registers) × (t ≡ taggedAt (now work) r) × (w ≤ maxWindow) ⌝ }
+    requires { ⌜ Steppable 2 (standing (now work) (now trace) c) × (c .control .opened + 1 < 2 ^ 64) × (r < registers) × (t ≡ taggedAt (now work) r) × (w ≤ maxWindow) ⌝ }
     ensures { λ x. ⌜ OpenedTo r (l .0) w (standingBefore work trace c) (standingAfter work trace x) ⌝ }
 {
     let control = c.control;
@@ -167,7 +167,7 @@ pub fn load(
     r: u8,
     a: Tagged,
 ) -> Progress
-    requires { ⌜ Accessible cells r (standing (now work) (now trace) c) ⌝ }
+    requires { ⌜ Steppable 1 (standing (now work) (now trace) c) × (r < registers) × (registers + cells ≤ limit) ⌝ }
     ensures { λ x. ⌜ CarriedOut cells i (λ code σ. loadEffect code σ (c .control .place) r a) (standingBefore work trace c) (standingAfter work trace x) ⌝ }
 {
     let control = c.control;
@@ -216,15 +216,15 @@ pub fn store(
     r: u8,
     a: Tagged,
 ) -> Progress
-    requires { ⌜ Accessible cells r (standing (now work) (now trace) c) ⌝ }
+    requires { ⌜ Steppable 1 (standing (now work) (now trace) c) × (r < registers) × (registers + cells ≤ limit) ⌝ }
     ensures { λ x. ⌜ CarriedOut cells i (λ code σ. storeEffect code σ (c .control .place) r a) (standingBefore work trace c) (standingAfter work trace x) ⌝ }
 {
     let control = c.control;
     let remaining = remaining_window(control, i);
     let next = store_word(&mut work[..], control, cells, r, a, remaining);
     observe(&mut trace[..], c.observations, STORE, a.value);
-    let address_set = a.deps;
-    count_step(c, next, 1, address_set)
+    let seen = a.deps;
+    count_step(c, next, 1, seen)
 }
 
 // Rule 3 for a jump or a branch to a place, which rests on v.

@@ -100,7 +100,7 @@ module _ (w : List ℕ) (n k d l u : ℕ) (x : Tagged) (room : workingWords ≤ 
       let H = bound-agree (branchAt w) (branchAt w₁) (branchAt w d .outer) m d below (h .2) in
       subst (λ (y : OpenBranch). (y .mark ≤ k + 1) × (k + 1 + d + v ≤ maxWindow) × WindowBound (branchAt w₁) (y .outer) d (y .mark)) (sym top) (a₁, b, H)
 
--- ---- an entry pushed as branch number d, with the log's length as its mark
+-- ---- a branch pushed as number d, with the log's length as its mark
 module _ (w : List ℕ) (n k d : ℕ) (b : OpenBranch) (hn : n ≤ limit) (room : workingWords ≤ length w) (apart : 6 * k + 4 * d ≤ firstBranch)
     (mark : b .mark ≡ k) (h : WindowBound (branchAt w) (b .outer) d k) where
   abbrev w₂ : List ℕ

@@ -32,7 +32,7 @@ lastChanges g (suc k) (suc j) = g k ∷ lastChanges g k j
 abbrev pub savedAt : (ℕ → Change) → State → ℕ → ℕ → State
 savedAt g σ k mark = restore (lastChanges g k (k - mark)) σ
 
--- the d open branches, the last one first, where e i is the entry of branch number i, the last one's window is v, and the log has
+-- the d open branches, the last one first, where e i is what the words hold of branch number i, the last one's window is v, and the log has
 -- k changes
 abbrev pub branchesOf : (ℕ → OpenBranch) → (ℕ → Change) → State → ℕ → ℕ → ℕ → List Branch
 branchesOf e g σ v k zero = []

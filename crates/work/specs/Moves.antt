@@ -19,11 +19,6 @@ abbrev pub lowerTo : ℕ → List Branch → List Branch
 lowerTo v [] = []
 lowerTo v (b ∷ bs) = record { id = b .id; saved = b .saved; target = b .target; window = v } ∷ bs
 
--- whether rule 1 is the one, in a program that ends at a place
-abbrev pub expiredOn : ℕ → ℕ → List Branch → Bool
-expiredOn end p [] = false
-expiredOn end p (b ∷ bs) = eqb (b .window) 0 || leb end p
-
 -- the machine after rule 3: with state σ at place p, and v left of the top's window
 abbrev pub ordinaryNext : Machine → State → ℕ → ℕ → Machine
 ordinaryNext M σ p v = record { state = σ; place = p; branches = lowerTo v (M .branches); opened = M .opened }

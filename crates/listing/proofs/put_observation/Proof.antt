@@ -86,10 +86,8 @@ returns-4 c =
 returns-5 : tie.Need-returns-5
 unfolding text
 returns-5 c =
-    let at-put-number-line4 = c .before .before in
-    let at-start = at-put-number-line4 .before .before .before .before .before in
-    let a = at-start .args in
-    rw (store-line (a .n) (a .kind) (a .value) (omega arith)) (at-put-number-line4 .put-number-line4 .ensures)
+    let a = c .before .before .before .before .before .before .before .args in
+    rw (store-line (a .n) (a .kind) (a .value) (omega arith)) (c .before .before .put-number-line4 .ensures)
 
 pub put-observation-spec : {M : Type 1} → statement M
 put-observation-spec =

@@ -52,7 +52,7 @@ returns c =
     let at-public-list = at-locations .before in
     let at-start = at-public-list .before .before .before .before .before in
     let a = at-start .args in
-    compared-same (a .job .now) (a .t) (a .second .now) (a .first-trace .now) (a .second-trace .now) (a .r .counts) (a .s .counts)
+    compared-same (a .job .now) (a .t) (a .second .now) (a .first-trace .now) (a .second-trace .now) (a .c) (a .d)
     (at-public-list .public-list .ensures) (rw (at-locations .locations .ensures) at (at-alike-bytes .alike-bytes .ensures)) (c .pair-word .ensures)
 
 pub compared-spec : {M : Type 1} → statement M

@@ -5,15 +5,6 @@ use borrow.Author.Needs.{needs}
 use Rattle.printer.proofs.instruction_count.Statement.{statement}
 use Rattle.printer.proofs.instruction_count.Tie as tie
 
-read-job-requires : tie.Need-read-job-requires
-read-job-requires c κs = search needs
-
-enum-known-t : tie.Need-enum-known-t
-enum-known-t c = search needs
-
-enum-told : tie.Need-enum-told
-enum-told c = search needs
-
 returns : tie.Need-returns
 returns c =
     count-accepted (c .before .before .before .before .before .args .job .now) _ (sym (c .before .t .given .1) ∙ c .before .before .before .read-job .ensures)
@@ -24,4 +15,4 @@ returns-2 c =
 
 pub instruction-count-spec : {M : Type 1} → statement M
 instruction-count-spec =
-    tie.close (tie.spec read-job-requires enum-known-t enum-told returns returns-2)
+    tie.close (tie.spec (λ c κs. search needs) (λ c. search needs) (λ c. search needs) returns returns-2)

@@ -5,15 +5,9 @@ use borrow.Author.Needs.{needs}
 use Rattle.printer.proofs.print_listing.Statement.{statement}
 use Rattle.printer.proofs.print_listing.Tie as tie
 
-slice-aggregate-print-run : tie.Need-slice-aggregate-print-run
-slice-aggregate-print-run c = search needs
-
-print-run-requires : tie.Need-print-run-requires
-print-run-requires c κs = search needs
-
 returns : tie.Need-returns
 unfolding room
 returns c = listed (search needs) (c .before .print-run .ensures .0) (search needs)
 
 pub print-listing-spec : {M : Type 1} → statement M
-print-listing-spec = tie.close (tie.spec slice-aggregate-print-run print-run-requires returns)
+print-listing-spec = tie.close (tie.spec (λ c. search needs) (λ c κs. search needs) returns)

@@ -1,4 +1,5 @@
--- The changes of a place that instructions make, undoing them, and the undo log: those that are live on a wrong path.
+-- "a live wrong path holds at most w changes of a place": the changes that instructions make, undoing them, and the undo log of those
+-- that are live. The working words keep such a log; no promise speaks of it yet.
 -- Assumes nothing.
 use mathlib.Core.Bool.{cond}
 use mathlib.Core.List.{List, [], _∷_, _++_}
@@ -60,7 +61,7 @@ dropped (u ∷ us) = us
 unfoldable pub logForward : Code → State → Instr → UndoLog → UndoLog
 logForward code σ i us = elim (branchView i) [ branching r l ↦ [] ∷ us | other ↦ added (changes code σ i) us ]
 
--- The log after a step that makes so many rollbacks, 0 or 1: "Rollback restores sets too", and drops the newest part.
+-- The log after a step that makes so many rollbacks, 0 or 1: a rollback drops the newest part.
 unfoldable pub logBy : ℕ → Code → Machine → UndoLog → UndoLog
 logBy zero code M us = logForward code (M .state) (fetch code (M .place)) us
 logBy (suc k) code M us = dropped us

@@ -1,5 +1,6 @@
--- The three demands, as statements about calls, and what the words on a pair of states mean. Theorems/ proves them of every job file
--- and all areas; the promises of the calls (Promises) are made of them.
+-- The three demands, as statements about calls, and what the words on a pair of states mean. Theorems/ proves, of every
+-- job file and all areas, demands 2 and 3, that a refusal alters nothing, and the words on a pair; that a call is exact is proved with its
+-- code. The promises of the calls (Promises) are made of them.
 -- Assumes nothing.
 use mathlib.Core.Path.{_≡_}
 use mathlib.Core.Bool.{true}

@@ -63,13 +63,13 @@ module _ {f : List ℕ} {a : Areas} (r : Runs f a) where
       rw plain-call-runs (take-at (traceWords os) _ (2 * length os) (length-traceWords os))
 
 -- "number only", and all areas left as they were
-abbrev pub refusal : Refusal → Areas → Called RunAnswer Areas
-refusal n a = record { answer = runRefused n; areas = a }
+abbrev pub refusedCall : Refusal → Areas → Called RunAnswer Areas
+refusedCall n a = record { answer = runRefused n; areas = a }
 
 -- every call is one or the other
 pub data View (f : List ℕ) (a : Areas) : Type 0 where
   ran : Runs f a → View f a
-  refused : (n : Refusal) → runCall f a ≡ refusal n a → View f a
+  refused : (n : Refusal) → runCall f a ≡ refusedCall n a → View f a
 
 pub view : (f : List ℕ) (a : Areas) → View f a
 unfolding runCall runParsed

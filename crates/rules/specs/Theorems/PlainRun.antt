@@ -30,14 +30,14 @@ data BottomIs (i : ℕ) (σ : State) (p : ℕ) : List Branch → Type 0 where
   bottom : {v : ℕ} → BottomIs i σ p (branchWith i σ p v ∷ [])
   above : {j v t : ℕ} {τ : State} {bs : List Branch} → j ≢ i → BottomIs i σ p bs → BottomIs i σ p (branchWith j τ t v ∷ bs)
 
--- the logs of the mispredicting and the plain run, with nothing open
+-- what the mispredicting and the plain run have gathered, with nothing open
 record ClosedLogs (g q : Gathered) : Type 0 where
   plain : g .plain ≡ q .plain
   shorter : length (q .trace) ≤ length (g .trace)
   struck : (rest : List Observation) → strike (g .trace ++ rest) ≡ q .trace ++ strike rest
 
 -- and with branch i at the bottom, which goes back to place p
-record OpenLogs (i p : ℕ) (g q : Gathered) : Type 0 where
+record OpenGathered (i p : ℕ) (g q : Gathered) : Type 0 where
   plain : g .plain ≡ q .plain
   shorter : length (q .trace) ≤ length (g .trace)
   base : List Observation
@@ -49,7 +49,7 @@ record OpenLogs (i p : ℕ) (g q : Gathered) : Type 0 where
 data Simulates : Machine → Gathered → Machine → Gathered → Type 0 where
   nothing-open : {σ : State} {p n n′ : ℕ} {g q : Gathered} → ClosedLogs g q
       → Simulates (machineWith σ p [] n) g (machineWith σ p [] n′) q
-  branch-open : {σ τ : State} {i p t n n′ : ℕ} {bs : List Branch} {g q : Gathered} → BottomIs i σ p bs → i < n → OpenLogs i p g q
+  branch-open : {σ τ : State} {i p t n n′ : ℕ} {bs : List Branch} {g q : Gathered} → BottomIs i σ p bs → i < n → OpenGathered i p g q
       → Simulates (machineWith τ t bs n) g (machineWith σ p [] n′) q
 
 module _ (code : Code) where
@@ -94,12 +94,12 @@ module _ (code : Code) where
   strikeTo-exec σ p spbarr rest i = refl
 
   -- ---- while a branch is open the plain machine waits
-  -- the logs after a step whose observations are all struck out
-  open-logs : {i p : ℕ} {g q : Gathered} (M : Machine) (s : Step) → OpenLogs i p g q
+  -- what they have gathered after a step whose observations are all struck out
+  open-gathered : {i p : ℕ} {g q : Gathered} (M : Machine) (s : Step) → OpenGathered i p g q
       → gather (M .branches) (g .plain) (s .seen) ≡ g .plain
-      → ((rest : List Observation) → strikeTo (s .obs ++ rest) i ≡ strikeTo rest i) → OpenLogs i p (note M s g) q
+      → ((rest : List Observation) → strikeTo (s .obs ++ rest) i ≡ strikeTo rest i) → OpenGathered i p (note M s g) q
   unfolding note
-  open-logs M s a e h = record {
+  open-gathered M s a e h = record {
     plain = e ∙ a .plain;
     shorter = simp length-append (omega (arith, a .shorter));
     base = a .base;
@@ -112,14 +112,14 @@ module _ (code : Code) where
   Waits M g N q s = Simulates (s .next) (note M s g) N q
 
   module _ {σ : State} {p i : ℕ} {bs : List Branch} {g q : Gathered} (τ : State) (t n n′ : ℕ)
-      (o : BottomIs i σ p bs) (lt : i < n) (a : OpenLogs i p g q) where
+      (o : BottomIs i σ p bs) (lt : i < n) (a : OpenGathered i p g q) where
     open-ordinary : (x : Instr)
         → (let M = machineWith τ t bs n in Waits M g (machineWith σ p [] n′) q (ordinary code M x))
     unfolding ordinary
     open-ordinary x =
         let M = machineWith τ t bs n in
         branch-open (bottom-lower x o) lt
-        (open-logs M (ordinary code M x) a (bottom-gather (g .plain) (exec code τ t x .seen) o) (λ rest. strikeTo-exec τ t x rest i))
+        (open-gathered M (ordinary code M x) a (bottom-gather (g .plain) (exec code τ t x .seen) o) (λ rest. strikeTo-exec τ t x rest i))
 
     open-opening : (r l : ℕ)
         → (let M = machineWith τ t bs n in Waits M g (machineWith σ p [] n′) q (opening code M r l))
@@ -129,7 +129,7 @@ module _ (code : Code) where
         let lt′ : i < suc n = omega arith in
         let ne : n ≢ i = λ (e : n ≡ i). omega arith in
         branch-open (above ne (bottom-lower (beqz r l) o)) lt′
-        (open-logs M (opening code M r l) a (bottom-gather (g .plain) (at τ (registerLocation r) .deps) o) (λ rest. refl))
+        (open-gathered M (opening code M r l) a (bottom-gather (g .plain) (at τ (registerLocation r) .deps) o) (λ rest. refl))
 
     open-forward : (x : Instr)
         → (let M = machineWith τ t bs n in Waits M g (machineWith σ p [] n′) q (forward code M x))
@@ -141,11 +141,11 @@ module _ (code : Code) where
   unfolding strikeTo
   strikeTo-rollback i p rest = rw (eq-eqb i i refl)
 
-  module _ (σ : State) {p i : ℕ} {g q : Gathered} (τ : State) (t n n′ : ℕ) (lt : i < n) (a : OpenLogs i p g q) where
-    rolled-logs : (v : ℕ)
+  module _ (σ : State) {p i : ℕ} {g q : Gathered} (τ : State) (t n n′ : ℕ) (lt : i < n) (a : OpenGathered i p g q) where
+    rolled-gathered : (v : ℕ)
         → (let M = machineWith τ t (branchWith i σ p v ∷ []) n in ClosedLogs (note M (rolling M (branchWith i σ p v) []) g) q)
     unfolding rolling note gather
-    rolled-logs v = record {
+    rolled-gathered v = record {
       plain = a .plain;
       shorter = simp length-append (omega (arith, a .shorter));
       struck = λ rest.
@@ -158,22 +158,22 @@ module _ (code : Code) where
     rolling-bottom : (v : ℕ)
         → (let b = branchWith i σ p v in let M = machineWith τ t (b ∷ []) n in Waits M g (machineWith σ p [] n′) q (rolling M b []))
     unfolding rolling
-    rolling-bottom v = nothing-open (rolled-logs v)
+    rolling-bottom v = nothing-open (rolled-gathered v)
 
     rolling-above : (j v t′ : ℕ) (ρ : State) {bs : List Branch} → j ≢ i → BottomIs i σ p bs
         → (let b = branchWith j ρ t′ v in let M = machineWith τ t (b ∷ bs) n in Waits M g (machineWith σ p [] n′) q (rolling M b bs))
     unfolding rolling gather strikeTo
     rolling-above j v t′ ρ {bs} ne o =
         let M = machineWith τ t (branchWith j ρ t′ v ∷ bs) n in
-        branch-open o lt (open-logs M (rolling M (branchWith j ρ t′ v) bs) a refl (λ rest. rw (ne-eqb j i ne)))
+        branch-open o lt (open-gathered M (rolling M (branchWith j ρ t′ v) bs) a refl (λ rest. rw (ne-eqb j i ne)))
 
   -- ---- with nothing open both make the same step, or a branch is opened
   module _ (σ : State) (p n n′ : ℕ) {g q : Gathered} (a : ClosedLogs g q) where
-    closed-logs : (x : Instr)
+    closed-gathered : (x : Instr)
         → (let M = machineWith σ p [] n in let N = machineWith σ p [] n′ in
         ClosedLogs (note M (ordinary code M x) g) (note N (ordinary code N x) q))
     unfolding note ordinary gather
-    closed-logs x =
+    closed-gathered x =
         let os = exec code σ p x .obs in
         record {
           plain = ap (λ (s : LocationSet). union s (exec code σ p x .seen)) (a .plain);
@@ -185,12 +185,12 @@ module _ (code : Code) where
               ∙ sym (append-assoc (q .trace) os (strike rest));
         }
 
-    opened-logs : (r l : ℕ)
+    opened-gathered : (r l : ℕ)
         → (let M = machineWith σ p [] n in let N = machineWith σ p [] n′ in
-        OpenLogs n (branchTo (at σ (registerLocation r)) l (suc p)) (note M (opening code M r l) g)
+        OpenGathered n (branchTo (at σ (registerLocation r)) l (suc p)) (note M (opening code M r l) g)
         (note N (ordinary code N (beqz r l)) q))
     unfolding note ordinary opening gather exec strike
-    opened-logs r l = record {
+    opened-gathered r l = record {
       plain = ap (λ (s : LocationSet). union s (at σ (registerLocation r) .deps)) (a .plain);
       shorter = simp length-append (omega (arith, a .shorter));
       base = q .trace;
@@ -202,14 +202,14 @@ module _ (code : Code) where
         → (let M = machineWith σ p [] n in let N = machineWith σ p [] n′ in let s = ordinary code M x in let u = ordinary code N x in
         Simulates (s .next) (note M s g) (u .next) (note N u q))
     unfolding ordinary lower
-    closed-ordinary x = nothing-open (closed-logs x)
+    closed-ordinary x = nothing-open (closed-gathered x)
 
     closed-opening : (r l : ℕ)
         → (let M = machineWith σ p [] n in let N = machineWith σ p [] n′ in
         let s = opening code M r l in let u = ordinary code N (beqz r l) in
         Simulates (s .next) (note M s g) (u .next) (note N u q))
     unfolding ordinary opening lower exec
-    closed-opening r l = let lt : n < suc n = omega arith in branch-open bottom lt (opened-logs r l)
+    closed-opening r l = let lt : n < suc n = omega arith in branch-open bottom lt (opened-gathered r l)
 
     -- the plain step of x is made beside the step s
     record Beside (room : ℕ) (x : Instr) (s : Step) : Type 0 where

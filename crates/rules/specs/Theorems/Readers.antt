@@ -29,15 +29,6 @@ refused-got {P} {A} {r} {x} {q} e = absurd (let z : _≡_ {A = ℕ} 0 1 = cc in 
 pub unread : {P : Type 0} → false ≡ true → P
 unread h = absurd (let z : _≡_ {A = ℕ} 0 1 = cc in omega arith)
 
-pub readable-got : {A : Type 0} (d : A) (R : Read A) → readable R ≡ true → R ≡ got (valueOr d R) (nextOffset R)
-unfolding readable nextOffset
-readable-got d (got a q) h = refl
-readable-got d (refused r) h = unread h
-
-pub got-readable : {A : Type 0} (R : Read A) {x : A} {q : ℕ} → R ≡ got x q → readable R ≡ true
-unfolding readable
-got-readable R e = rw e
-
 -- two parts, one after the other
 pub first-read : {A B : Type 0} (d : A) (R : Read A) (f : A → ℕ → Read B) → readable (andThen R f) ≡ true
     → (readable R ≡ true) × (andThen R f ≡ f (valueOr d R) (nextOffset R))

@@ -18,14 +18,14 @@ assign-requires c κs =
     let at-start = at-remaining-window .before .before .before .before in
     let p = at-start .pre in
     let r = at-register .register .ensures in
-    let h = p .register in
-    (p .unexpired .fits, (at-remaining-window .remaining-window .ensures .left (p .unexpired .window), omega arith))
+    let h = p .1 in
+    (p .0 .unexpired .fits, (at-remaining-window .remaining-window .ensures .left (p .0 .unexpired .window), omega arith))
 
 count-step-requires : tie.Need-count-step-requires
 count-step-requires c κs =
     let back-1 = c .before .before .before .before .before .before .before .before .before .before .before .before in
     let at-start = back-1 .before .before .before .before .before in
-    let p = at-start .pre in omega (arith, p .room, p .steps, at-start .good)
+    let p = at-start .pre in omega (arith, p .0 .room, p .0 .steps, at-start .good)
 
 returns : tie.Need-returns
 returns c =
@@ -39,7 +39,7 @@ returns c =
     let n = registers + a .cells in
     record {
       made = λ p code ec costs.
-          assigned-shown _ _ (at-remaining-window .remaining-window .ensures) (at-assign .assign .ensures) n (at-start .pre .most) p code costs
+          assigned-shown _ _ (at-remaining-window .remaining-window .ensures) (at-assign .assign .ensures) n (at-start .pre .2) p code costs
           (loaded (a .a .value)) (a .r)
           (loadedFrom code (stateIn (a .work .now) n) (a .a)) (at-register .register .ensures) (at-loaded-from .loaded-from .ensures code ec) refl
           (at-observe .observe .ensures)

@@ -19,18 +19,18 @@ open-branch-requires c κs =
     let q = at-start .pre .0 in
     (q .unexpired .fits,
     (at-remaining-window .remaining-window .ensures .left (q .unexpired .window),
-    (at-start .pre .3, omega (arith, q .counted .opened, q .counted .steps))))
+    (at-start .pre .4, at-start .pre .1)))
 
 observe-branch-requires : tie.Need-observe-branch-requires
 observe-branch-requires c κs =
     let at-start = c .before .before .before .before .before .before .before .before .before .before .before .before .before .before in
-    omega (arith, at-start .pre .0 .more)
+    omega (arith, at-start .pre .0 .room)
 
 count-step-requires : tie.Need-count-step-requires
 count-step-requires c κs =
     let back-1 = c .before .before .before .before .before .before .before .before .before .before .before .before in
     let at-start = back-1 .before .before .before .before .before .before in
-    omega (arith, at-start .pre .0 .more, at-start .pre .0 .counted .steps, at-start .good .1 .0)
+    omega (arith, at-start .pre .0 .room, at-start .pre .0 .steps, at-start .good .1 .0)
 
 returns : tie.Need-returns
 returns c =
@@ -42,7 +42,7 @@ returns c =
     let at-new = at-index .before in
     let at-branch-to = at-new .before in
     let at-start = at-branch-to .before .before .before .before .before in
-    opened (at-start .pre .1) (at-open-branch .open-branch .ensures) (at-start .pre .2) (at-branch-to .branch-to .ensures)
+    opened (at-start .pre .2) (at-open-branch .open-branch .ensures) (at-start .pre .3) (at-branch-to .branch-to .ensures)
     (at-branch-to2 .branch-to2 .ensures ∙ (λ i. branchTo (at-start .args .t) (at-new .new .ensures i) (at-index .index .ensures i)))
     (at-remaining-window .remaining-window .ensures) (at-observe-branch .observe-branch .ensures) (c .count-step .ensures)
 

@@ -17,13 +17,13 @@ store-word-requires c κs =
     let at-remaining-window = c .before in
     let at-start = at-remaining-window .before .before .before .before in
     let p = at-start .pre in
-    (p .unexpired .fits, at-remaining-window .remaining-window .ensures .left (p .unexpired .window), p .place, p .register, p .most)
+    (p .0 .unexpired .fits, at-remaining-window .remaining-window .ensures .left (p .0 .unexpired .window), p .0 .place, p .1, p .2)
 
 count-step-requires : tie.Need-count-step-requires
 count-step-requires c κs =
     let back-1 = c .before .before .before .before .before .before .before .before .before .before .before .before in
     let at-start = back-1 .before in
-    let p = at-start .pre in omega (arith, p .room, p .steps, at-start .good)
+    let p = at-start .pre in omega (arith, p .0 .room, p .0 .steps, at-start .good)
 
 returns : tie.Need-returns
 returns c =

@@ -7,18 +7,6 @@ use Rattle.transfer.proofs.Laws.{alike-word}
 use Rattle.transfer.proofs.alike_at.Statement.{statement}
 use Rattle.transfer.proofs.alike_at.Tie as tie
 
-word-at-requires : tie.Need-word-at-requires
-word-at-requires c κs = search needs
-
-word-at-requires-2 : tie.Need-word-at-requires-2
-word-at-requires-2 c κs = search needs
-
-new-requires : tie.Need-new-requires
-new-requires c κs = search needs
-
-member-requires : tie.Need-member-requires
-member-requires c κs = search needs
-
 returns : tie.Need-returns
 returns c =
     let a = c .before .before .before .before .before .before .before .args in
@@ -44,4 +32,4 @@ returns-2 c =
 pub alike-at-spec : {M : Type 1} → statement M
 alike-at-spec =
     tie.close
-    (tie.spec word-at-requires word-at-requires-2 new-requires member-requires returns returns-2)
+    (tie.spec (λ c κs. search needs) (λ c κs. search needs) (λ c κs. search needs) (λ c κs. search needs) returns returns-2)

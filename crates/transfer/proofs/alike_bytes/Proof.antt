@@ -24,9 +24,6 @@ abbrev μ-loop : tie.MeasureT-loop
 loop-holds : tie.Need-loop-holds Inv-loop μ-loop
 loop-holds c = (zero-le, rw (sub-zero, add-zero))
 
-alike-at-requires : tie.Need-alike-at-requires Inv-loop μ-loop
-alike-at-requires c κs = search needs
-
 returns : tie.Need-returns Inv-loop μ-loop
 returns c =
     let a = c .before .before .before .before .before .before .args in
@@ -61,7 +58,7 @@ alike-bytes-spec =
     Inv-loop
     μ-loop
     loop-holds
-    alike-at-requires
+    (λ c κs. search needs)
     returns
     add-l
     loop-less

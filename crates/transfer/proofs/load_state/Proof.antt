@@ -27,9 +27,6 @@ single-requires c κs = tt
 new-requires-2 : tie.Need-new-requires-2 Inv-loop μ-loop
 new-requires-2 c κs = tt
 
-store-requires : tie.Need-store-requires Inv-loop μ-loop
-store-requires c κs = search needs
-
 add-loaded : tie.Need-add-loaded Inv-loop μ-loop
 add-loaded c = omega arith
 
@@ -69,7 +66,7 @@ load-state-spec =
     new-requires
     single-requires
     new-requires-2
-    store-requires
+    (λ c κs. search needs)
     add-loaded
     loop-less
     loop-again

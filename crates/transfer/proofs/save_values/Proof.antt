@@ -26,9 +26,6 @@ loop-holds c = (zero-le, refl, rw sub-zero)
 new-requires : tie.Need-new-requires Inv-loop μ-loop
 new-requires c κs = tt
 
-load-requires : tie.Need-load-requires Inv-loop μ-loop
-load-requires c κs = search needs
-
 mul-area : tie.Need-mul-area Inv-loop μ-loop
 mul-area c = omega arith
 
@@ -68,7 +65,7 @@ save-values-spec =
     μ-loop
     loop-holds
     new-requires
-    load-requires
+    (λ c κs. search needs)
     mul-area
     slice-write-area
     add-saved

@@ -6,27 +6,6 @@ use borrow.Author.Needs.{needs}
 use Rattle.work.proofs.change.Statement.{statement}
 use Rattle.work.proofs.change.Tie as tie
 
-mul-at : tie.Need-mul-at
-mul-at c = search needs
-
-add-at : tie.Need-add-at
-add-at c = search needs
-
-load-requires : tie.Need-load-requires
-load-requires c κs = search needs
-
-index-requires : tie.Need-index-requires
-index-requires c κs = search needs
-
-mul-work : tie.Need-mul-work
-mul-work c = search needs
-
-slice-write-work : tie.Need-slice-write-work
-slice-write-work c = search needs
-
-add-store-at : tie.Need-add-store-at
-add-store-at c = search needs
-
 store-at-requires : tie.Need-store-at-requires
 store-at-requires c κs = simp length-set (omega arith)
 
@@ -50,13 +29,13 @@ pub change-spec : {M : Type 1} → statement M
 change-spec =
     tie.close
     (tie.spec
-    mul-at
-    add-at
-    load-requires
-    index-requires
-    mul-work
-    slice-write-work
-    add-store-at
+    (λ c. search needs)
+    (λ c. search needs)
+    (λ c κs. search needs)
+    (λ c κs. search needs)
+    (λ c. search needs)
+    (λ c. search needs)
+    (λ c. search needs)
     store-at-requires
     store-requires
     same-length

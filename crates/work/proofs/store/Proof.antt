@@ -4,18 +4,6 @@ use borrow.Author.Needs.{needs}
 use Rattle.work.proofs.store.Statement.{statement}
 use Rattle.work.proofs.store.Tie as tie
 
-index-requires : tie.Need-index-requires
-index-requires c κs = search needs
-
-mul-store-at : tie.Need-mul-store-at
-mul-store-at c = search needs
-
-store-at-requires : tie.Need-store-at-requires
-store-at-requires c κs = search needs
-
-same-length : tie.Need-same-length
-same-length c = search needs
-
 returns : tie.Need-returns
 returns c =
     let a = c .before .before .before .before .before .before .before .args in
@@ -24,4 +12,4 @@ returns c =
     store-law (a .work .now) (g .last .0) (a .l .0) (j .result) (a .v) (j .ensures) (g .ensures)
 
 pub store-spec : {M : Type 1} → statement M
-store-spec = tie.close (tie.spec index-requires mul-store-at store-at-requires same-length returns)
+store-spec = tie.close (tie.spec (λ c κs. search needs) (λ c. search needs) (λ c κs. search needs) (λ c. search needs) returns)

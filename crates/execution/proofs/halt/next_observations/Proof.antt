@@ -17,16 +17,16 @@ use Rattle.execution.proofs.halt.next_observations.Tie as tie
 
 rule-of-requires : tie.Need-rule-of-requires
 rule-of-requires c κs =
-    let at-start = c .before .before .before in
-    closed-window (at-start .args .c .control) (at-start .pre .0 .fits)
+    let at-start = c .before .before in
+    closed-window (at-start .args .c) (at-start .pre .0 .fits)
 
 fetch-requires : tie.Need-fetch-requires
 fetch-requires c κs =
     let at-enum-told3 = c .before in
     let at-rule-of = at-enum-told3 .before .before in
-    let at-start = at-rule-of .before .before .before .before in
+    let at-start = at-rule-of .before .before .before in
     let a = at-start .args in
-    let g = advance-named (a .c .control) (a .t .count) (a .work .now) (locations (a .t))
+    let g = advance-named (a .c) (a .t .count) (a .work .now) (locations (a .t))
     (sym (at-enum-told3 .enum-told3 .given .1) ∙ at-rule-of .rule-of .ensures (a .work .now) (locations (a .t))) in
     let i = place-inside g in
     let m = at-start .pre .0 .loaded .limits .count-most in
@@ -38,30 +38,30 @@ instruction-of-requires c κs =
     let at-new = c .before in
     let at-enum-told3 = at-new .before in
     let at-rule-of = at-enum-told3 .before .before in
-    let at-start = at-rule-of .before .before .before .before in
+    let at-start = at-rule-of .before .before .before in
     let a = at-start .args in
-    let g = advance-named (a .c .control) (a .t .count) (a .work .now) (locations (a .t))
+    let g = advance-named (a .c) (a .t .count) (a .work .now) (locations (a .t))
     (sym (at-enum-told3 .enum-told3 .given .1) ∙ at-rule-of .rule-of .ensures (a .work .now) (locations (a .t))) in
-    fetched-valid (a .p .now) (a .t) (a .mode) (a .work .now) (a .c .control) (at-start .pre .0) (place-inside g) (at-new .new .ensures)
+    fetched-valid (a .p .now) (a .t) (a .mode) (a .work .now) (a .c) (at-start .pre .0) (place-inside g) (at-new .new .ensures)
     (c .fetch .ensures)
 
 returns : tie.Need-returns
 returns c =
     let at-rule-of = c .before .before in
-    let at-start = at-rule-of .before .before .before .before in
+    let at-start = at-rule-of .before .before .before in
     let a = at-start .args in
-    let o = over-named (a .c .control) (a .t .count) (a .work .now) (locations (a .t))
+    let o = over-named (a .c) (a .t .count) (a .work .now) (locations (a .t))
     (sym (c .enum-told .given .1) ∙ at-rule-of .rule-of .ensures (a .work .now) (locations (a .t))) in
     absurd (true≢false (sym o ∙ at-start .pre .1))
 
 returns-2 : tie.Need-returns-2
 returns-2 c =
     let at-rule-of = c .before .before in
-    let at-start = at-rule-of .before .before .before .before in
+    let at-start = at-rule-of .before .before .before in
     let a = at-start .args in
-    let g = back-named (a .c .control) (a .t .count) (a .work .now) (locations (a .t))
+    let g = back-named (a .c) (a .t .count) (a .work .now) (locations (a .t))
     (sym (c .enum-told2 .given .1) ∙ at-rule-of .rule-of .ensures (a .work .now) (locations (a .t))) in
-    rolls-two (a .p .now) (a .t) (a .mode) (a .work .now) (a .c .control) (at-start .pre .0) g
+    rolls-two (a .p .now) (a .t) (a .mode) (a .work .now) (a .c) (at-start .pre .0) g
 
 returns-3 : tie.Need-returns-3
 returns-3 c =
@@ -70,10 +70,10 @@ returns-3 c =
     let at-new = at-fetch .before in
     let at-enum-told3 = at-new .before in
     let at-rule-of = at-enum-told3 .before .before in
-    let at-start = at-rule-of .before .before .before .before in
+    let at-start = at-rule-of .before .before .before in
     let a = at-start .args in
     let w = a .work .now in
-    let k = a .c .control in
+    let k = a .c in
     let code = codeIn (a .p .now) (a .t) (drop labels w) in
     let M = machineOf w k (locations (a .t)) in
     let g = advance-named k (a .t .count) w (locations (a .t))

@@ -59,13 +59,16 @@ open-branch-requires c κs =
     let g = still-going (at-start .pre .inside) (at-start .pre .window) in
     let l = at-start .pre .ready .steady .loaded .limits .count-most in
     let i = at-start .pre .inside in
+    let steps = at-start .pre .ready .counted .steps in
+    let opened = at-start .pre .ready .counted .opened in
+    let room = branch-room (a .p .now) (a .t) (a .mode) (a .work .now) k g same (a .c .observations) (length (a .trace .now)) (at-start .pre .room) o in
     (record {
       unexpired = record { fits = at-start .pre .ready .steady .fits; window = at-start .pre .window };
-      counted = at-start .pre .ready .counted;
-      more = branch-room (a .p .now) (a .t) (a .mode) (a .work .now) k g same (a .c .observations) (length (a .trace .now)) (at-start .pre .room) o;
+      room = room;
       place = omega arith;
-    }, rw (o .1) at (v .below), rw (o .1) at (at-source-value .source-value .ensures)
-    ∙ register-value _ _, at-start .pre .ready .steady .loaded .limits .window)
+      steps = omega arith;
+    }, omega arith, rw (o .1) at (v .below), rw (o .1) at (at-source-value .source-value .ensures) ∙ register-value _ _,
+    at-start .pre .ready .steady .loaded .limits .window)
 
 instruction-of-requires : tie.Need-instruction-of-requires
 instruction-of-requires c κs =

@@ -34,14 +34,8 @@ load-requires c κs =
     let l = q .limits .cells in
     let h = q .place in
     let s = q .counted .steps in
-    record {
-      unexpired = q .unexpired;
-      room = load-shown (at-start .pre) (at-i2 .i2 .given .1);
-      place = omega arith;
-      steps = omega arith;
-      register = q .below;
-      most = omega arith;
-    }
+    (record { unexpired = q .unexpired; room = load-shown (at-start .pre) (at-i2 .i2 .given .1); place = omega arith; steps = omega arith },
+    q .below, omega arith)
 
 store-requires : tie.Need-store-requires
 store-requires c κs =
@@ -51,14 +45,8 @@ store-requires c κs =
     let l = q .limits .cells in
     let h = q .place in
     let s = q .counted .steps in
-    record {
-      unexpired = q .unexpired;
-      room = store-shown (at-start .pre) (at-i3 .i3 .given .1);
-      place = omega arith;
-      steps = omega arith;
-      register = q .below;
-      most = omega arith;
-    }
+    (record { unexpired = q .unexpired; room = store-shown (at-start .pre) (at-i3 .i3 .given .1); place = omega arith; steps = omega arith },
+    q .below, omega arith)
 
 go-to-requires : tie.Need-go-to-requires
 go-to-requires c κs =

@@ -7,12 +7,6 @@ use borrow.Author.Needs.{needs}
 use Rattle.work.proofs.machine.assign.Statement.{statement}
 use Rattle.work.proofs.machine.assign.Tie as tie
 
-store-requires : tie.Need-store-requires
-store-requires c κs = search needs
-
-same-length : tie.Need-same-length
-same-length c = search needs
-
 returns : tie.Need-returns
 returns c =
     let a = c .before .before .before .before .before .before .args in
@@ -29,9 +23,6 @@ change-requires c κs =
 add-t17 : tie.Need-add-t17
 add-t17 c = omega (arith, fit-bound (c .before .before .before .before .before .before .pre .0))
 
-same-length-2 : tie.Need-same-length-2
-same-length-2 c = search needs
-
 returns-2 : tie.Need-returns-2
 returns-2 c =
     let a = c .before .before .before .before .before .before .args in
@@ -42,4 +33,4 @@ returns-2 c =
 
 pub assign-spec : {M : Type 1} → statement M
 assign-spec =
-    tie.close (tie.spec store-requires same-length returns change-requires add-t17 same-length-2 returns-2)
+    tie.close (tie.spec (λ c κs. search needs) (λ c. search needs) returns change-requires add-t17 (λ c. search needs) returns-2)

@@ -15,15 +15,6 @@ push-branch-requires c κs =
 add-t14 : tie.Need-add-t14
 add-t14 c = omega (arith, fit-bound (c .before .before .before .before .before .pre .0))
 
-add-t15 : tie.Need-add-t15
-add-t15 c = search needs
-
-new-window-requires : tie.Need-new-window-requires
-new-window-requires c κs = search needs
-
-same-length : tie.Need-same-length
-same-length c = search needs
-
 returns : tie.Need-returns
 returns c =
     let a = c .before .before .before .before .before .before .args in
@@ -33,4 +24,4 @@ returns c =
 
 pub open-branch-spec : {M : Type 1} → statement M
 open-branch-spec =
-    tie.close (tie.spec push-branch-requires add-t14 add-t15 new-window-requires same-length returns)
+    tie.close (tie.spec push-branch-requires add-t14 (λ c. search needs) (λ c κs. search needs) (λ c. search needs) returns)

@@ -5,9 +5,6 @@ use borrow.Author.Needs.{needs}
 use Rattle.work.proofs.machine.roll_back.Statement.{statement}
 use Rattle.work.proofs.machine.roll_back.Tie as tie
 
-sub-depth : tie.Need-sub-depth
-sub-depth c = search needs
-
 load-branch-requires : tie.Need-load-branch-requires
 load-branch-requires c κs =
     let f = c .before .before .before .pre .0 in
@@ -17,9 +14,6 @@ undo-requires : tie.Need-undo-requires
 undo-requires c κs =
     let f = c .before .before .before .before .before .pre .0 in
     omega (arith, fit-bound f, f .room)
-
-same-length : tie.Need-same-length
-same-length c = search needs
 
 returns : tie.Need-returns
 returns c =
@@ -31,4 +25,4 @@ returns c =
 
 pub roll-back-spec : {M : Type 1} → statement M
 roll-back-spec =
-    tie.close (tie.spec sub-depth load-branch-requires undo-requires same-length returns)
+    tie.close (tie.spec (λ c. search needs) load-branch-requires undo-requires (λ c. search needs) returns)

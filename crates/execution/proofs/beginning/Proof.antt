@@ -1,11 +1,11 @@
--- `start` meets its contract. Assumes nothing.
+-- `beginning` meets its contract. Assumes nothing.
 use mathlib.Core.Path.{ap₂}
 use Rattle.location.specs.declared.LocationSet.{LocationSet}
 use Rattle.stepping.specs.declared.Progress.{Progress}
 use Rattle.execution.specs.Starts.{beginning}
 use borrow.Author.Needs.{needs}
-use Rattle.execution.proofs.start.Statement.{statement}
-use Rattle.execution.proofs.start.Tie as tie
+use Rattle.execution.proofs.beginning.Statement.{statement}
+use Rattle.execution.proofs.beginning.Tie as tie
 
 returns : tie.Need-returns
 unfolding beginning
@@ -21,5 +21,5 @@ returns c =
     })
     (at-empty .empty .ensures) (c .empty2 .ensures)
 
-pub start-spec : {M : Type 1} → statement M
-start-spec = tie.close (tie.spec (λ c κs. search needs) (λ c κs. search needs) returns)
+pub beginning-spec : {M : Type 1} → statement M
+beginning-spec = tie.close (tie.spec (λ c κs. search needs) (λ c κs. search needs) returns)
