@@ -94,7 +94,8 @@ pub fn with_register(kind: u8, r: u8, e: Expression) -> Instruction
 }
 
 fn read_with_register(p: &[u8], at: usize, kind: u8) -> InstructionRead
-    ensures { λ r. ⌜ (instructionReadMeaning (now (p .entry)) r ≡ withRegister (withRegisterOf kind) (now (p .entry)) at) × InstructionTested (now (p .entry)) r ⌝ }
+    ensures { λ r. ⌜ (instructionReadMeaning (now (p .entry)) r ≡ withRegister (withRegisterOf kind) (now (p .entry)) at)
+        × InstructionTested (now (p .entry)) r ⌝ }
 {
     match read_register(p, at) {
         RegisterRead::Found(r, start) => match token::read_expression(p, start) {

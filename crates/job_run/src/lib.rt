@@ -21,7 +21,8 @@ pub fn run_state(
     trace: &mut [u64],
 ) -> Ran
     requires { ⌜ Runnable (now job) t (now states) at (now work) ⌝ }
-    ensures { λ r. ⌜ RunOf (now (job .entry)) t mode (now (states .entry)) at (now (work .entry)) (now (work .exit)) (now (trace .entry)) (now (trace .exit)) r ⌝ }
+    ensures { λ r. ⌜ RunOf (now (job .entry)) t mode (now (states .entry)) at
+        (now (work .entry)) (now (work .exit)) (now (trace .entry)) (now (trace .exit)) r ⌝ }
 {
     let n = t.locations();
     transfer::load_state(states, at, n, &mut work[..]);

@@ -59,7 +59,15 @@ fn compare_runs(
     let r = job_run::run_state(job, t, m, job, t.state, &mut work[..], &mut first_trace[..]);
     let s = job_run::run_state(job, t, m, second, 0, &mut work[..], &mut second_trace[..]);
     work::clear(&mut work[..]);
-    compared(job, t, second, r.counts, s.counts, &first_trace[..], &second_trace[..])
+    compared(
+        job,
+        t,
+        second,
+        r.counts,
+        s.counts,
+        &first_trace[..],
+        &second_trace[..],
+    )
 }
 
 // The pair of an accepted job: too short or unequal areas and a second state of another size are refused before anything is written.

@@ -116,7 +116,8 @@ pub fn open_branch(
     t: Tagged,
     w: usize,
 ) -> Progress
-    requires { ⌜ Steppable 2 (standing (now work) (now trace) c) × (c .control .opened + 1 < 2 ^ 64) × (r < registers) × (t ≡ taggedAt (now work) r) × (w ≤ maxWindow) ⌝ }
+    requires { ⌜ Steppable 2 (standing (now work) (now trace) c) × (c .control .opened + 1 < 2 ^ 64)
+        × (r < registers) × (t ≡ taggedAt (now work) r) × (w ≤ maxWindow) ⌝ }
     ensures { λ x. ⌜ OpenedTo r (l .0) w (standingBefore work trace c) (standingAfter work trace x) ⌝ }
 {
     let control = c.control;
@@ -223,8 +224,8 @@ pub fn store(
     let remaining = remaining_window(control, i);
     let next = store_word(&mut work[..], control, cells, r, a, remaining);
     observe(&mut trace[..], c.observations, STORE, a.value);
-    let seen = a.deps;
-    count_step(c, next, 1, seen)
+    let address_set = a.deps;
+    count_step(c, next, 1, address_set)
 }
 
 // Rule 3 for a jump or a branch to a place, which rests on v.

@@ -7,8 +7,29 @@ use borrow.Author.Needs.{needs}
 use Rattle.cases.proofs.lay_out.Statement.{statement}
 use Rattle.cases.proofs.lay_out.Tie as tie
 
+copy-requires : tie.Need-copy-requires
+copy-requires c κs = search needs
+
+add-q : tie.Need-add-q
+add-q c = search needs
+
+mul-q : tie.Need-mul-q
+mul-q c = search needs
+
+add-q-2 : tie.Need-add-q-2
+add-q-2 c = search needs
+
+slice-write-job : tie.Need-slice-write-job
+slice-write-job c = search needs
+
+add-job : tie.Need-add-job
+add-job c = search needs
+
 slice-write-job-2 : tie.Need-slice-write-job-2
 slice-write-job-2 c = simp length-set (omega arith)
+
+add-job-2 : tie.Need-add-job-2
+add-job-2 c = search needs
 
 slice-write-job-3 : tie.Need-slice-write-job-3
 slice-write-job-3 c = simp length-set (omega arith)
@@ -16,23 +37,53 @@ slice-write-job-3 c = simp length-set (omega arith)
 slice-write-job-4 : tie.Need-slice-write-job-4
 slice-write-job-4 c = simp length-set (omega arith)
 
+cast-job : tie.Need-cast-job
+cast-job c = search needs
+
+add-job-3 : tie.Need-add-job-3
+add-job-3 c = search needs
+
 slice-write-job-5 : tie.Need-slice-write-job-5
 slice-write-job-5 c = simp length-set (omega arith)
+
+cast-job-2 : tie.Need-cast-job-2
+cast-job-2 c = search needs
+
+add-job-4 : tie.Need-add-job-4
+add-job-4 c = search needs
 
 slice-write-job-6 : tie.Need-slice-write-job-6
 slice-write-job-6 c = simp length-set (omega arith)
 
+cast-job-3 : tie.Need-cast-job-3
+cast-job-3 c = search needs
+
+add-job-5 : tie.Need-add-job-5
+add-job-5 c = search needs
+
 slice-write-job-7 : tie.Need-slice-write-job-7
 slice-write-job-7 c = simp length-set (omega arith)
+
+add-job-6 : tie.Need-add-job-6
+add-job-6 c = search needs
 
 slice-write-job-8 : tie.Need-slice-write-job-8
 slice-write-job-8 c = simp length-set (omega arith)
 
+add-job-7 : tie.Need-add-job-7
+add-job-7 c = search needs
+
 slice-write-job-9 : tie.Need-slice-write-job-9
 slice-write-job-9 c = simp length-set (omega arith)
 
+add-job-8 : tie.Need-add-job-8
+add-job-8 c = search needs
+
 slice-write-job-10 : tie.Need-slice-write-job-10
 slice-write-job-10 c = simp length-set (omega arith)
+
+add-job-9 : tie.Need-add-job-9
+add-job-9 c = search needs
 
 slice-write-job-11 : tie.Need-slice-write-job-11
 slice-write-job-11 c = simp length-set (omega arith)
@@ -51,32 +102,32 @@ pub lay-out-spec : {M : Type 1} → statement M
 lay-out-spec =
     tie.close
     (tie.spec
-    (λ c κs. search needs)
-    (λ c. search needs)
-    (λ c. search needs)
-    (λ c. search needs)
-    (λ c. search needs)
-    (λ c. search needs)
+    copy-requires
+    add-q
+    mul-q
+    add-q-2
+    slice-write-job
+    add-job
     slice-write-job-2
-    (λ c. search needs)
+    add-job-2
     slice-write-job-3
     slice-write-job-4
-    (λ c. search needs)
-    (λ c. search needs)
+    cast-job
+    add-job-3
     slice-write-job-5
-    (λ c. search needs)
-    (λ c. search needs)
+    cast-job-2
+    add-job-4
     slice-write-job-6
-    (λ c. search needs)
-    (λ c. search needs)
+    cast-job-3
+    add-job-5
     slice-write-job-7
-    (λ c. search needs)
+    add-job-6
     slice-write-job-8
-    (λ c. search needs)
+    add-job-7
     slice-write-job-9
-    (λ c. search needs)
+    add-job-8
     slice-write-job-10
-    (λ c. search needs)
+    add-job-9
     slice-write-job-11
     same-length
     returns)

@@ -18,8 +18,14 @@ returns-3 c =
     let at-if2 = c .before in
     let at-token = at-if2 .before in
     let at-if1 = at-token .before in
-    rw (← at-if1 .before .byte-at .ensures, at-if1 .if1 .left, ← at-token .byte-at2 .ensures, le-ltb _ 16 (at-if2 .if2 .left), ne-eqb _ 16
-    (c .if3 .taken))
+    rw (
+      ← at-if1 .before .byte-at .ensures,
+      at-if1 .if1 .left,
+      ← at-token .byte-at2 .ensures,
+      le-ltb _ 16 (at-if2 .if2 .left),
+      ne-eqb _ 16
+          (c .if3 .taken),
+    )
 
 returns-4 : tie.Need-returns-4
 returns-4 c =

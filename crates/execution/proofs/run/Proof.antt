@@ -22,10 +22,13 @@ abbrev μ-loop : tie.MeasureT-loop
 loop-holds : tie.Need-loop-holds Inv-loop μ-loop
 loop-holds c =
     let at-start = c .before .before .before .before in
-    let a = at-start .args in
-    (refl, refl, rw (c .beginning .ensures)
-    (ready-start (a .p .now) (a .t) (a .mode) (a .work .now) (a .trace .now) (at-start .pre .0) (at-start .pre .1)),
-    rw (c .beginning .ensures) (running-start (a .p .now) (a .t) (a .mode) (a .work .now) (a .trace .now)))
+    let a = at-start .args in (
+      refl,
+      refl,
+      rw (c .beginning .ensures)
+          (ready-start (a .p .now) (a .t) (a .mode) (a .work .now) (a .trace .now) (at-start .pre .0) (at-start .pre .1)),
+      rw (c .beginning .ensures) (running-start (a .p .now) (a .t) (a .mode) (a .work .now) (a .trace .now)),
+    )
 
 halt-of-requires : tie.Need-halt-of-requires Inv-loop μ-loop
 halt-of-requires c κs =

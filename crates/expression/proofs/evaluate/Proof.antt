@@ -99,9 +99,11 @@ loop-less c = omega arith
 loop-again : tie.Need-loop-again Inv-loop μ-loop
 loop-again c =
     let k = c .before .before in
-    let e = k .taken .ensures in
-    (omega arith, rw e
-    (turned (k .before) .again (c .before .token-value .result) (c .gather .result) (rw e at (c .before .token-value .ensures)) (c .gather .ensures)))
+    let e = k .taken .ensures in (
+      omega arith,
+      rw e
+          (turned (k .before) .again (c .before .token-value .result) (c .gather .result) (rw e at (c .before .token-value .ensures)) (c .gather .ensures)),
+    )
 
 array-read-t27 : tie.Need-array-read-t27 Inv-loop μ-loop
 array-read-t27 c = lit< tt

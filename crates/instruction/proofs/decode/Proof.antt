@@ -24,25 +24,31 @@ returns-3 : tie.Need-returns-3
 unfolding fields
 returns-3 c =
     let b = c .before in
-    let a = b .before .before .before .before .args in
-    (c .read-with-register .ensures .0 ∙ sym
-    (instr-kind (a .p .now) (a .at) 1 (b .before .before .if1 .left) (b .match .keys2)), c .read-with-register .ensures .1)
+    let a = b .before .before .before .before .args in (
+      c .read-with-register .ensures .0 ∙ sym
+          (instr-kind (a .p .now) (a .at) 1 (b .before .before .if1 .left) (b .match .keys2)),
+      c .read-with-register .ensures .1,
+    )
 
 returns-4 : tie.Need-returns-4
 unfolding fields
 returns-4 c =
     let b = c .before in
-    let a = b .before .before .before .before .args in
-    (c .read-with-register2 .ensures .0 ∙ sym
-    (instr-kind (a .p .now) (a .at) 2 (b .before .before .if1 .left) (b .match .keys3)), c .read-with-register2 .ensures .1)
+    let a = b .before .before .before .before .args in (
+      c .read-with-register2 .ensures .0 ∙ sym
+          (instr-kind (a .p .now) (a .at) 2 (b .before .before .if1 .left) (b .match .keys3)),
+      c .read-with-register2 .ensures .1,
+    )
 
 returns-5 : tie.Need-returns-5
 unfolding fields
 returns-5 c =
     let b = c .before in
-    let a = b .before .before .before .before .args in
-    (c .read-with-register3 .ensures .0 ∙ sym
-    (instr-kind (a .p .now) (a .at) 3 (b .before .before .if1 .left) (b .match .keys4)), c .read-with-register3 .ensures .1)
+    let a = b .before .before .before .before .args in (
+      c .read-with-register3 .ensures .0 ∙ sym
+          (instr-kind (a .p .now) (a .at) 3 (b .before .before .if1 .left) (b .match .keys4)),
+      c .read-with-register3 .ensures .1,
+    )
 
 returns-6 : tie.Need-returns-6
 unfolding fields
@@ -62,9 +68,11 @@ returns-8 : tie.Need-returns-8
 unfolding fields
 returns-8 c =
     let b = c .before in
-    let a = b .before .before .before .before .args in
-    (c .read-conditional .ensures .0 ∙ sym
-    (instr-kind (a .p .now) (a .at) 6 (b .before .before .if1 .left) (b .match .keys7)), c .read-conditional .ensures .1)
+    let a = b .before .before .before .before .args in (
+      c .read-conditional .ensures .0 ∙ sym
+          (instr-kind (a .p .now) (a .at) 6 (b .before .before .if1 .left) (b .match .keys7)),
+      c .read-conditional .ensures .1,
+    )
 
 returns-9 : tie.Need-returns-9
 unfolding fields

@@ -27,27 +27,27 @@ alike-bytes-requires c κs =
 
 mul-k : tie.Need-mul-k
 mul-k c =
-    let at-start = c .before .before .before .before .before .before .before .before .before .before in
+    let at-start = c .before .before .before .before .before .before .before .before in
     let f = at-start .pre .first-fits in omega (arith, f, at-start .good)
 
 mul-l : tie.Need-mul-l
 mul-l c =
-    let at-start = c .before .before .before .before .before .before .before .before .before .before .before in
+    let at-start = c .before .before .before .before .before .before .before .before .before in
     let f = at-start .pre .second-fits in omega (arith, f, at-start .good)
 
 part-pair-word-end : tie.Need-part-pair-word-end
 part-pair-word-end c =
-    let at-start = c .before .before .before .before .before .before .before .before .before .before .before in
+    let at-start = c .before .before .before .before .before .before .before .before .before in
     let f = at-start .pre .first-fits in omega arith
 
 part-pair-word-end-2 : tie.Need-part-pair-word-end-2
 part-pair-word-end-2 c =
-    let at-start = c .before .before .before .before .before .before .before .before .before .before .before .before in
+    let at-start = c .before .before .before .before .before .before .before .before .before .before in
     let f = at-start .pre .second-fits in omega arith
 
 returns : tie.Need-returns
 returns c =
-    let at-alike-bytes = c .before .before .before .before .before .before .before in
+    let at-alike-bytes = c .before .before .before .before .before in
     let at-locations = at-alike-bytes .before in
     let at-public-list = at-locations .before in
     let at-start = at-public-list .before .before .before .before .before in

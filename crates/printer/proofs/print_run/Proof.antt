@@ -5,6 +5,27 @@ use borrow.Author.Needs.{needs}
 use Rattle.printer.proofs.print_run.Statement.{statement}
 use Rattle.printer.proofs.print_run.Tie as tie
 
+instruction-count-requires : tie.Need-instruction-count-requires
+instruction-count-requires c κs = search needs
+
+slice-aggregate-run : tie.Need-slice-aggregate-run
+slice-aggregate-run c = search needs
+
+slice-aggregate-run-2 : tie.Need-slice-aggregate-run-2
+slice-aggregate-run-2 c = search needs
+
+run-requires : tie.Need-run-requires
+run-requires c κs = search needs
+
+write-answer-requires : tie.Need-write-answer-requires
+write-answer-requires c κs = search needs
+
+same-length : tie.Need-same-length
+same-length c = search needs
+
+same-length-2 : tie.Need-same-length-2
+same-length-2 c = search needs
+
 returns : tie.Need-returns
 returns c =
     let w = c .before .before in
@@ -19,11 +40,11 @@ pub print-run-spec : {M : Type 1} → statement M
 print-run-spec =
     tie.close
     (tie.spec
-    (λ c κs. search needs)
-    (λ c. search needs)
-    (λ c. search needs)
-    (λ c κs. search needs)
-    (λ c κs. search needs)
-    (λ c. search needs)
-    (λ c. search needs)
+    instruction-count-requires
+    slice-aggregate-run
+    slice-aggregate-run-2
+    run-requires
+    write-answer-requires
+    same-length
+    same-length-2
     returns)

@@ -16,10 +16,13 @@ open-branch-requires : tie.Need-open-branch-requires
 open-branch-requires c κs =
     let at-remaining-window = c .before in
     let at-start = at-remaining-window .before .before .before .before .before .before .before .before .before in
-    let q = at-start .pre .0 in
-    (q .unexpired .fits,
-    (at-remaining-window .remaining-window .ensures .left (q .unexpired .window),
-    (at-start .pre .4, at-start .pre .1)))
+    let q = at-start .pre .0 in (
+      q .unexpired .fits,
+      (
+        at-remaining-window .remaining-window .ensures .left (q .unexpired .window),
+        (at-start .pre .4, at-start .pre .1),
+      ),
+    )
 
 observe-branch-requires : tie.Need-observe-branch-requires
 observe-branch-requires c κs =

@@ -29,9 +29,16 @@ returns-3 : tie.Need-returns-3
 unfolding expr
 returns-3 c =
     let b = c .before .before in
-    let a = b .before .before .before .before .args in
-    (rw (byte-got (a .p .now) (a .at) (b .before .before .if1 .left), ← (b .wide .ensures .0), le-leb 1 _ (c .before .if2 .left), lt-leb _ 16
-    (c .if3 .taken)), tt)
+    let a = b .before .before .before .before .args in (
+      rw (
+        byte-got (a .p .now) (a .at) (b .before .before .if1 .left),
+        ← (b .wide .ensures .0),
+        le-leb 1 _ (c .before .if2 .left),
+        lt-leb _ 16
+            (c .if3 .taken),
+      ),
+      tt,
+    )
 
 returns-4 : tie.Need-returns-4
 unfolding tokensOf sound

@@ -46,9 +46,11 @@ loop-again c =
     let a = at-start .args in
     let v = at-loop .loop in
     let e : a .count - v .i ≡ suc (a .count - (v .i + 1)) = omega arith in
-    let t = (rw (at-t .t .given .1) at (at-read-token .read-token .ensures)) in
-    (omega arith, rw (c .held-after .ensures, at-taken .taken .ensures)
-    (sym (tokens-got _ (a .p .now) (v .offset) (v .held) _ _ t) ∙ (rw e at (v .inv .1))))
+    let t = (rw (at-t .t .given .1) at (at-read-token .read-token .ensures)) in (
+      omega arith,
+      rw (c .held-after .ensures, at-taken .taken .ensures)
+          (sym (tokens-got _ (a .p .now) (v .offset) (v .held) _ _ t) ∙ (rw e at (v .inv .1))),
+    )
 
 returns : tie.Need-returns Inv-loop μ-loop
 returns c =

@@ -42,8 +42,13 @@ returns-3 c =
     let at-if2 = c .before in
     let at-if1 = at-if2 .before in
     let at-start = at-if1 .before .before .before in
-    simp (token-read (at-start .args .p .now) (at-start .args .at) (at-start .pre) .1, le-ltb _ _ (at-if1 .if1 .left), ne-eqb _ _
-    (at-if2 .if2 .left), lt-ltb _ _ (c .if3 .taken))
+    simp (
+      token-read (at-start .args .p .now) (at-start .args .at) (at-start .pre) .1,
+      le-ltb _ _ (at-if1 .if1 .left),
+      ne-eqb _ _
+          (at-if2 .if2 .left),
+      lt-ltb _ _ (c .if3 .taken),
+    )
 
 returns-4 : tie.Need-returns-4
 returns-4 c =

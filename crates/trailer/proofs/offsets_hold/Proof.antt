@@ -30,16 +30,24 @@ unfolding offsets
 returns-4 c =
     let b = c .before .before .before .before .before .before in
     let a = b .before .before .args in
-    simp (le-leb _ _ (b .if1 .left), eq-eqb _ _ (c .before .before .before .if2 .left), eq-eqb (a .t .list + (listSize + trailerSize)) (a .len)
-    (omega arith))
+    simp (
+      le-leb _ _ (b .if1 .left),
+      eq-eqb _ _ (c .before .before .before .if2 .left),
+      eq-eqb (a .t .list + (listSize + trailerSize)) (a .len)
+          (omega arith),
+    )
 
 returns-5 : tie.Need-returns-5
 unfolding offsets
 returns-5 c =
     let b = c .before .before .before .before .before .before in
     let a = b .before .before .args in
-    simp (le-leb _ _ (b .if1 .left), eq-eqb _ _ (c .before .before .before .if2 .left), ne-eqb (a .t .list + (listSize + trailerSize)) (a .len)
-    (omega arith))
+    simp (
+      le-leb _ _ (b .if1 .left),
+      eq-eqb _ _ (c .before .before .before .if2 .left),
+      ne-eqb (a .t .list + (listSize + trailerSize)) (a .len)
+          (omega arith),
+    )
 
 pub offsets-hold-spec : {M : Type 1} → statement M
 offsets-hold-spec =

@@ -61,14 +61,18 @@ open-branch-requires c κs =
     let i = at-start .pre .inside in
     let steps = at-start .pre .ready .counted .steps in
     let opened = at-start .pre .ready .counted .opened in
-    let room = branch-room (a .p .now) (a .t) (a .mode) (a .work .now) k g same (a .c .observations) (length (a .trace .now)) (at-start .pre .room) o in
-    (record {
-      unexpired = record { fits = at-start .pre .ready .steady .fits; window = at-start .pre .window };
-      room = room;
-      place = omega arith;
-      steps = omega arith;
-    }, omega arith, rw (o .1) at (v .below), rw (o .1) at (at-source-value .source-value .ensures) ∙ register-value _ _,
-    at-start .pre .ready .steady .loaded .limits .window)
+    let room = branch-room (a .p .now) (a .t) (a .mode) (a .work .now) k g same (a .c .observations) (length (a .trace .now)) (at-start .pre .room) o in (
+      record {
+        unexpired = record { fits = at-start .pre .ready .steady .fits; window = at-start .pre .window };
+        room = room;
+        place = omega arith;
+        steps = omega arith;
+      },
+      omega arith,
+      rw (o .1) at (v .below),
+      rw (o .1) at (at-source-value .source-value .ensures) ∙ register-value _ _,
+      at-start .pre .ready .steady .loaded .limits .window,
+    )
 
 instruction-of-requires : tie.Need-instruction-of-requires
 instruction-of-requires c κs =
@@ -108,7 +112,7 @@ carry-out-requires c κs =
       place = omega arith;
       limits = at-start .pre .ready .steady .loaded .limits;
       room = λ any. rw e
-      (other-room (a .p .now) (a .t) (a .mode) w k g same (a .c .observations) (length (a .trace .now)) (at-start .pre .room) o any);
+          (other-room (a .p .now) (a .t) (a .mode) w k g same (a .c .observations) (length (a .trace .now)) (at-start .pre .room) o any);
       sound = rw e (v .sound);
       below = rw e (v .below);
       value = at-source-value .source-value .ensures ∙ ap (λ (y : Instr). eval (taggedAt w) (firstTokens y)) (sym e);

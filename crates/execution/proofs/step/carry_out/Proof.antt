@@ -33,9 +33,11 @@ load-requires c κs =
     let q = rw (at-i2 .i2 .given .1) at (at-start .pre) in
     let l = q .limits .cells in
     let h = q .place in
-    let s = q .counted .steps in
-    (record { unexpired = q .unexpired; room = load-shown (at-start .pre) (at-i2 .i2 .given .1); place = omega arith; steps = omega arith },
-    q .below, omega arith)
+    let s = q .counted .steps in (
+      record { unexpired = q .unexpired; room = load-shown (at-start .pre) (at-i2 .i2 .given .1); place = omega arith; steps = omega arith },
+      q .below,
+      omega arith,
+    )
 
 store-requires : tie.Need-store-requires
 store-requires c κs =
@@ -44,9 +46,11 @@ store-requires c κs =
     let q = rw (at-i3 .i3 .given .1) at (at-start .pre) in
     let l = q .limits .cells in
     let h = q .place in
-    let s = q .counted .steps in
-    (record { unexpired = q .unexpired; room = store-shown (at-start .pre) (at-i3 .i3 .given .1); place = omega arith; steps = omega arith },
-    q .below, omega arith)
+    let s = q .counted .steps in (
+      record { unexpired = q .unexpired; room = store-shown (at-start .pre) (at-i3 .i3 .given .1); place = omega arith; steps = omega arith },
+      q .below,
+      omega arith,
+    )
 
 go-to-requires : tie.Need-go-to-requires
 go-to-requires c κs =

@@ -43,9 +43,13 @@ loop-again c =
     let b = at-start .args .other .words in
     let i = at-loop .loop .i in
     let ha : i < length a = omega arith in
-    let hb : i < length b = omega arith in
-    (search needs, search needs, search needs, sym (ap (λ (t : Bool). t && inside (drop (i + 1) a) (drop (i + 1) b)) (eq-eqb _ _ (c .if1 .left)))
-    ∙ sym (inside-step a b i ha hb) ∙ at-loop .loop .inv .3)
+    let hb : i < length b = omega arith in (
+      search needs,
+      search needs,
+      search needs,
+      sym (ap (λ (t : Bool). t && inside (drop (i + 1) a) (drop (i + 1) b)) (eq-eqb _ _ (c .if1 .left)))
+          ∙ sym (inside-step a b i ha hb) ∙ at-loop .loop .inv .3,
+    )
 
 returns-2 : tie.Need-returns-2 Inv-loop μ-loop
 unfolding subset inside
