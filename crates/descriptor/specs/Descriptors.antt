@@ -1,5 +1,5 @@
 -- The words of the table of labels: for each instruction its offset, the shape of what it reads first, its first register, and the
--- label of a branch; and the instruction that a word describes. src/lib.rt says what each shape means.
+-- label of a branch; and the instruction that a word describes.
 -- Assumes nothing.
 use mathlib.Core.Path.{_≡_}
 use mathlib.Core.Bool.{true, cond}
@@ -16,31 +16,56 @@ use Rattle.rules.specs.Theorems.Readers.{readable, valueOr}
 use Rattle.instruction.specs.Registers.{RegistersBelow}
 use Rattle.descriptor.specs.declared.Descriptor.{Descriptor}
 
--- ---- shapes
+-- ---- shapes: what an instruction reads first; src/lib.rt has the same numbers as constants, and says which bytes hold it
+abbrev pub shapeNothing : ℕ
+shapeNothing = 0
+
+abbrev pub shapeRegister : ℕ
+shapeRegister = 1
+
+abbrev pub shapeConstant : ℕ
+shapeConstant = 2
+
+abbrev pub shapeRegisterConstant : ℕ
+shapeRegisterConstant = 3
+
+abbrev pub shapeRegisterRegister : ℕ
+shapeRegisterRegister = 4
+
+abbrev pub shapeJumpConstant : ℕ
+shapeJumpConstant = 5
+
+abbrev pub shapeBranch : ℕ
+shapeBranch = 6
+
+abbrev pub shapeGeneral : ℕ
+shapeGeneral = 7
+
 -- of one token, by its byte
 abbrev pub oneShape : ℕ → ℕ
-oneShape b = cond (ltb b 16) 1 (cond (eqb b 16) 2 7)
+oneShape b = cond (ltb b 16) shapeRegister (cond (eqb b 16) shapeConstant shapeGeneral)
 
 -- of three tokens, the first of them at an offset
 abbrev pub threeShape : List ℕ → ℕ → ℕ
 threeShape p at =
-    cond (ltb 15 (getD p at 0)) 7
-    (cond (ltb (getD p (at + 1) 0) 16) (cond (ltb (getD p (at + 2) 0) 19) 7 4)
-    (cond (eqb (getD p (at + 1) 0) 16) (cond (ltb (getD p (at + 10) 0) 19) 7 3) 7))
+    cond (ltb 15 (getD p at 0)) shapeGeneral
+    (cond (ltb (getD p (at + 1) 0) 16) (cond (ltb (getD p (at + 2) 0) 19) shapeGeneral shapeRegisterRegister)
+    (cond (eqb (getD p (at + 1) 0) 16) (cond (ltb (getD p (at + 10) 0) 19) shapeGeneral shapeRegisterConstant) shapeGeneral))
 
 -- of an expression whose token count is at an offset
 abbrev pub expressionShape : List ℕ → ℕ → ℕ
 expressionShape p at =
-    cond (eqb (getD p at 0) 1) (oneShape (getD p (at + 1) 0)) (cond (eqb (getD p at 0) 3) (threeShape p (at + 1)) 7)
+    cond (eqb (getD p at 0) 1) (oneShape (getD p (at + 1) 0)) (cond (eqb (getD p at 0) 3) (threeShape p (at + 1)) shapeGeneral)
 
 -- of a jump's expression
 abbrev pub jumpShape : List ℕ → ℕ → ℕ
 jumpShape p at =
-    cond (eqb (getD p at 0) 1) (cond (ltb (getD p (at + 1) 0) 16) 1 (cond (eqb (getD p (at + 1) 0) 16) 5 7)) 7
+    cond (eqb (getD p at 0) 1)
+    (cond (ltb (getD p (at + 1) 0) 16) shapeRegister (cond (eqb (getD p (at + 1) 0) 16) shapeJumpConstant shapeGeneral)) shapeGeneral
 
 -- by the kind byte, of an instruction at an offset
 abbrev pub nothingRead : List ℕ → ℕ → ℕ
-nothingRead p at = 0
+nothingRead p at = shapeNothing
 
 abbrev expressionRead : List ℕ → ℕ → ℕ
 expressionRead p at = expressionShape p (at + 2)
@@ -49,7 +74,7 @@ abbrev jumpRead : List ℕ → ℕ → ℕ
 jumpRead p at = jumpShape p (at + 1)
 
 abbrev branchRead : List ℕ → ℕ → ℕ
-branchRead p at = 6
+branchRead p at = shapeBranch
 
 unfoldable pub kindShapes : List (List ℕ → ℕ → ℕ)
 kindShapes = nothingRead ∷ expressionRead ∷ expressionRead ∷ expressionRead ∷ jumpRead ∷ branchRead ∷ expressionRead ∷ nothingRead ∷ []
@@ -74,10 +99,10 @@ labelAt p at = labelBy (getD p at 0) p at
 
 -- where the constant and the operator of a shape that has them start
 abbrev pub constantPlace : ℕ → ℕ
-constantPlace s = cond (eqb s 3) 5 (cond (eqb s 5) 3 4)
+constantPlace s = cond (eqb s shapeRegisterConstant) 5 (cond (eqb s shapeJumpConstant) 3 4)
 
 abbrev pub operatorPlace : ℕ → ℕ
-operatorPlace s = cond (eqb s 3) 13 5
+operatorPlace s = cond (eqb s shapeRegisterConstant) 13 5
 
 -- where the token count of its first expression stands, if it has one: a jump has no register before it
 unfoldable pub countAt : List ℕ → ℕ → ℕ
@@ -114,7 +139,7 @@ bare k = cond (eqb k 7) spbarr skip
 
 -- of a shape: nothing is read for an instruction without operands, nor for a branch
 abbrev pub instructionBy : ℕ → List ℕ → ℕ → ℕ → ℕ → Instr
-instructionBy s p at first label = cond (eqb s 0) (bare first) (cond (eqb s 6) (beqz first label) (valueOr skip (instr p at)))
+instructionBy s p at first label = cond (eqb s shapeNothing) (bare first) (cond (eqb s shapeBranch) (beqz first label) (valueOr skip (instr p at)))
 
 -- the instruction that a descriptor describes, over the program's bytes
 unfoldable pub instructionIn : List ℕ → Descriptor → Instr

@@ -18,7 +18,7 @@ use Rattle.token.specs.Readable.{token-read, constant-read, operator-read, toke
 use Rattle.instruction.specs.Fields.{instr-kind, instr-unknown, instr-read, with-parts, jump-parts, branch-parts, conditional-parts}
 use Rattle.instruction.specs.Registers.{RegistersBelow, instr-below}
 use Rattle.descriptor.specs.declared.Descriptor.{Descriptor}
-use Rattle.descriptor.specs.Descriptors.{oneShape, threeShape, expressionShape, jumpShape, nothingRead, kindShapes, shapeAt, firstBy, firstAt, labelBy, labelAt, countAt}
+use Rattle.descriptor.specs.Descriptors.{shapeNothing, shapeRegister, shapeConstant, shapeRegisterConstant, shapeRegisterRegister, shapeJumpConstant, shapeBranch, oneShape, threeShape, expressionShape, jumpShape, nothingRead, kindShapes, shapeAt, firstBy, firstAt, labelBy, labelAt, countAt}
 use Rattle.descriptor.specs.Descriptors.{offsets, shapes, firsts, wordAt, descriptorIn, bare, instructionBy, instructionIn}
 use Rattle.descriptor.specs.Descriptors.{operatorOf, firstTokens, NoBranch, WithExpression, General, ShapeMeans, Valid}
 
@@ -354,7 +354,7 @@ word-valid p at h s l =
     rw (descriptor-taken p at l) (m .0, valid p d (valueOr skip (instr p at)) (m .0) s (instr-below p at) (m .1))
 
 -- ---- the shape of a branch and beqz go together
-pub branch-shaped : {p : List ℕ} {d : Descriptor} → Valid p d → d .shape ≡ 6 → instructionIn p d ≡ beqz (d .first) (d .label)
+pub branch-shaped : {p : List ℕ} {d : Descriptor} → Valid p d → d .shape ≡ shapeBranch → instructionIn p d ≡ beqz (d .first) (d .label)
 unfolding instructionIn
 branch-shaped v e = rw e
 
@@ -373,7 +373,7 @@ other-by (suc (suc (suc (suc (suc (suc zero)))))) p at r l x n m = absurd (n ref
 other-by (suc (suc (suc (suc (suc (suc (suc s))))))) p at r l x n m =
     rw (stands-by (suc (suc (suc (suc (suc (suc (suc s))))))) p at r l (λ z. omega arith) n) (m .0 .other)
 
-pub other-shaped : {p : List ℕ} {d : Descriptor} → Valid p d → (d .shape ≡ 6 → ⊥) → (r l : ℕ) → instructionIn p d ≡ beqz r l → ⊥
+pub other-shaped : {p : List ℕ} {d : Descriptor} → Valid p d → (d .shape ≡ shapeBranch → ⊥) → (r l : ℕ) → instructionIn p d ≡ beqz r l → ⊥
 unfolding instructionIn
 other-shaped {p} {d} v n = other-by (d .shape) p (d .at) (d .first) (d .label) (instructionIn p d) n (v .shaped)
 
@@ -389,7 +389,7 @@ standing-by (suc (suc (suc (suc (suc zero))))) p at r x a b m = m .0
 standing-by (suc (suc (suc (suc (suc (suc zero)))))) p at r x a b m = absurd (b refl)
 standing-by (suc (suc (suc (suc (suc (suc (suc s))))))) p at r x a b m = m .0
 
-pub standing-shaped : {p : List ℕ} {d : Descriptor} → Valid p d → (d .shape ≡ 0 → ⊥) → (d .shape ≡ 6 → ⊥)
+pub standing-shaped : {p : List ℕ} {d : Descriptor} → Valid p d → (d .shape ≡ shapeNothing → ⊥) → (d .shape ≡ shapeBranch → ⊥)
     → WithExpression p (d .at) × (instructionIn p d ≡ valueOr skip (instr p (d .at)))
 unfolding instructionIn
 standing-shaped {p} {d} v a b =
@@ -400,7 +400,7 @@ bare-tokens : (b : Bool) → firstTokens (cond b spbarr skip) ≡ []
 bare-tokens true = refl
 bare-tokens false = refl
 
-pub nothing-shaped : {p : List ℕ} {d : Descriptor} → Valid p d → d .shape ≡ 0
+pub nothing-shaped : {p : List ℕ} {d : Descriptor} → Valid p d → d .shape ≡ shapeNothing
     → (instructionIn p d ≡ bare (d .first)) × (firstTokens (instructionIn p d) ≡ [])
 unfolding instructionIn
 nothing-shaped {p} {d} v e = (rw e, rw e (bare-tokens (eqb (d .first) 7)))
@@ -417,8 +417,8 @@ general-by (suc (suc (suc (suc (suc zero))))) p at r x a b c d e f g m = absurd 
 general-by (suc (suc (suc (suc (suc (suc zero)))))) p at r x a b c d e f g m = absurd (g refl)
 general-by (suc (suc (suc (suc (suc (suc (suc s))))))) p at r x a b c d e f g m = m .1
 
-pub general-shaped : {p : List ℕ} {d : Descriptor} → Valid p d → (d .shape ≡ 0 → ⊥) → (d .shape ≡ 1 → ⊥) → (d .shape ≡ 2 → ⊥)
-    → (d .shape ≡ 3 → ⊥) → (d .shape ≡ 4 → ⊥) → (d .shape ≡ 5 → ⊥) → (d .shape ≡ 6 → ⊥) → General p (d .at) (instructionIn p d)
+pub general-shaped : {p : List ℕ} {d : Descriptor} → Valid p d → (d .shape ≡ shapeNothing → ⊥) → (d .shape ≡ shapeRegister → ⊥) → (d .shape ≡ shapeConstant → ⊥)
+    → (d .shape ≡ shapeRegisterConstant → ⊥) → (d .shape ≡ shapeRegisterRegister → ⊥) → (d .shape ≡ shapeJumpConstant → ⊥) → (d .shape ≡ shapeBranch → ⊥) → General p (d .at) (instructionIn p d)
 general-shaped {p} {d} v a b c e f g h = general-by (d .shape) p (d .at) (d .first) (instructionIn p d) a b c e f g h (v .shaped)
 
 -- the token count of an expression stands after the kind byte, and before the end

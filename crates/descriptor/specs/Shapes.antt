@@ -10,7 +10,7 @@ use Rattle.rules.specs.Rules.Expressions.{reg, const}
 use Rattle.rules.specs.Rules.Instructions.{Instr}
 use Rattle.rules.specs.Rules.JobFile.{little}
 use Rattle.descriptor.specs.declared.Descriptor.{Descriptor}
-use Rattle.descriptor.specs.Descriptors.{constantPlace, operatorPlace, operatorOf, instructionIn, firstTokens, ShapeMeans, Valid}
+use Rattle.descriptor.specs.Descriptors.{shapeRegister, shapeConstant, shapeRegisterConstant, shapeRegisterRegister, shapeJumpConstant, shapeBranch, constantPlace, operatorPlace, operatorOf, instructionIn, firstTokens, ShapeMeans, Valid}
 use Rattle.descriptor.specs.Reading.{branch-shaped}
 
 -- a register alone
@@ -50,24 +50,24 @@ known : {s t : ℕ} (p : List ℕ) (at r : ℕ) (x : Instr) → s ≡ t → Shap
 known p at r x e m = rw e at m
 
 module _ {p : List ℕ} {d : Descriptor} (v : Valid p d) where
-  pub register-shaped : d .shape ≡ 1 → OneRegister p d
+  pub register-shaped : d .shape ≡ shapeRegister → OneRegister p d
   register-shaped e = let h = known p (d .at) (d .first) (instructionIn p d) e (v .shaped) in record { below = h .2; tokens = h .1 }
 
-  pub constant-shaped : d .shape ≡ 2 → OneConstant p d
+  pub constant-shaped : d .shape ≡ shapeConstant → OneConstant p d
   constant-shaped e =
       let h = known p (d .at) (d .first) (instructionIn p d) e (v .shaped) in
       let l = h .2 in
       let c : constantPlace (d .shape) ≡ 4 = ap constantPlace e in
       record { room = omega arith; tokens = h .1 ∙ ap (λ (k : ℕ). const (little p (d .at + k) 8) ∷ []) (sym c) }
 
-  pub jump-constant-shaped : d .shape ≡ 5 → OneConstant p d
+  pub jump-constant-shaped : d .shape ≡ shapeJumpConstant → OneConstant p d
   jump-constant-shaped e =
       let h = known p (d .at) (d .first) (instructionIn p d) e (v .shaped) in
       let l = h .2 in
       let c : constantPlace (d .shape) ≡ 3 = ap constantPlace e in
       record { room = omega arith; tokens = h .1 ∙ ap (λ (k : ℕ). const (little p (d .at + k) 8) ∷ []) (sym c) }
 
-  pub register-constant-shaped : d .shape ≡ 3 → RegisterConstant p d
+  pub register-constant-shaped : d .shape ≡ shapeRegisterConstant → RegisterConstant p d
   register-constant-shaped e =
       let h = known p (d .at) (d .first) (instructionIn p d) e (v .shaped) in
       let l = h .3 in
@@ -81,7 +81,7 @@ module _ {p : List ℕ} {d : Descriptor} (v : Valid p d) where
             ∙ ap₂ (λ (j k : ℕ). reg (d .first) ∷ const (little p (d .at + j) 8) ∷ operatorOf (getD p (d .at + k) 0) ∷ []) (sym c) (sym o);
       }
 
-  pub register-register-shaped : d .shape ≡ 4 → RegisterRegister p d
+  pub register-register-shaped : d .shape ≡ shapeRegisterRegister → RegisterRegister p d
   register-register-shaped e =
       let h = known p (d .at) (d .first) (instructionIn p d) e (v .shaped) in
       let l = h .4 in
@@ -95,5 +95,5 @@ module _ {p : List ℕ} {d : Descriptor} (v : Valid p d) where
       }
 
   -- the register that a branch tests
-  pub tested-shaped : d .shape ≡ 6 → OneRegister p d
+  pub tested-shaped : d .shape ≡ shapeBranch → OneRegister p d
   tested-shaped e = let b = branch-shaped v e in record { below = rw b at (v .below); tokens = ap firstTokens b }

@@ -16,7 +16,7 @@ ghost use Rattle.rules.specs.Rules.Expressions.{sound, tagged, eval};
 ghost use Rattle.rules.specs.Rules.JobFile.{little};
 ghost use Rattle.rules.specs.Rules.Plain.{Code, joined, loadedFrom, chosen, branchTo};
 ghost use Rattle.token.specs.Meaning.{tokensOf};
-ghost use Rattle.descriptor.specs.Descriptors.{constantPlace, instructionIn, firstTokens, General, Valid};
+ghost use Rattle.descriptor.specs.Descriptors.{shapeRegisterConstant, shapeRegisterRegister, constantPlace, instructionIn, firstTokens, General, Valid};
 ghost use Rattle.work.specs.Layout.{operandBase};
 ghost use Rattle.work.specs.Words.{taggedAt};
 ghost use Rattle.work.specs.Machines.{stateIn};
@@ -103,7 +103,7 @@ fn constant_value(p: &[u8], d: Descriptor) -> Tagged
 
 // A register and a constant under an operator.
 fn with_constant(p: &[u8], work: &[u64], d: Descriptor) -> Tagged
-    requires { ⌜ (d .shape ≡ 3) × Valid (now p) d × (operandBase registers ≤ length (now work)) ⌝ }
+    requires { ⌜ (d .shape ≡ shapeRegisterConstant) × Valid (now p) d × (operandBase registers ≤ length (now work)) ⌝ }
     ensures { λ r. ⌜ r ≡ eval (taggedAt (now (work .entry))) (firstTokens (instructionIn (now (p .entry)) d)) ⌝ }
 {
     let x = work::load(work, Location::register(d.first));
@@ -113,7 +113,7 @@ fn with_constant(p: &[u8], work: &[u64], d: Descriptor) -> Tagged
 
 // Two registers under an operator.
 fn with_register(p: &[u8], work: &[u64], d: Descriptor) -> Tagged
-    requires { ⌜ (d .shape ≡ 4) × Valid (now p) d × (operandBase registers ≤ length (now work)) ⌝ }
+    requires { ⌜ (d .shape ≡ shapeRegisterRegister) × Valid (now p) d × (operandBase registers ≤ length (now work)) ⌝ }
     ensures { λ r. ⌜ r ≡ eval (taggedAt (now (work .entry))) (firstTokens (instructionIn (now (p .entry)) d)) ⌝ }
 {
     let x = work::load(work, Location::register(d.first));

@@ -26,7 +26,7 @@ pub const BRANCHES: usize = 1202;
 pub const BRANCH: usize = 4;
 // Label i has the word of its instruction, as the crate `descriptor` makes it, at LABELS + i.
 pub const LABELS: usize = 3576;
-// How many words there are; those past the table of labels are free.
+// How many words there are; specs/Layout.antt says which of them are free.
 pub const WORDS: usize = 4096;
 
 // What the words hold of an open branch: `outer` is what was left of the window of the branch below when it was opened (of the first
