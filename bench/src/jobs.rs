@@ -2,41 +2,70 @@
 
 use checker_tests::examples;
 use checker_tests::job_file::{
-    assign, beqz, jmp, load, store, Instruction, Parts, Token, ADD, AND, MUL, NOT, SUB, XOR,
+    assign, beqz, conditional, jmp, load, skip, spbarr, store, Instruction, Parts, Token, ADD, AND,
+    MUL, NOT, SUB, XOR,
 };
 
 /// Jobs that are run one after the other, so many times in one round. Rounds are short, so that some
 /// of them are not interrupted by other programs.
 pub struct Workload {
-    pub name: &'static str,
+    pub name: String,
     pub jobs: Vec<Vec<u8>>,
     pub repeats: usize,
 }
 
 /// Steps of a long job: enough to make the reading of the job small beside the run, and few enough
 /// for the trace to stay in the processor's caches.
-const STEPS: u32 = 20_000;
+pub const STEPS: u32 = 20_000;
 
 const CELLS: usize = 128;
 
 pub fn workloads() -> Vec<Workload> {
-    vec![
+    let mut all = vec![
         one("deep nesting, w 200, branches only", nesting(branches_only(), 200)),
         one("deep nesting, w 200, with changes", nesting(branches_and_changes(), 200)),
-        one("deep nesting, w 200, m 240", nesting_with_cells(240)),
+        one("deep nesting, w 200, m 240", with_cells(nesting(branches_and_changes(), 200), 240)),
         one("loads and stores, nothing open", spent_job(loads_and_stores())),
         one("long expressions, operand by operand", spent_job(long_chains())),
         one("long expressions, eight values held", spent_job(long_stacks())),
-        short_jobs(),
+    ];
+    // The optimised implementation has sets of as many words as the cells need: here one, then three.
+    for cells in [16, 128] {
+        for (name, parts) in by_kind() {
+            all.push(one(&format!("{name}, m {cells}"), with_cells(parts, cells)));
+        }
+    }
+    all.push(short_jobs());
+    all
+}
+
+/// Jobs that are mostly of one kind of instruction, or of one rule.
+fn by_kind() -> Vec<(&'static str, Parts)> {
+    vec![
+        ("one branch, then 200 changes", nesting(branch_and_changes(), 200)),
+        ("a branch every 10th instruction", nesting(changes_and_branch(9), 200)),
+        ("a branch every 200th instruction", nesting(changes_and_branch(199), 200)),
+        ("conditional assignment, condition of 1 token", conditionals(&[r(1)], &[r(0)])),
+        (
+            "conditional assignment, condition of 5 tokens",
+            conditionals(&[r(1), r(2), ADD, r(3), MUL], &[r(1), r(1), SUB, r(0), AND]),
+        ),
+        ("jump of a register", zero_first(vec![jmp(&[r(0)])])),
+        ("jump of a constant", spent_job(vec![jmp(&[c(0)])])),
+        ("skip", spent_job(skips())),
+        (
+            "spbarr, skip and jmp in turn, nothing open",
+            spent_job(vec![spbarr(), skip(), jmp(&[c(0)])]),
+        ),
     ]
 }
 
-fn one(name: &'static str, parts: Parts) -> Workload {
-    Workload { name, jobs: vec![parts.bytes()], repeats: 1 }
+fn one(name: &str, parts: Parts) -> Workload {
+    Workload { name: name.to_string(), jobs: vec![parts.bytes()], repeats: 1 }
 }
 
 /// A job that runs until its budget is spent, with small numbers in all registers.
-fn spent_job(program: Vec<Instruction>) -> Parts {
+pub fn spent_job(program: Vec<Instruction>) -> Parts {
     let mut parts = Parts::new(program, CELLS, 0, STEPS);
     for (location, word) in parts.state.iter_mut().enumerate() {
         *word = location as u64 * 7 + 1;
@@ -53,12 +82,11 @@ fn c(value: u64) -> Token {
 }
 
 /// r0 is not 0, so each branch back to 0 is wrong and opens another inside.
-fn nesting(program: Vec<Instruction>, window: u16) -> Parts {
+pub fn nesting(program: Vec<Instruction>, window: u16) -> Parts {
     Parts { window, ..spent_job(program) }
 }
 
-fn nesting_with_cells(cells: usize) -> Parts {
-    let mut parts = nesting(branches_and_changes(), 200);
+fn with_cells(mut parts: Parts, cells: usize) -> Parts {
     parts.state.resize(16 + cells, 1);
     parts
 }
@@ -67,7 +95,7 @@ fn branches_only() -> Vec<Instruction> {
     vec![beqz(0, 0), jmp(&[c(0)])]
 }
 
-fn branches_and_changes() -> Vec<Instruction> {
+pub fn branches_and_changes() -> Vec<Instruction> {
     vec![
         assign(2, &[r(2), c(1), ADD]),
         store(2, &[r(2), c(127), AND]),
@@ -122,8 +150,53 @@ fn long_stacks() -> Vec<Instruction> {
     ]
 }
 
+/// The wrong path of one branch is as long as its window, and each step on it is logged.
+fn branch_and_changes() -> Vec<Instruction> {
+    let mut program = vec![beqz(0, 2), jmp(&[c(0)])];
+    program.extend((0..200).map(|number| assign(2 + number % 14, &[r(2), c(1), ADD])));
+    program
+}
+
+/// So many changes, then a branch back to the first.
+fn changes_and_branch(changes: u8) -> Vec<Instruction> {
+    let mut program: Vec<Instruction> =
+        (0..changes).map(|number| assign(2 + number % 14, &[r(2), c(1), ADD])).collect();
+    program.extend([beqz(0, 0), jmp(&[c(0)])]);
+    program
+}
+
+/// Three that assign and one that does not: r1 is not 0, and r0 is.
+fn conditionals(taken: &[Token], not_taken: &[Token]) -> Parts {
+    zero_first(vec![
+        conditional(4, taken, &[r(5)]),
+        conditional(5, taken, &[c(9)]),
+        conditional(6, taken, &[r(4)]),
+        conditional(7, not_taken, &[r(4)]),
+        jmp(&[c(0)]),
+    ])
+}
+
+/// With 0 in r0.
+fn zero_first(program: Vec<Instruction>) -> Parts {
+    let mut parts = spent_job(program);
+    parts.state[0] = 0;
+    parts
+}
+
+/// A loop of skips, so long that its one jump does not count.
+fn skips() -> Vec<Instruction> {
+    let mut program = vec![skip(); 255];
+    program.push(jmp(&[c(0)]));
+    program
+}
+
 /// The four example jobs, of four or five steps each.
 fn short_jobs() -> Workload {
     let jobs = examples::files().into_iter().map(|(_, job)| job).collect();
-    Workload { name: "short jobs back to back", jobs, repeats: 50 }
+    Workload { name: "short jobs back to back".to_string(), jobs, repeats: 50 }
+}
+
+/// A small job: one instruction, one step, 16 cells.
+pub fn small_job() -> Vec<u8> {
+    Parts { budget: 1, ..with_cells(spent_job(vec![skip()]), 16) }.bytes()
 }

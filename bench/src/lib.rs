@@ -2,5 +2,6 @@
 //! the jobs that are measured.
 
 pub mod fast;
+pub mod growth;
 pub mod jobs;
 pub mod verify;
