@@ -1,15 +1,18 @@
--- The kind bytes by which the matches go, and the bytes of a label.
+-- The kind bytes by which the matches go, and what stands in the bytes by the kind.
 -- Assumes nothing.
-use mathlib.Core.Path.{_≡_, refl, ap, ap₂, sym, _∙_}
+use mathlib.Core.Path.{_≡_, refl}
+use mathlib.Core.Bool.{Bool, true, false, _&&_}
 use mathlib.Core.List.{List}
-use Prim.Native.Nat.{ℕ, zero, suc, _+_, _*_}
+use Prim.Native.Nat.{ℕ, zero, suc, _+_, _*_, _/_, _%_}
 use native.Mathlib.Omega.{arith}
+use lib.Dec.{eqb}
 use lib.ListN.{getD}
-use borrow.Author.Tests.{ne-eqb}
-use Rattle.rules.specs.Rules.JobFile.{little}
-use Rattle.rules.specs.Theorems.Readers.{readable, unread}
-use Rattle.instruction.specs.Fields.{instr-unknown, instr-read}
-use Rattle.descriptor.specs.Descriptors.{nothingRead, kindShapes, shapeAt, labelAt, WithExpression}
+use borrow.Author.Tests.{eqb-true, eqb-false, ne-eqb}
+use Rattle.rules.specs.Rules.Instructions.{skip}
+use Rattle.rules.specs.Rules.JobFile.{little, jump, conditional, fields, instr}
+use Rattle.rules.specs.Theorems.Readers.{readable, valueOr, unread}
+use Rattle.instruction.specs.Fields.{instr-kind, instr-unknown, instr-read}
+use Rattle.descriptor.specs.Descriptors.{nothingRead, kindShapes, shapeAt, extraAt, offsets, shapes, firsts, descriptorIn, isSkip, WithExpression}
 
 -- a kind that is none of 1 to 6
 pub shape-nothing : (p : List ℕ) (at : ℕ) → (getD p at 0 ≡ 1 → ⊥) → (getD p at 0 ≡ 2 → ⊥) → (getD p at 0 ≡ 3 → ⊥)
@@ -28,17 +31,24 @@ shape-nothing p at b c d e f g = go (getD p at 0) refl
     go (suc (suc (suc (suc (suc (suc (suc zero))))))) z = refl
     go (suc (suc (suc (suc (suc (suc (suc (suc k)))))))) z = refl
 
--- ---- the label of a branch
-pub no-label : (p : List ℕ) (at : ℕ) → (getD p at 0 ≡ 5 → ⊥) → 0 ≡ labelAt p at
-unfolding labelAt
-no-label p at h = rw (ne-eqb (getD p at 0) 5 h)
+-- ---- the label of a branch, the place of a second expression, or neither
+pub label-extra : (p : List ℕ) (at : ℕ) → getD p at 0 ≡ 5 → little p (at + 2) 2 ≡ extraAt p at
+unfolding extraAt
+label-extra p at e = rw e
 
-pub label-bytes : (p : List ℕ) (at : ℕ) {low high : ℕ} → getD p at 0 ≡ 5 → low ≡ getD p (at + 2) 0 → high ≡ getD p (at + 3) 0
-    → low + 256 * high ≡ labelAt p at
-unfolding labelAt little
-label-bytes p at {low} {high} k l h =
-    let z : at + 2 + 1 ≡ at + 3 = omega arith in
-    rw (k, z, ← l, ← h) (omega arith)
+pub no-extra : (p : List ℕ) (at : ℕ) → (getD p at 0 ≡ 5 → ⊥) → (getD p at 0 ≡ 6 → ⊥) → 0 ≡ extraAt p at
+unfolding extraAt
+no-extra p at a b = rw (ne-eqb (getD p at 0) 5 a, ne-eqb (getD p at 0) 6 b)
+
+-- ---- a conditional assignment or a jump that can be read
+module _ (p : List ℕ) (at : ℕ) (h : readable (instr p at) ≡ true) where
+  pub conditional-read : getD p at 0 ≡ 6 → readable (conditional p (at + 1)) ≡ true
+  unfolding fields
+  conditional-read e = rw (instr-kind p at 6 (instr-read p at h) e) at h
+
+  pub jump-read : getD p at 0 ≡ 4 → (readable (jump p (at + 1)) ≡ true) × (valueOr skip (jump p (at + 1)) ≡ valueOr skip (instr p at))
+  unfolding fields
+  jump-read e = let i = instr-kind p at 4 (instr-read p at h) e in (rw i at h, rw i)
 
 -- ---- an instruction with an expression whose kind is none of 1 to 4
 pub kind-six : (p : List ℕ) (at : ℕ) → WithExpression p at → (getD p at 0 ≡ 1 → ⊥) → (getD p at 0 ≡ 2 → ⊥) → (getD p at 0 ≡ 3 → ⊥)
@@ -57,3 +67,20 @@ kind-six p at s a b c d = go (getD p at 0) refl
     go (suc (suc (suc (suc (suc (suc (suc zero))))))) z = absurd (s .kind .2 z)
     go (suc (suc (suc (suc (suc (suc (suc (suc k)))))))) z =
         unread (rw (instr-unknown p at (instr-read p at (s .read)) (omega arith)) at (s .read))
+
+-- ---- the tests of a word: its shape and its first register at once are its remainder by as many numbers as both can be
+pub skip-tested : (w : ℕ) → eqb (w / offsets % (shapes * firsts)) 0 ≡ isSkip (descriptorIn w)
+unfolding descriptorIn
+skip-tested w =
+    go (w / offsets) (eqb (w / offsets % (shapes * firsts)) 0) (eqb (w / offsets % shapes) 0) (eqb (w / offsets / shapes % firsts) 0) refl refl refl
+  where
+    go : (n : ℕ) (a b c : Bool) → eqb (n % (shapes * firsts)) 0 ≡ a → eqb (n % shapes) 0 ≡ b → eqb (n / shapes % firsts) 0 ≡ c → a ≡ (b && c)
+    go n true true true ea eb ec = refl
+    go n true true false ea eb ec = let x = eqb-true (n % (shapes * firsts)) 0 ea in absurd (eqb-false (n / shapes % firsts) 0 ec (omega arith))
+    go n true false c ea eb ec = let x = eqb-true (n % (shapes * firsts)) 0 ea in absurd (eqb-false (n % shapes) 0 eb (omega arith))
+    go n false true true ea eb ec =
+        let y = eqb-true (n % shapes) 0 eb in
+        let z = eqb-true (n / shapes % firsts) 0 ec in
+        absurd (eqb-false (n % (shapes * firsts)) 0 ea (omega arith))
+    go n false true false ea eb ec = refl
+    go n false false c ea eb ec = refl

@@ -1,18 +1,18 @@
 -- The words of the table of labels: for each instruction its offset, the shape of what it reads first, its first register, and the
--- label of a branch; and the instruction that a word describes.
+-- label of a branch or the place of a second expression; and the instruction that a word describes.
 -- Assumes nothing.
 use mathlib.Core.Path.{_≡_}
-use mathlib.Core.Bool.{true, cond}
+use mathlib.Core.Bool.{Bool, true, _&&_, cond}
 use mathlib.Core.List.{List, [], _∷_}
 use Prim.Native.Nat.{ℕ, zero, suc, _+_, _-_, _*_, _/_, _%_, _<_, _≤_}
-use lib.Dec.{eqb, leb, ltb}
+use lib.Dec.{eqb, ltb}
 use lib.ListN.{length, getD}
 use Rattle.location.specs.Sets.{registers}
 use Rattle.rules.specs.Rules.Operators.{Op2, add}
 use Rattle.rules.specs.Rules.Expressions.{Token, reg, const, op2, Expr, sound}
 use Rattle.rules.specs.Rules.Instructions.{Instr, skip, assign, load, store, jmp, beqz, cassign, spbarr}
 use Rattle.rules.specs.Rules.JobFile.{little, binary, expr, instr, postfix}
-use Rattle.rules.specs.Theorems.Readers.{readable, valueOr}
+use Rattle.rules.specs.Theorems.Readers.{readable, nextOffset, valueOr}
 use Rattle.instruction.specs.Registers.{RegistersBelow}
 use Rattle.descriptor.specs.declared.Descriptor.{Descriptor}
 
@@ -90,12 +90,12 @@ firstBy k p at =
 unfoldable pub firstAt : List ℕ → ℕ → ℕ
 firstAt p at = firstBy (getD p at 0) p at
 
--- the label of a branch
-abbrev pub labelBy : ℕ → List ℕ → ℕ → ℕ
-labelBy k p at = cond (eqb k 5) (little p (at + 2) 2) 0
+-- the label of a branch; where the second expression of a conditional assignment stands; 0 of any other kind
+abbrev pub extraBy : ℕ → List ℕ → ℕ → ℕ
+extraBy k p at = cond (eqb k 5) (little p (at + 2) 2) (cond (eqb k 6) (nextOffset (expr p (at + 2))) 0)
 
-unfoldable pub labelAt : List ℕ → ℕ → ℕ
-labelAt p at = labelBy (getD p at 0) p at
+unfoldable pub extraAt : List ℕ → ℕ → ℕ
+extraAt p at = extraBy (getD p at 0) p at
 
 -- where the constant and the operator of a shape that has them start
 abbrev pub constantPlace : ℕ → ℕ
@@ -119,9 +119,9 @@ shapes = 8
 abbrev pub firsts : ℕ
 firsts = 256
 
--- the word of the instruction at an offset
+-- the word of the instruction at an offset, which is below `offsets`; the first register is a byte, and the remainder says so of any numbers
 unfoldable pub wordAt : List ℕ → ℕ → ℕ
-wordAt p at = cond (leb offsets at) 0 (at + offsets * (shapeAt p at + shapes * (firstAt p at + firsts * labelAt p at)))
+wordAt p at = at + offsets * (shapeAt p at + shapes * (firstAt p at % firsts + firsts * extraAt p at))
 
 -- the descriptor that a word holds
 unfoldable pub descriptorIn : ℕ → Descriptor
@@ -129,7 +129,7 @@ descriptorIn w = record {
   at = w % offsets;
   shape = w / offsets % shapes;
   first = w / offsets / shapes % firsts;
-  label = w / offsets / shapes / firsts;
+  extra = w / offsets / shapes / firsts;
 }
 
 -- ---- instructions
@@ -137,13 +137,20 @@ descriptorIn w = record {
 abbrev pub bare : ℕ → Instr
 bare k = cond (eqb k 7) spbarr skip
 
+-- whether a descriptor's instruction reads nothing; and whether it is a skip by its kind, which is 0
+abbrev pub isBare : Descriptor → Bool
+isBare d = eqb (d .shape) shapeNothing
+
+abbrev pub isSkip : Descriptor → Bool
+isSkip d = isBare d && eqb (d .first) 0
+
 -- of a shape: nothing is read for an instruction without operands, nor for a branch
 abbrev pub instructionBy : ℕ → List ℕ → ℕ → ℕ → ℕ → Instr
-instructionBy s p at first label = cond (eqb s shapeNothing) (bare first) (cond (eqb s shapeBranch) (beqz first label) (valueOr skip (instr p at)))
+instructionBy s p at first extra = cond (eqb s shapeNothing) (bare first) (cond (eqb s shapeBranch) (beqz first extra) (valueOr skip (instr p at)))
 
 -- the instruction that a descriptor describes, over the program's bytes
 unfoldable pub instructionIn : List ℕ → Descriptor → Instr
-instructionIn p d = instructionBy (d .shape) p (d .at) (d .first) (d .label)
+instructionIn p d = instructionBy (d .shape) p (d .at) (d .first) (d .extra)
 
 -- ---- what the shapes mean
 -- the tokens that an instruction reads first
@@ -174,6 +181,10 @@ pub record WithExpression (p : List ℕ) (at : ℕ) : Type 0 where
   pub kind : (getD p at 0 ≡ 0 → ⊥) × (getD p at 0 ≡ 5 → ⊥) × (getD p at 0 ≡ 7 → ⊥)
   pub other : NoBranch (valueOr skip (instr p at))
 
+-- If the instruction at an offset is a conditional assignment, its second expression stands at `second`: after its condition.
+abbrev pub SecondAt : List ℕ → ℕ → ℕ → Type 0
+SecondAt p at second = getD p at 0 ≡ 6 → second ≡ nextOffset (expr p (at + 2))
+
 -- Its first expression can be read, and keeps the postfix rule if the instruction x does.
 abbrev pub General : List ℕ → ℕ → Instr → Type 0
 General p at x =
@@ -192,13 +203,14 @@ ShapeMeans (suc (suc (suc (suc zero)))) p at r x =
     WithExpression p at × (firstTokens x ≡ reg r ∷ reg (getD p (at + 4) 0) ∷ operatorOf (getD p (at + 5) 0) ∷ [])
     × (r < registers) × (getD p (at + 4) 0 < registers) × (at + 6 ≤ length p) × (19 ≤ getD p (at + 5) 0)
 ShapeMeans (suc (suc (suc (suc (suc zero))))) p at r x =
-    WithExpression p at × (firstTokens x ≡ const (little p (at + 3) 8) ∷ []) × (at + 11 ≤ length p)
+    WithExpression p at × (firstTokens x ≡ const (little p (at + 3) 8) ∷ []) × (at + 11 ≤ length p) × (getD p at 0 ≡ 4)
 ShapeMeans (suc (suc (suc (suc (suc (suc zero)))))) p at r x = Unit
 ShapeMeans (suc (suc (suc (suc (suc (suc (suc n))))))) p at r x = WithExpression p at × General p at x
 
 -- A descriptor of an accepted program's instruction: the instruction keeps the postfix rule, names registers below 16, and is what
--- the shape says.
+-- the shape says. Where it stands in the bytes, its second expression stands where the descriptor says.
 pub record Valid (p : List ℕ) (d : Descriptor) : Type 0 where
   pub sound : postfix (instructionIn p d) ≡ true
   pub below : RegistersBelow registers (instructionIn p d)
   pub shaped : ShapeMeans (d .shape) p (d .at) (d .first) (instructionIn p d)
+  pub second : (d .shape ≡ shapeNothing → ⊥) → (d .shape ≡ shapeBranch → ⊥) → SecondAt p (d .at) (d .extra)

@@ -1,31 +1,30 @@
 -- The word of an instruction that can be read and keeps the postfix rule describes it; and what the shapes say.
 -- Assumes nothing.
-use mathlib.Core.Path.{_≡_, refl, sym, ap, ap₂, _∙_}
+use mathlib.Core.Path.{_≡_, refl, sym, ap, _∙_}
 use mathlib.Core.Bool.{Bool, true, false, cond}
 use mathlib.Core.List.{List, [], _∷_}
 use Prim.Native.Nat.{ℕ, zero, suc, _+_, _*_, _/_, _%_, _<_, _≤_}
 use native.Mathlib.Omega.{arith}
 use lib.Dec.{eqb, ltb}
 use lib.ListN.{length, getD}
-use borrow.Author.Tests.{ltb-true, ltb-false, eqb-true, ne-eqb, lt-leb, lt-ltb}
+use borrow.Author.Tests.{ltb-true, ltb-false, eqb-true, ne-eqb}
 use Rattle.location.specs.Sets.{registers}
 use Rattle.location.specs.SetLaws.{and-left}
 use Rattle.rules.specs.Rules.Expressions.{reg, const, Expr, sound}
 use Rattle.rules.specs.Rules.Instructions.{Instr, skip, assign, load, store, jmp, beqz, cassign, spbarr}
-use Rattle.rules.specs.Rules.JobFile.{got, little, tokenOf, token, tokens, expr, withRegister, jump, branch, conditional, fields, instr, postfix}
+use Rattle.rules.specs.Rules.JobFile.{got, little, token, tokens, expr, withRegister, jump, branch, conditional, fields, instr, postfix}
 use Rattle.rules.specs.Theorems.Readers.{readable, nextOffset, valueOr, unread}
-use Rattle.token.specs.Readable.{token-read, constant-read, operator-read, tokens-read, expr-read}
+use Rattle.token.specs.Readable.{token-read, register-read, constant-read, operator-read, tokens-read, expr-read}
 use Rattle.instruction.specs.Fields.{instr-kind, instr-unknown, instr-read, with-parts, jump-parts, branch-parts, conditional-parts}
 use Rattle.instruction.specs.Registers.{RegistersBelow, instr-below}
 use Rattle.descriptor.specs.declared.Descriptor.{Descriptor}
-use Rattle.descriptor.specs.Descriptors.{shapeNothing, shapeRegister, shapeConstant, shapeRegisterConstant, shapeRegisterRegister, shapeJumpConstant, shapeBranch, oneShape, threeShape, expressionShape, jumpShape, nothingRead, kindShapes, shapeAt, firstBy, firstAt, labelBy, labelAt, countAt}
+use Rattle.descriptor.specs.Descriptors.{shapeNothing, shapeRegister, shapeConstant, shapeRegisterConstant, shapeRegisterRegister, shapeJumpConstant, shapeBranch, oneShape, threeShape, expressionShape, jumpShape, nothingRead, kindShapes, shapeAt, firstBy, firstAt, extraBy, extraAt, countAt}
 use Rattle.descriptor.specs.Descriptors.{offsets, shapes, firsts, wordAt, descriptorIn, bare, instructionBy, instructionIn}
-use Rattle.descriptor.specs.Descriptors.{operatorOf, firstTokens, NoBranch, WithExpression, General, ShapeMeans, Valid}
+use Rattle.descriptor.specs.Descriptors.{operatorOf, firstTokens, NoBranch, WithExpression, General, SecondAt, ShapeMeans, Valid}
 
 -- ---- tokens by their bytes; q is the offset after the token
 register-token : (p : List ℕ) (at q : ℕ) → q ≡ at + 1 → readable (token p at) ≡ true → getD p at 0 < 16 → token p at ≡ got (reg (getD p at 0)) q
-unfolding tokenOf
-register-token p at q e h l = rw e (token-read p at h .1 ∙ rw (lt-ltb (getD p at 0) 16 l))
+register-token p at q e h l = rw e (register-read p at h l)
 
 constant-token : (p : List ℕ) (at from q : ℕ) → from ≡ at + 1 → q ≡ at + 9 → readable (token p at) ≡ true → getD p at 0 ≡ 16
     → (q ≤ length p) × (token p at ≡ got (const (little p from 8)) q)
@@ -121,7 +120,7 @@ expression-means p q h =
     go false false ea eb r = tt
 
 -- ---- the shapes of instructions
--- What a word of shape s with the first register r and the label l says of the instruction x at an offset.
+-- What a word of shape s with the first register r and the label l of a branch says of the instruction x at an offset.
 abbrev Meant : ℕ → List ℕ → ℕ → ℕ → ℕ → Instr → Type 0
 Meant s p at r l x = (instructionBy s p at r l ≡ x) × ShapeMeans s p at r x
 
@@ -170,9 +169,9 @@ of-expression p at l x n e t g =
     of-tokens (expressionShape p (at + 2)) p at l x e t g (rw (← z, f) (expression-means p (at + 2) (rw n at (g .1))))
 
 -- a jump's expression, whose token count stands one byte after the instruction's offset
-of-jump : (p : List ℕ) (at l : ℕ) (x : Instr) → countAt p at ≡ at + 1 → valueOr skip (instr p at) ≡ x → WithExpression p at → General p at x
+of-jump : (p : List ℕ) (at l : ℕ) (x : Instr) → getD p at 0 ≡ 4 → countAt p at ≡ at + 1 → valueOr skip (instr p at) ≡ x → WithExpression p at → General p at x
     → Meant (jumpShape p (at + 1)) p at (getD p (at + 2) 0 % firsts) l x
-of-jump p at l x n e t g =
+of-jump p at l x kind n e t g =
     let h = rw n at (g .1) in
     let c = expr-read p (at + 1) h .1 in
     let z : at + 1 + 1 ≡ at + 2 = omega arith in
@@ -195,7 +194,7 @@ of-jump p at l x n e t g =
         let m = rw (eb, ec) at (one-means p (at + 2) (rw k at h)) in
         let z : at + 2 + 1 ≡ at + 3 = omega arith in
         let n = m .0 in
-        (e, (t, rw (← z) (rw k at f ∙ m .1), omega arith))
+        (e, (t, rw (← z) (rw k at f ∙ m .1), omega arith, kind))
     go true false false ea eb ec h f = (e, (t, g))
     go false b c ea eb ec h f = (e, (t, g))
 
@@ -245,20 +244,19 @@ module _ (p : List ℕ) (at : ℕ) (h : readable (instr p at) ≡ true) where
       let x = jmp (valueOr [] (expr p (at + 1))) in
       let v : valueOr skip (instr p at) ≡ x = ap (valueOr skip) i ∙ j .1 in
       let t = standing 4 x e (λ z. omega arith) (λ z. omega arith) (λ z. omega arith) v (λ r l z. let y : _≡_ {A = ℕ} 0 1 = cc in omega arith) in
-      settle (jumpShape p (at + 1)) (getD p (at + 2) 0 % firsts) l x v (of-jump p at l x n v t (rw n, rw n (j .0), λ h. h))
+      settle (jumpShape p (at + 1)) (getD p (at + 2) 0 % firsts) l x v (of-jump p at l x e n v t (rw n, rw n (j .0), λ h. h))
 
   of-branch : instr p at ≡ branch p (at + 1)
-      → Meant 6 p at (getD p (at + 1) 0 % firsts) (little p (at + 2) 2 + getD p (at + 1) 0 / firsts) (valueOr skip (instr p at))
+      → Meant 6 p at (getD p (at + 1) 0 % firsts) (little p (at + 2) 2) (valueOr skip (instr p at))
   of-branch i =
       let w = branch-parts p (at + 1) (rw i at h) in
       let b = w .below in
       let z₀ : at + 1 + 1 ≡ at + 2 = omega arith in
       let z₁ : getD p (at + 1) 0 % firsts ≡ getD p (at + 1) 0 = omega arith in
-      let z₂ : little p (at + 2) 2 + getD p (at + 1) 0 / firsts ≡ little p (at + 2) 2 = omega arith in
-      (ap₂ beqz z₁ z₂ ∙ sym (ap (valueOr skip) i ∙ rw z₀ at (w .value)), tt)
+      (ap (λ (r : ℕ). beqz r (little p (at + 2) 2)) z₁ ∙ sym (ap (valueOr skip) i ∙ rw z₀ at (w .value)), tt)
 
   by-kind : (k : ℕ) → getD p at 0 ≡ k
-      → Meant (getD kindShapes k nothingRead p at) p at (firstBy k p at % firsts) (labelBy k p at + firstBy k p at / firsts) (valueOr skip (instr p at))
+      → Meant (getD kindShapes k nothingRead p at) p at (firstBy k p at % firsts) (extraBy k p at) (valueOr skip (instr p at))
   unfolding kindShapes fields countAt
   by-kind zero e = (sym (ap (valueOr skip) (instr-kind p at 0 inside e)), tt)
   by-kind (suc zero) e =
@@ -276,8 +274,8 @@ module _ (p : List ℕ) (at : ℕ) (h : readable (instr p at) ≡ true) where
   by-kind (suc (suc (suc (suc (suc (suc (suc zero))))))) e = (sym (ap (valueOr skip) (instr-kind p at 7 inside e)), tt)
   by-kind (suc (suc (suc (suc (suc (suc (suc (suc k)))))))) e = unread (unfold readable in rw (instr-unknown p at inside (omega arith)) at h)
 
-  word-meant : Meant (shapeAt p at) p at (firstAt p at % firsts) (labelAt p at + firstAt p at / firsts) (valueOr skip (instr p at))
-  unfolding shapeAt firstAt labelAt
+  word-meant : Meant (shapeAt p at) p at (firstAt p at % firsts) (extraAt p at) (valueOr skip (instr p at))
+  unfolding shapeAt firstAt extraAt
   word-meant = by-kind (getD p at 0) refl
 
 -- ---- words
@@ -320,29 +318,34 @@ shape-below p at = go (getD p at 0)
     go (suc (suc (suc (suc (suc (suc (suc (suc k)))))))) = omega arith
 
 -- what is put into a word can be taken from it
-taken : (at s f l : ℕ) → at < offsets → s < shapes
-    → ((at + offsets * (s + shapes * (f + firsts * l))) % offsets ≡ at)
-    × ((at + offsets * (s + shapes * (f + firsts * l))) / offsets % shapes ≡ s)
-    × ((at + offsets * (s + shapes * (f + firsts * l))) / offsets / shapes % firsts ≡ f % firsts)
-    × ((at + offsets * (s + shapes * (f + firsts * l))) / offsets / shapes / firsts ≡ l + f / firsts)
-taken at s f l h k = (omega arith, omega arith, omega arith, omega arith)
+taken : (at s f x : ℕ) → at < offsets → s < shapes → f < firsts
+    → ((at + offsets * (s + shapes * (f + firsts * x))) % offsets ≡ at)
+    × ((at + offsets * (s + shapes * (f + firsts * x))) / offsets % shapes ≡ s)
+    × ((at + offsets * (s + shapes * (f + firsts * x))) / offsets / shapes % firsts ≡ f)
+    × ((at + offsets * (s + shapes * (f + firsts * x))) / offsets / shapes / firsts ≡ x)
+taken at s f x h k l = (omega arith, omega arith, omega arith, omega arith)
 
 descriptor-taken : (p : List ℕ) (at : ℕ) → at < offsets
     → descriptorIn (wordAt p at)
-    ≡ record { at = at; shape = shapeAt p at; first = firstAt p at % firsts; label = labelAt p at + firstAt p at / firsts }
+    ≡ record { at = at; shape = shapeAt p at; first = firstAt p at % firsts; extra = extraAt p at }
 unfolding descriptorIn wordAt
 descriptor-taken p at h =
-    let t = taken at (shapeAt p at) (firstAt p at) (labelAt p at) h (shape-below p at) in
+    let t = taken at (shapeAt p at) (firstAt p at % firsts) (extraAt p at) h (shape-below p at) (omega arith) in
     let e = t .0 in
     let s = t .1 in
     let f = t .2 in
-    let l = t .3 in
-    rw (lt-leb offsets at h) (λ i. record { at = e i; shape = s i; first = f i; label = l i })
+    let x = t .3 in
+    λ i. record { at = e i; shape = s i; first = f i; extra = x i }
 
 -- a descriptor whose instruction is x
 valid : (p : List ℕ) (d : Descriptor) (x : Instr) → instructionIn p d ≡ x → postfix x ≡ true → RegistersBelow registers x
-    → ShapeMeans (d .shape) p (d .at) (d .first) x → Valid p d
-valid p d x e s b m = record { sound = rw e s; below = rw e b; shaped = rw e m }
+    → ShapeMeans (d .shape) p (d .at) (d .first) x → SecondAt p (d .at) (d .extra) → Valid p d
+valid p d x e s b m n = record { sound = rw e s; below = rw e b; shaped = rw e m; second = λ a b. n }
+
+-- the word says where the second expression of a conditional assignment stands
+pub second-said : (p : List ℕ) (at : ℕ) → SecondAt p at (extraAt p at)
+unfolding extraAt
+second-said p at e = rw e
 
 -- the word of an instruction that can be read and keeps the postfix rule describes it
 pub word-valid : (p : List ℕ) (at : ℕ) → readable (instr p at) ≡ true → postfix (valueOr skip (instr p at)) ≡ true → at < offsets
@@ -350,11 +353,11 @@ pub word-valid : (p : List ℕ) (at : ℕ) → readable (instr p at) ≡ true �
 unfolding instructionIn
 word-valid p at h s l =
     let m = word-meant p at h in
-    let d : Descriptor = record { at = at; shape = shapeAt p at; first = firstAt p at % firsts; label = labelAt p at + firstAt p at / firsts } in
-    rw (descriptor-taken p at l) (m .0, valid p d (valueOr skip (instr p at)) (m .0) s (instr-below p at) (m .1))
+    let d : Descriptor = record { at = at; shape = shapeAt p at; first = firstAt p at % firsts; extra = extraAt p at } in
+    rw (descriptor-taken p at l) (m .0, valid p d (valueOr skip (instr p at)) (m .0) s (instr-below p at) (m .1) (second-said p at))
 
 -- ---- the shape of a branch and beqz go together
-pub branch-shaped : {p : List ℕ} {d : Descriptor} → Valid p d → d .shape ≡ shapeBranch → instructionIn p d ≡ beqz (d .first) (d .label)
+pub branch-shaped : {p : List ℕ} {d : Descriptor} → Valid p d → d .shape ≡ shapeBranch → instructionIn p d ≡ beqz (d .first) (d .extra)
 unfolding instructionIn
 branch-shaped v e = rw e
 
@@ -375,7 +378,7 @@ other-by (suc (suc (suc (suc (suc (suc (suc s))))))) p at r l x n m =
 
 pub other-shaped : {p : List ℕ} {d : Descriptor} → Valid p d → (d .shape ≡ shapeBranch → ⊥) → (r l : ℕ) → instructionIn p d ≡ beqz r l → ⊥
 unfolding instructionIn
-other-shaped {p} {d} v n = other-by (d .shape) p (d .at) (d .first) (d .label) (instructionIn p d) n (v .shaped)
+other-shaped {p} {d} v n = other-by (d .shape) p (d .at) (d .first) (d .extra) (instructionIn p d) n (v .shaped)
 
 -- ---- the other shapes
 -- a shape that is neither of those that describe their instruction alone
@@ -393,7 +396,7 @@ pub standing-shaped : {p : List ℕ} {d : Descriptor} → Valid p d → (d .shap
     → WithExpression p (d .at) × (instructionIn p d ≡ valueOr skip (instr p (d .at)))
 unfolding instructionIn
 standing-shaped {p} {d} v a b =
-    (standing-by (d .shape) p (d .at) (d .first) (instructionIn p d) a b (v .shaped), stands-by (d .shape) p (d .at) (d .first) (d .label) a b)
+    (standing-by (d .shape) p (d .at) (d .first) (instructionIn p d) a b (v .shaped), stands-by (d .shape) p (d .at) (d .first) (d .extra) a b)
 
 -- what is read where the shape says that nothing is, or the register of a branch
 bare-tokens : (b : Bool) → firstTokens (cond b spbarr skip) ≡ []

@@ -67,6 +67,9 @@ module _ {p : List ℕ} {d : Descriptor} (v : Valid p d) where
       let c : constantPlace (d .shape) ≡ 3 = ap constantPlace e in
       record { room = omega arith; tokens = h .1 ∙ ap (λ (k : ℕ). const (little p (d .at + k) 8) ∷ []) (sym c) }
 
+  pub jump-kind : d .shape ≡ shapeJumpConstant → getD p (d .at) 0 ≡ 4
+  jump-kind e = known p (d .at) (d .first) (instructionIn p d) e (v .shaped) .3
+
   pub register-constant-shaped : d .shape ≡ shapeRegisterConstant → RegisterConstant p d
   register-constant-shaped e =
       let h = known p (d .at) (d .first) (instructionIn p d) e (v .shaped) in

@@ -1,6 +1,7 @@
-// An instruction's word in the table of labels: its byte offset, with the shape of what it reads first, so that a step finds the
-// operands where they stand and tests no token again. The word of an instruction without operands, or of a branch, describes
-// it alone. The bytes of an accepted instruction are read without tests here only.
+// An instruction's word in the table of labels: its byte offset, the shape of what it reads first, its first register, and a branch's
+// label or the offset of a second expression, so that a step finds the operands where they stand and tests no token again. The word of
+// an instruction without operands, or of a branch, describes it alone. The fields of an accepted instruction are found without tests
+// here only.
 use instruction::Instruction;
 use location::Label;
 use token::Expression;
@@ -11,17 +12,18 @@ ghost use Prim.Native.Nat.{ℕ, _+_, _-_, _^_, _<_, _≤_};
 ghost use lib.ListN.{length, getD};
 ghost use Rattle.rules.specs.Rules.Instructions.{skip};
 ghost use Rattle.rules.specs.Rules.JobFile.{little, tokens, expr, withRegister, jump, conditional, instr};
-ghost use Rattle.rules.specs.Theorems.Readers.{readable, valueOr};
+ghost use Rattle.rules.specs.Theorems.Readers.{readable, nextOffset, valueOr};
 ghost use Rattle.instruction.specs.Meaning.{meaning, withRegisterOf};
-ghost use Rattle.descriptor.specs.Descriptors.{oneShape, threeShape, expressionShape, jumpShape, shapeAt, firstAt, labelAt, countAt, wordAt, descriptorIn, constantPlace, operatorPlace, bare, instructionIn, WithExpression, Valid};
+ghost use Rattle.descriptor.specs.Descriptors.{oneShape, threeShape, expressionShape, jumpShape, shapeAt, firstAt, extraAt, countAt, offsets, wordAt, descriptorIn, constantPlace, operatorPlace, bare, isSkip, isBare, instructionIn, WithExpression, SecondAt, Valid};
 
-// `at` is the instruction's offset, `shape` what the instruction reads first. In the shapes that do not name them, `first` and `label`
-// mean nothing; nor does `at` where nothing is read, or by a branch.
+// `at` is the instruction's offset, `shape` what the instruction reads first, `extra` the label of a branch, or where the second expression
+// of a conditional assignment stands. In the shapes that do not name it, `first` means nothing; nor does `extra` of any other instruction,
+// or `at` where nothing is read, or of a branch.
 pub struct Descriptor {
     pub at: usize,
     pub shape: u8,
     pub first: u8,
-    pub label: usize,
+    pub extra: usize,
 }
 
 // The shapes, with the bytes from `at` on that hold the operands, of which byte 0 is the kind byte.
@@ -43,13 +45,13 @@ pub const REGISTER_REGISTER: u8 = 4;
 // A constant that a jump goes to, bytes 3 to 10.
 pub const JUMP_CONSTANT: u8 = 5;
 
-// The register `first`, which a branch tests; `label` is its label.
+// The register `first`, which a branch tests.
 pub const BRANCH: u8 = 6;
 
 // Any other expression.
 pub const GENERAL: u8 = 7;
 
-// A word holds an offset below this, then the shape, then `first`, then `label`.
+// A word holds an offset below this, then the shape, then `first`, then `extra`.
 const OFFSETS: u64 = 65536;
 
 // How many shapes there are.
@@ -172,30 +174,45 @@ fn first_at(p: &[u8], at: usize) -> u8
     }
 }
 
-// The label of a branch; 0 elsewhere.
-fn label_at(p: &[u8], at: usize) -> u64
-    requires { ⌜ at + 3 < 2 ^ 64 ⌝ }
-    ensures { λ r. ⌜ (r ≡ labelAt (now (p .entry)) at) × (r < 2 ^ 16) ⌝ }
+// The label of a branch; the offset of a conditional assignment's second expression; 0 elsewhere.
+fn extra_at(p: &[u8], at: usize) -> u64
+    requires { ⌜ (readable (instr (now p) at) ≡ true) × (length (now p) ≤ offsets) ⌝ }
+    ensures { λ r. ⌜ (r ≡ extraAt (now (p .entry)) at) × (r ≤ offsets) ⌝ }
 {
-    if byte_at(p, at) != 5 {
-        return 0;
+    match p[at] {
+        5 => token::number(p, at + 2, 2),
+        6 => token::expression_end(p, at + 2) as u64,
+        _ => 0,
     }
-    let low = byte_at(p, at + 2) as u64;
-    let high = byte_at(p, at + 3) as u64;
-    low + 256 * high
 }
 
-// The word of the instruction at an offset; 0 for an offset that no job has.
+// The word of an instruction that can be read at an offset.
 pub fn word_at(p: &[u8], at: usize) -> u64
+    requires { ⌜ (readable (instr (now p) at) ≡ true) × (length (now p) ≤ offsets) ⌝ }
     ensures { λ r. ⌜ r ≡ wordAt (now (p .entry)) at ⌝ }
 {
-    if OFFSETS <= at as u64 {
-        return 0;
-    }
     let shape = shape_at(p, at) as u64;
     let first = first_at(p, at) as u64;
-    let label = label_at(p, at);
-    at as u64 + OFFSETS * (shape + SHAPES * (first + FIRSTS * label))
+    let extra = extra_at(p, at);
+    at as u64 + OFFSETS * (shape + SHAPES * (first + FIRSTS * extra))
+}
+
+// The offset after an instruction that can be read: its fields are passed by their extents.
+pub fn next_offset(p: &[u8], at: usize) -> usize
+    requires { ⌜ readable (instr (now p) at) ≡ true ⌝ }
+    ensures { λ r. ⌜ r ≡ nextOffset (instr (now (p .entry)) at) ⌝ }
+{
+    match p[at] {
+        0 => at + 1,
+        4 => token::expression_end(p, at + 1),
+        5 => at + 4,
+        6 => {
+            let second = token::expression_end(p, at + 2);
+            token::expression_end(p, second)
+        }
+        7 => at + 1,
+        _ => token::expression_end(p, at + 2),
+    }
 }
 
 // The descriptor that a word holds.
@@ -206,7 +223,7 @@ pub fn descriptor_in(word: u64) -> Descriptor
         at: (word % OFFSETS) as usize,
         shape: (word / OFFSETS % SHAPES) as u8,
         first: (word / OFFSETS / SHAPES % FIRSTS) as u8,
-        label: (word / OFFSETS / SHAPES / FIRSTS) as usize,
+        extra: (word / OFFSETS / SHAPES / FIRSTS) as usize,
     }
 }
 
@@ -239,7 +256,7 @@ pub fn constant_of(p: &[u8], d: Descriptor) -> u64
     ensures { λ r. ⌜ r ≡ little (now (p .entry)) (d .at + constantPlace (d .shape)) 8 ⌝ }
 {
     let place = constant_place(d.shape);
-    token::number(p, d.at + place, 8)
+    token::word(p, d.at + place)
 }
 
 // The second register of a descriptor's instruction, if its shape has one.
@@ -294,21 +311,21 @@ fn jump_at(p: &[u8], at: usize) -> Instruction
     Instruction::Jump(token::expression_at(p, at))
 }
 
-// The condition's tokens are read for their extent alone.
-fn conditional_at(p: &[u8], at: usize) -> Instruction
-    requires { ⌜ readable (conditional (now p) at) ≡ true ⌝ }
+// `second` is where the second expression stands: the condition's tokens are not read for that.
+fn conditional_at(p: &[u8], at: usize, second: usize) -> Instruction
+    requires { ⌜ (readable (conditional (now p) at) ≡ true) × (second ≡ nextOffset (expr (now p) (at + 1))) ⌝ }
     ensures { λ i. ⌜ meaning (now (p .entry)) i ≡ valueOr skip (conditional (now (p .entry)) at) ⌝ }
 {
     let r = p[at];
     let c = token::expression_at(p, at + 1);
-    let middle = token::expression_end(p, c);
-    let e = token::expression_at(p, middle);
+    let e = token::expression_at(p, second);
     Instruction::AssignIf(r, c, e)
 }
 
-// The instruction at an offset where one with an expression stands: its fields are taken as they are, with no test.
-fn instruction_at(p: &[u8], at: usize) -> Instruction
-    requires { ⌜ WithExpression (now p) at ⌝ }
+// The instruction at an offset where one with an expression stands: its fields are taken as they are, with no test. `second` is where the
+// second expression of a conditional assignment stands.
+fn instruction_at(p: &[u8], at: usize, second: usize) -> Instruction
+    requires { ⌜ WithExpression (now p) at × SecondAt (now p) at second ⌝ }
     ensures { λ i. ⌜ meaning (now (p .entry)) i ≡ valueOr skip (instr (now (p .entry)) at) ⌝ }
 {
     let k = p[at];
@@ -318,7 +335,7 @@ fn instruction_at(p: &[u8], at: usize) -> Instruction
         2 => with_register_at(p, next, 2),
         3 => with_register_at(p, next, 3),
         4 => jump_at(p, next),
-        _ => conditional_at(p, next),
+        _ => conditional_at(p, next, second),
     }
 }
 
@@ -332,7 +349,28 @@ fn bare(kind: u8) -> Instruction
     Instruction::Skip
 }
 
-// The instruction of a descriptor.
+// Whether the instruction of a word is a skip by its kind, which is 0: shape and kind are looked at at once.
+pub fn is_skip(word: u64) -> bool
+    ensures { λ r. ⌜ r ≡ isSkip (descriptorIn word) ⌝ }
+{
+    word / OFFSETS % (SHAPES * FIRSTS) == 0
+}
+
+// Whether the instruction of a word reads nothing.
+pub fn is_bare(word: u64) -> bool
+    ensures { λ r. ⌜ r ≡ isBare (descriptorIn word) ⌝ }
+{
+    word / OFFSETS % SHAPES == 0
+}
+
+// The instruction of a word, if it reads nothing.
+pub fn bare_in(word: u64) -> Instruction
+    ensures { λ i. ⌜ ((p : List ℕ) → meaning p i ≡ bare (descriptorIn word .first)) ⌝ }
+{
+    bare((word / OFFSETS / SHAPES % FIRSTS) as u8)
+}
+
+// The instruction of a descriptor. The shape of a jump to a constant tells its kind.
 pub fn instruction_of(p: &[u8], d: Descriptor) -> Instruction
     requires { ⌜ Valid (now p) d ⌝ }
     ensures { λ i. ⌜ meaning (now (p .entry)) i ≡ instructionIn (now (p .entry)) d ⌝ }
@@ -342,7 +380,10 @@ pub fn instruction_of(p: &[u8], d: Descriptor) -> Instruction
         return bare(d.first);
     }
     if shape == BRANCH {
-        return Instruction::BranchZero(d.first, Label::new(d.label));
+        return Instruction::BranchZero(d.first, Label::new(d.extra));
     }
-    instruction_at(p, d.at)
+    if shape == JUMP_CONSTANT {
+        return jump_at(p, d.at + 1);
+    }
+    instruction_at(p, d.at, d.extra)
 }

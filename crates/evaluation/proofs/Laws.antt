@@ -1,23 +1,26 @@
 -- How what the callees give makes up what the rules say of an instruction.
 -- Assumes nothing.
 use mathlib.Core.Path.{_≡_, refl, sym, ap, _∙_}
-use mathlib.Core.Bool.{true}
+use mathlib.Core.Bool.{Bool, true, false, cond}
 use mathlib.Core.List.{List, [], _∷_}
-use Prim.Native.Nat.{ℕ, _+_, _<_, _≤_}
+use Prim.Native.Nat.{ℕ, _+_, _-_, _<_, _≤_}
 use native.Mathlib.Omega.{arith}
-use lib.ListN.{getD}
-use borrow.Author.Tests.{eq-eqb, ne-eqb, lt-ltb, le-ltb}
+use lib.Dec.{eqb, ltb}
+use lib.ListN.{length, getD}
+use borrow.Author.Tests.{eq-eqb, eqb-true, ne-eqb, lt-ltb, le-ltb}
 use Rattle.location.specs.Sets.{registers, empty}
 use Rattle.location.specs.SetLaws.{and-right}
+use Rattle.rules.specs.declared.Refusal.the-variants as refusals
 use Rattle.rules.specs.declared.Tagged.{Tagged}
-use Rattle.rules.specs.Rules.Operators.{add}
-use Rattle.rules.specs.Rules.Expressions.{reg, const, op2, Expr, sound, tagged, result2, pushed, evalOn, top, eval}
+use Rattle.rules.specs.Rules.Operators.{neg, add}
+use Rattle.rules.specs.Rules.Expressions.{Token, reg, const, op1, op2, Expr, after, held, sound, tagged, result2, pushed, evalOn, top, eval}
 use Rattle.rules.specs.Rules.Instructions.{Instr}
-use Rattle.rules.specs.Rules.JobFile.{binary, tokens, expr, postfix}
+use Rattle.rules.specs.Rules.JobFile.{Read, got, refused, andThen, return, refuse, little, unary, binary, constant, tokenOf, token, tokens, expr, postfix}
 use Rattle.rules.specs.Rules.Plain.{State, put, Code, joined, loadedFrom, storedTo, chosen, at}
 use Rattle.token.specs.declared.Expression.{Expression}
-use Rattle.rules.specs.Theorems.Readers.{valueOr}
+use Rattle.rules.specs.Theorems.Readers.{readable, valueOr, unread}
 use Rattle.token.specs.Meaning.{tokensOf}
+use Rattle.token.specs.Readable.{token-read, constant-read}
 use Rattle.descriptor.specs.Descriptors.{firstTokens, countAt, General}
 use Rattle.instruction.specs.declared.Instruction.{Instruction}
 use Rattle.instruction.specs.declared.Instruction.the-variants.{AssignIf}
@@ -108,6 +111,54 @@ pub value-with-register : (f : ℕ → Tagged) {r q j i l s k : ℕ} {ts : Expr}
     → i ≡ j → l ≡ r → x ≡ f l → s ≡ q → k ≡ s → y ≡ f k → v ≡ result2 (getD binary i add) x y → v ≡ eval f ts
 unfolding eval evalOn top pushed
 value-with-register f et ei el ex es ek ey ev = rw et (rw (ei, ex, el, ey, ek, es) at ev)
+
+-- ---- an expression of one token that keeps the postfix rule
+-- the tokens of what was read as one
+abbrev oneOf : Read Token → Expr
+oneOf R = valueOr [] (andThen R (λ t q. got (t ∷ []) q))
+
+one-readable : (R : Read Token) → sound (oneOf R) ≡ true → readable R ≡ true
+unfolding sound held readable
+one-readable (got t q) h = refl
+one-readable (refused r) h = unread h
+
+-- a byte that stands for an operator, or for nothing
+no-operator : (k : ℕ) (p : List ℕ) (at : ℕ) → 16 ≤ k → sound (oneOf (tokenOf k p at)) ≡ true → k ≡ 16
+unfolding tokenOf sound held after
+no-operator k p at l h = go (eqb k 16) refl (ltb k 19) (ltb k 29) (rw (le-ltb k 16 l) at h)
+  where
+    go : (a : Bool) → eqb k 16 ≡ a → (b c : Bool)
+        → sound
+        (oneOf
+        (cond a constant
+        (cond b (return (op1 (getD unary (k - 17) neg))) (cond c (return (op2 (getD binary (k - 19) add))) (refuse refusals.Encoding))) p at)) ≡ true
+        → k ≡ 16
+    go true e b c h = eqb-true k 16 e
+    go false e true c h = unread h
+    go false e false true h = unread h
+    go false e false false h = unread h
+
+module _ (p : List ℕ) (e : Expression) (n : e .count ≡ 1) (h : sound (tokensOf p e) ≡ true) where
+  one-tokens : tokensOf p e ≡ oneOf (token p (e .at))
+  unfolding tokensOf tokens
+  one-tokens = rw n
+
+  one-sound : sound (oneOf (token p (e .at))) ≡ true
+  one-sound = rw one-tokens at h
+
+  pub one-read : (e .at < length p) × (token p (e .at) ≡ tokenOf (getD p (e .at) 0) p (e .at + 1))
+  one-read = token-read p (e .at) (one-readable (token p (e .at)) one-sound)
+
+  pub one-register : getD p (e .at) 0 < registers → tokensOf p e ≡ reg (getD p (e .at) 0) ∷ []
+  unfolding tokenOf
+  one-register l = one-tokens ∙ rw (one-read .1, lt-ltb _ _ l)
+
+  pub one-constant : registers ≤ getD p (e .at) 0
+      → (e .at + 1 + 8 ≤ length p) × (tokensOf p e ≡ const (little p (e .at + 1) 8) ∷ [])
+  one-constant l =
+      let z = no-operator (getD p (e .at) 0) p (e .at + 1) l (rw (one-read .1) at one-sound) in
+      let r = constant-read p (e .at) (one-readable (token p (e .at)) one-sound) z in
+      (r .0, one-tokens ∙ ap oneOf (r .1))
 
 -- ---- the expression e that was read at the token count of an instruction x
 pub general-tokens : (p : List ℕ) (at : ℕ) (x : Instr) (e : Expression) → tokens (e .count) p (e .at) ≡ expr p (countAt p at) → General p at x

@@ -46,8 +46,24 @@ pub fn loaded_from(work: &[u64], cells: usize, a: Tagged) -> Tagged
     Tagged { value: 0, deps }
 }
 
-// What register r holds after a conditional assignment on c: the expression is evaluated only where it is assigned. The slices are
-// taken anew, as in `general_value`.
+// The value of an expression of one token. It is a register or a constant, since an operator would lack an operand.
+fn one_value(p: &[u8], work: &[u64], e: Expression) -> Tagged
+    requires { ⌜ (e .count ≡ 1) × (sound (tokensOf (now p) e) ≡ true) × (operandBase registers ≤ length (now work)) ⌝ }
+    ensures { λ r. ⌜ r ≡ eval (taggedAt (now (work .entry))) (tokensOf (now (p .entry)) e) ⌝ }
+{
+    let at = e.at;
+    let byte = p[at];
+    if byte < 16 {
+        return work::load(work, Location::register(byte));
+    }
+    Tagged {
+        value: token::word(p, at + 1),
+        deps: LocationSet::empty(),
+    }
+}
+
+// What register r holds after a conditional assignment on c: the expression is evaluated only where it is assigned, and one token
+// without the stack. The slices are taken anew, as in `general_value`.
 pub fn chosen(p: &[u8], work: &[u64], r: u8, c: Tagged, e: Expression) -> Tagged
     requires { ⌜ sound (tokensOf (now p) e) ≡ true ⌝ }
     requires { ⌜ operandBase registers ≤ length (now work) ⌝ }
@@ -57,6 +73,9 @@ pub fn chosen(p: &[u8], work: &[u64], r: u8, c: Tagged, e: Expression) -> Tagged
     let deps = c.deps;
     if c.value == 0 {
         return joined(work::load(work, Location::register(r)), deps);
+    }
+    if e.count == 1 {
+        return joined(one_value(p, work, e), deps);
     }
     joined(expression::evaluate(&p[..], &work[..], e), deps)
 }

@@ -32,7 +32,7 @@ state x t = stateIn (x .work) (registers + t .cells)
 
 module _ {p : List ℕ} {t : Trailer} {x y : Standing} where
   -- an instruction whose effect is that of a rule
-  carrying : (i : Instruction) (rule : Code → State → plain.Effect) → CarriedOut (t .cells) i rule x y
+  pub carrying : (i : Instruction) (rule : Code → State → plain.Effect) → CarriedOut (t .cells) i rule x y
       → ((code : Code) → endPlace code ≡ t .count → rule code (state x t) ≡ exec code (state x t) (x .progress .control .place) (meaning p i))
       → Performed p t i x y
   unfolding ordinary

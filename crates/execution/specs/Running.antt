@@ -4,7 +4,7 @@ use mathlib.Core.Path.{_≡_}
 use mathlib.Core.Bool.{true, false}
 use mathlib.Core.List.{List}
 use Prim.Native.Nat.{ℕ, _+_, _-_, _*_, _/_, _<_, _≤_}
-use lib.ListN.{length, drop}
+use lib.ListN.{length, getD, drop}
 use Rattle.location.specs.Sets.{registers}
 use Rattle.rules.specs.declared.Stop.{Stop}
 use Rattle.rules.specs.declared.Tagged.{Tagged}
@@ -22,7 +22,8 @@ use Rattle.rules.specs.Theorems.JobLaws.{Limits}
 use Rattle.instruction.specs.declared.Instruction.{Instruction}
 use Rattle.instruction.specs.Meaning.{meaning}
 use Rattle.instruction.specs.Registers.{RegistersBelow}
-use Rattle.descriptor.specs.Descriptors.{firstTokens}
+use Rattle.descriptor.specs.declared.Descriptor.{Descriptor}
+use Rattle.descriptor.specs.Descriptors.{descriptorIn, firstTokens}
 use Rattle.program.specs.Programs.{programIn, Describes}
 use Rattle.work.specs.declared.machine.Control.{Control}
 use Rattle.work.specs.Layout.{labels}
@@ -129,6 +130,10 @@ pub record Executing (p : List ℕ) (t : Trailer) (i : Instruction) (a : Tagged)
 -- rule 3 for the instruction i
 pub record Performed (p : List ℕ) (t : Trailer) (i : Instruction) (x y : Standing) : Type 0 where
   pub made : (code : Code) → CodeOf t code → Made (locations t) (ordinary code (machineAt x (locations t)) (meaning p i)) x y
+
+-- the descriptor of the label at the place
+abbrev pub descriptorAt : List ℕ → Control → Descriptor
+descriptorAt w c = descriptorIn (getD w (labels + c .place) 0)
 
 -- What the instruction at the place asks: it is the program's, rule 1 is not the next, and there is room.
 pub record Advancing (p : List ℕ) (t : Trailer) (mode : Mode) (x : Standing) : Type 0 where

@@ -7,12 +7,13 @@ use location::Label;
 use rules::Tagged;
 use rules::Trailer;
 use stepping::Progress;
+ghost use mathlib.Core.Path.{_≡_};
 ghost use mathlib.Core.List.{List};
 ghost use Prim.Native.Nat.{ℕ};
 ghost use Rattle.descriptor.specs.Descriptors.{instructionIn, Valid};
 ghost use Rattle.stepping.specs.Progress.{standing, standingBefore, standingAfter};
 ghost use Rattle.execution.specs.Next.{Opens};
-ghost use Rattle.execution.specs.Running.{Executing, Performed, Advancing, NextMade, Unhindered, GoesOn};
+ghost use Rattle.execution.specs.Running.{descriptorAt, Executing, Performed, Advancing, NextMade, Unhindered, GoesOn};
 
 // Rule 3 for the instruction i; `a` is the value of what it reads first. Each kind goes its own way to the end of the step, so that
 // nothing is decided twice.
@@ -69,12 +70,38 @@ fn opening_of(mode: Mode, d: Descriptor) -> Opening
     }
     match mode {
         Mode::Plain => Opening::Nothing,
-        Mode::Mispredicting => Opening::Branch(d.first, Label::new(d.label)),
+        Mode::Mispredicting => Opening::Branch(d.first, Label::new(d.extra)),
     }
 }
 
-// The instruction at the place, in one of the two runs: rule 2 for a branch that it opens, else rule 3. What it reads first is evaluated
+// The instruction of a descriptor, in one of the two runs: rule 2 for a branch that it opens, else rule 3. What it reads first is evaluated
 // before its kind is looked at, so that one place evaluates for all kinds.
+fn advance_by(
+    p: &[u8],
+    t: Trailer,
+    mode: Mode,
+    work: &mut [u64],
+    trace: &mut [u64],
+    c: Progress,
+    d: Descriptor,
+) -> Progress
+    requires { ⌜ Advancing (now p) t mode (standing (now work) (now trace) c) × (d ≡ descriptorAt (now work) (c .control)) ⌝ }
+    ensures { λ r. ⌜ NextMade (now (p .entry)) t mode (standingBefore work trace c) (standingAfter work trace r) ⌝ }
+{
+    let a = evaluation::source_value(p, &work[..], d);
+    match opening_of(mode, d) {
+        Opening::Branch(r, l) => {
+            stepping::open_branch(&mut work[..], &mut trace[..], c, r, l, a, t.window)
+        }
+        Opening::Nothing => {
+            let i = descriptor::instruction_of(p, d);
+            carry_out(p, t, &mut work[..], &mut trace[..], c, i, a)
+        }
+    }
+}
+
+// The instruction at the place. One that reads nothing goes its own way, as its word tells it alone, and does not wait for what the other
+// kinds need. A skip is tested first and by itself, so that its kind is not taken from the word.
 fn advance(
     p: &[u8],
     t: Trailer,
@@ -88,17 +115,15 @@ fn advance(
 {
     let control = c.control;
     let label = Label::new(control.place);
-    let d = program::fetch(&work[..], work::LABELS, label);
-    let a = evaluation::source_value(p, &work[..], d);
-    match opening_of(mode, d) {
-        Opening::Branch(r, l) => {
-            stepping::open_branch(&mut work[..], &mut trace[..], c, r, l, a, t.window)
-        }
-        Opening::Nothing => {
-            let i = descriptor::instruction_of(p, d);
-            carry_out(p, t, &mut work[..], &mut trace[..], c, i, a)
-        }
+    let word = program::word_of(&work[..], work::LABELS, label);
+    if descriptor::is_skip(word) {
+        return stepping::skip(c, Instruction::Skip);
     }
+    if descriptor::is_bare(word) {
+        return stepping::skip(c, descriptor::bare_in(word));
+    }
+    let d = descriptor::descriptor_in(word);
+    advance_by(p, t, mode, &mut work[..], &mut trace[..], c, d)
 }
 
 // Steps up to a step count, or to the end of the run: neither the budget nor the trace area runs out before.

@@ -12,8 +12,8 @@ use Rattle.rules.specs.declared.Refusal.the-variants as refusals
 use Rattle.rules.specs.declared.Tagged.{Tagged}
 use Rattle.rules.specs.Rules.Operators.{neg, add}
 use Rattle.rules.specs.Rules.Expressions.{Token, reg, const, op1, op2, Expr, pushed, evalOn, top, eval}
-use Rattle.rules.specs.Rules.JobFile.{Read, got, refused, andThen, return, refuse, byte, unary, binary, wordOf, constant, tokenOf, token, tokens}
-use Rattle.rules.specs.Theorems.Readers.{valueOr, Holds, then, always, holds-value}
+use Rattle.rules.specs.Rules.JobFile.{got, andThen, return, refuse, byte, unary, binary, wordOf, constant, tokenOf, token, tokens}
+use Rattle.rules.specs.Theorems.Readers.{Holds, then, always, holds-value}
 use Rattle.token.specs.declared.Expression.{Expression}
 use Rattle.token.specs.Meaning.{tokensOf}
 
@@ -62,9 +62,6 @@ tokens-hold (suc k) p at =
     (λ t q h. then (Below registers) (Below registers) (tokens k p q) (λ ts q′. got (t ∷ ts) q′) (tokens-hold k p q) (λ ts q′ hs. (h, hs)))
 
 -- ---- the registers that the rules read are below 16
-pub token-below : (p : List ℕ) (at : ℕ) (t : Token) (q : ℕ) → token p at ≡ got t q → TokenBelow registers t
-token-below p at t q e = rw e at (token-holds p at)
-
 pub expression-below : (p : List ℕ) (e : Expression) → Below registers (tokensOf p e)
 unfolding tokensOf
 expression-below p e = holds-value (Below registers) [] (tokens (e .count) p (e .at)) tt (tokens-hold (e .count) p (e .at))

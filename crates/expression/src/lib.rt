@@ -3,7 +3,6 @@ use location::Location;
 use location::LocationSet;
 use rules::Tagged;
 use token::Expression;
-use token::Token;
 ghost use mathlib.Core.Path.{_≡_};
 ghost use mathlib.Core.Bool.{true};
 ghost use Prim.Native.Nat.{_≤_};
@@ -12,13 +11,12 @@ ghost use Rattle.location.specs.Sets.{registers};
 ghost use Rattle.rules.specs.Rules.Operators.{neg, apply1, add, apply2};
 ghost use Rattle.rules.specs.Rules.Expressions.{sound, result2, eval};
 ghost use Rattle.rules.specs.Rules.JobFile.{unary, binary};
-ghost use Rattle.token.specs.Meaning.{tokenMeaning, tokensOf};
+ghost use Rattle.token.specs.Meaning.{tokensOf};
 ghost use Rattle.work.specs.Layout.{operandBase};
 ghost use Rattle.work.specs.Words.{taggedAt};
-ghost use Rattle.expression.specs.Registers.{TokenBelow};
-ghost use Rattle.expression.specs.Results.{value, gathered};
 
-// The most values that an expression holds, and one more, so that the second operand can always be read.
+// The slots below the top of the stack: seven for values, as an expression holds eight at most, and two that stand for none. The first is
+// what the first token reads; the second takes the top as it is before the first value.
 const SLOTS: usize = 9;
 
 // An operator of one operand, by its place in the rules' table.
@@ -49,67 +47,45 @@ fn operate_two(i: u8, x: u64, y: u64) -> u64
     }
 }
 
-// The value that a token gives, of the values x and y of its operands.
-fn token_value(t: Token, work: &[u64], x: u64, y: u64) -> u64
-    requires { ⌜ TokenBelow registers (tokenMeaning t) × (operandBase registers ≤ length (now work)) ⌝ }
-    ensures { λ r. ⌜ r ≡ value (tokenMeaning t) (taggedAt (now (work .entry))) x y ⌝ }
-{
-    match t {
-        Token::Register(r) => {
-            let v = work::load(work, Location::register(r));
-            v.value
-        }
-        Token::Constant(c) => c,
-        Token::Unary(i) => operate_one(i, x),
-        Token::Binary(i) => operate_two(i, x, y),
-    }
-}
-
-// A set with what a token adds to it: only a register brings a set.
-fn gather(t: Token, work: &[u64], s: LocationSet) -> LocationSet
-    requires { ⌜ TokenBelow registers (tokenMeaning t) × (operandBase registers ≤ length (now work)) ⌝ }
-    ensures { λ r. ⌜ r ≡ gathered (tokenMeaning t) (taggedAt (now (work .entry))) s ⌝ }
-{
-    match t {
-        Token::Register(r) => {
-            let v = work::load(work, Location::register(r));
-            let deps = v.deps;
-            s.union(deps)
-        }
-        Token::Constant(_) => s,
-        Token::Unary(_) => s,
-        Token::Binary(_) => s,
-    }
-}
-
-// The value of an expression that keeps the postfix rule: each token is read once, over a stack of values. The set is that of
-// all its registers together, so that no set is kept for each value.
+// The value of an expression that keeps the postfix rule: each token is read once, over a stack of values, whose top is a variable; those
+// below it stand in the slots before `held`. The set is that of all its registers together, so that no set is kept for each value.
+// A token's byte is tested for what comes most often first: a register, then an operator of two operands.
 pub fn evaluate(p: &[u8], work: &[u64], e: Expression) -> Tagged
     requires { ⌜ (sound (tokensOf (now p) e) ≡ true) × (operandBase registers ≤ length (now work)) ⌝ }
     ensures { λ r. ⌜ r ≡ eval (taggedAt (now (work .entry))) (tokensOf (now (p .entry)) e) ⌝ }
 {
     let mut deps = LocationSet::empty();
     let mut stack = [0u64; SLOTS];
-    let mut held = 0;
+    let mut top: u64 = 0;
+    let mut held = 1;
     let mut offset = e.at;
     let count = e.count;
     let mut i = 0;
     while i < count {
-        let read = token::token_at(p, offset);
-        let t = read.token;
-        let low = held - token::taken(t);
-        let x = stack[low];
-        let y = stack[low + 1];
-        stack[low] = token_value(t, work, x, y);
-        deps = gather(t, work, deps);
-        held = low + 1;
-        offset = read.next;
+        let byte = p[offset];
+        offset += 1;
         i += 1;
+        let below = stack[held - 1];
+        if byte < 16 {
+            let v = work::load(work, Location::register(byte));
+            let more = v.deps;
+            deps = deps.union(more);
+            stack[held] = top;
+            held += 1;
+            top = v.value;
+        } else if 18 < byte {
+            held -= 1;
+            top = operate_two(byte - 19, below, top);
+        } else if byte == 16 {
+            stack[held] = top;
+            held += 1;
+            top = token::word(p, offset);
+            offset += 8;
+        } else {
+            top = operate_one(byte - 17, top);
+        }
     }
-    Tagged {
-        value: stack[0],
-        deps,
-    }
+    Tagged { value: top, deps }
 }
 
 // Two operands under an operator, by its place in the rules' table.

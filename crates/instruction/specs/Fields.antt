@@ -48,30 +48,32 @@ pub record WithParts (f : ℕ → Expr → Instr) (p : List ℕ) (at : ℕ) : Ty
   pub room : at < length p
   pub expression : readable (expr p (at + 1)) ≡ true
   pub value : valueOr skip (withRegister f p at) ≡ f (getD p at 0) (valueOr [] (expr p (at + 1)))
+  pub next : nextOffset (withRegister f p at) ≡ nextOffset (expr p (at + 1))
 
 pub with-parts : (f : ℕ → Expr → Instr) (p : List ℕ) (at : ℕ) → readable (withRegister f p at) ≡ true → WithParts f p at
-unfolding withRegister
+unfolding withRegister nextOffset
 with-parts f p at h =
     let r = register-read p at _ h in
     let e = first-read [] (expr p (at + 1)) _ (rw (r .1) at h) in
-    record { room = r .0; expression = e .0; value = rw (r .1, e .1) }
+    record { room = r .0; expression = e .0; value = rw (r .1, e .1); next = rw (r .1, e .1) }
 
 pub jump-parts : (p : List ℕ) (at : ℕ) → readable (jump p at) ≡ true
-    → (readable (expr p at) ≡ true) × (valueOr skip (jump p at) ≡ jmp (valueOr [] (expr p at)))
-unfolding jump
-jump-parts p at h = let e = first-read [] (expr p at) _ h in (e .0, rw (e .1))
+    → (readable (expr p at) ≡ true) × (valueOr skip (jump p at) ≡ jmp (valueOr [] (expr p at))) × (nextOffset (jump p at) ≡ nextOffset (expr p at))
+unfolding jump nextOffset
+jump-parts p at h = let e = first-read [] (expr p at) _ h in (e .0, rw (e .1), rw (e .1))
 
 pub record BranchParts (p : List ℕ) (at : ℕ) : Type 0 where
   pub room : at + 1 + 2 ≤ length p
   pub below : getD p at 0 < registers
   pub value : valueOr skip (branch p at) ≡ beqz (getD p at 0) (little p (at + 1) 2)
+  pub next : nextOffset (branch p at) ≡ at + 1 + 2
 
 pub branch-parts : (p : List ℕ) (at : ℕ) → readable (branch p at) ≡ true → BranchParts p at
-unfolding branch
+unfolding branch nextOffset
 branch-parts p at h =
     let r = register-read p at _ h in
     let w = word-read 2 p (at + 1) (first-read 0 (wordOf 2 p (at + 1)) _ (rw (r .1) at h) .0) in
-    record { room = w .0; below = r .2; value = rw (r .1, w .1) }
+    record { room = w .0; below = r .2; value = rw (r .1, w .1); next = rw (r .1, w .1) }
 
 pub record ConditionalParts (p : List ℕ) (at : ℕ) : Type 0 where
   pub room : at < length p
@@ -79,11 +81,12 @@ pub record ConditionalParts (p : List ℕ) (at : ℕ) : Type 0 where
   pub expression : readable (expr p (nextOffset (expr p (at + 1)))) ≡ true
   pub value : valueOr skip (conditional p at)
       ≡ cassign (getD p at 0) (valueOr [] (expr p (at + 1))) (valueOr [] (expr p (nextOffset (expr p (at + 1)))))
+  pub next : nextOffset (conditional p at) ≡ nextOffset (expr p (nextOffset (expr p (at + 1))))
 
 pub conditional-parts : (p : List ℕ) (at : ℕ) → readable (conditional p at) ≡ true → ConditionalParts p at
-unfolding conditional
+unfolding conditional nextOffset
 conditional-parts p at h =
     let r = register-read p at _ h in
     let c = first-read [] (expr p (at + 1)) _ (rw (r .1) at h) in
     let e = first-read [] (expr p (nextOffset (expr p (at + 1)))) _ (rw (r .1, c .1) at h) in
-    record { room = r .0; condition = c .0; expression = e .0; value = rw (r .1, c .1, e .1) }
+    record { room = r .0; condition = c .0; expression = e .0; value = rw (r .1, c .1, e .1); next = rw (r .1, c .1, e .1) }

@@ -24,10 +24,10 @@ pub fn public_list(job: &[u8], t: Trailer) -> LocationSet
     ensures { λ r. ⌜ r ≡ publicOf t (now (job .entry)) ⌝ }
 {
     let at = t.list;
-    let a = token::number(job, at, 8);
-    let b = token::number(job, at + 8, 8);
-    let c = token::number(job, at + 16, 8);
-    let d = token::number(job, at + 24, 8);
+    let a = token::word(job, at);
+    let b = token::word(job, at + 8);
+    let c = token::word(job, at + 16);
+    let d = token::word(job, at + 24);
     LocationSet {
         words: [a, b, c, d],
     }

@@ -14,11 +14,12 @@ use Rattle.location.specs.SetLaws.{and-right}
 use Rattle.rules.specs.declared.Trailer.{Trailer}
 use Rattle.rules.specs.Rules.Limits.{maxBytes, trailerSize}
 use Rattle.rules.specs.Rules.Plain.{State, ownFrom, values}
-use Rattle.rules.specs.Rules.Runs.{Job, Result}
+use Rattle.rules.specs.Rules.Runs.{Job}
 use Rattle.rules.specs.Rules.JobFile.{got, accepted, parse, trailer, sized, locations, wordsAt, program, programOf}
 use Rattle.rules.specs.Rules.Calls.{lent, written, workingWords, room, areasAfter}
 use Rattle.rules.specs.Rules.Pairs.{withState}
-use Rattle.rules.specs.Theorems.JobLaws.{passed, Passed, limits-hold}
+use Rattle.rules.specs.Theorems.Readers.{readable}
+use Rattle.rules.specs.Theorems.JobLaws.{passed}
 use Rattle.descriptor.specs.Descriptors.{offsets}
 use Rattle.program.specs.Words.{wordsFrom, length-words}
 use Rattle.program.specs.Programs.{programIn, Describes, table-written}
@@ -34,7 +35,7 @@ use Rattle.execution.specs.declared.Ran.{Ran}
 use Rattle.execution.specs.Running.{Loaded, EndsAs, RanTo}
 use Rattle.execution.specs.Starts.{whole, whole-mispredicting, whole-plain}
 use Rattle.job_run.specs.Accepted.{accepted-limits, accepted-state}
-use Rattle.job_run.specs.JobRuns.{resultOf, RunOf, RunIn}
+use Rattle.job_run.specs.JobRuns.{resultOf, LoadedFor, RunOf, RunIn}
 
 -- the part of a list that the code takes from 0 on
 pub same-part : (n : ℕ) (xs : List ℕ) → take (n - 0) (drop 0 xs) ≡ take n xs
@@ -52,6 +53,23 @@ sized-most : (bs : List ℕ) → sized (length bs) ≡ true → length bs ≤ ma
 unfolding sized
 sized-most bs h = leb-true (length bs) maxBytes (and-right (leb trailerSize (length bs)) (leb (length bs) maxBytes) h)
 
+-- the program of an accepted job was read, and its offsets fit in their words
+module _ {bs : List ℕ} {t : Trailer} (k : Accepts bs t) where
+  program-got : (job : Job) (e : parse bs ≡ accepted job)
+      → program (t .count) (t .count) 0 (take (t .state) bs) 0 ≡ got (job .code .prog) (passed bs job e .next)
+  unfolding programOf
+  program-got job e = rw (k .trailer) (passed bs job e .read)
+
+  program-size : length (take (t .state) bs) ≤ offsets
+  program-size =
+      let s = sized-most bs (passed bs (k .job) (k .parsed) .sized) in
+      let l = length-take (t .state) bs in
+      omega arith
+
+  pub program-accepted : {p : List ℕ} → p ≡ take (t .state) bs → (readable (program (t .count) (t .count) 0 p 0) ≡ true) × (length p ≤ offsets)
+  unfolding readable
+  program-accepted ep = (rw (ep, program-got (k .job) (k .parsed)), rw ep program-size)
+
 take-sets : (vs w : List ℕ) (i n : ℕ) → n ≤ i → take n (sets w i vs) ≡ take n w
 take-sets [] w i n h = refl
 take-sets (a ∷ vs) w i n h = take-sets vs (set w i a) (suc i) n (omega arith) ∙ take-set-le n w i a h
@@ -62,13 +80,7 @@ module _ {bs : List ℕ} {t : Trailer} (k : Accepts bs t) (w : List ℕ) {p w′
   -- they describe the job's program
   described : (job : Job) → parse bs ≡ accepted job
       → (programIn p (t .count) (drop labels w′) ≡ job .code .prog) × Describes p (t .count) (drop labels w′)
-  unfolding programOf
-  described job e =
-      let q = passed bs job e in
-      let s = sized-most bs (q .sized) in
-      let l = length-take (t .state) bs in
-      let read : program (t .count) (t .count) 0 (take (t .state) bs) 0 ≡ got (job .code .prog) (q .next) = rw (k .trailer) (q .read) in
-      rw (ew, ep) (table-written (t .count) (take (t .state) bs) read (omega arith) w labels fits)
+  described job e = rw (ew, ep) (table-written (t .count) (take (t .state) bs) (program-got k job e) (program-size k) w labels fits)
 
   job-loaded : Loaded p t w′
   job-loaded = record { limits = accepted-limits k; described = described (k .job) (k .parsed) .1 }
@@ -103,12 +115,12 @@ module _ {bs : List ℕ} {t : Trailer} (k : Accepts bs t) (w : List ℕ) {p w′
 
 -- ---- the run of a state
 -- what is loaded
-pub loaded : {bs p : List ℕ} {t : Trailer} {states : List ℕ} {at n : ℕ} {w w₁ w₂ : List ℕ} (k : Accepts bs t) → p ≡ take (t .state) bs
+loaded : {bs p : List ℕ} {t : Trailer} {states : List ℕ} {at n : ℕ} {w w₁ w₂ : List ℕ} (k : Accepts bs t) → p ≡ take (t .state) bs
     → labelBase (t .count) ≤ length w₁ → StateLoaded states at n w w₁ → w₂ ≡ sets w₁ labels (wordsFrom (t .count) p 0)
     → workingWords ≤ length w → Loaded p t w₂ × (workingWords ≤ length w₂)
 loaded {w₁ = w₁} k ep h s ew m = (job-loaded k w₁ ep h ew, let a = size-kept k w₁ ep h ew in let b = s .size in omega arith)
 
-pub run-of : {bs p : List ℕ} {t : Trailer} {mode : Mode} {states : List ℕ} {at : ℕ} {w w₁ w₂ w′ a a′ : List ℕ} {r : Ran} (k : Accepts bs t)
+run-of : {bs p : List ℕ} {t : Trailer} {mode : Mode} {states : List ℕ} {at : ℕ} {w w₁ w₂ w′ a a′ : List ℕ} {r : Ran} (k : Accepts bs t)
     → p ≡ take (t .state) bs → labelBase (t .count) ≤ length w₁ → StateLoaded states at (locations t) w w₁
     → w₂ ≡ sets w₁ labels (wordsFrom (t .count) p 0) → RanTo t w₂ a w′ a′ r (whole p t mode w₂ a) → RunOf bs t mode states at w w′ a a′ r
 run-of {t = t} {mode} {states} {at} {w₁ = w₁} {w₂} {w′} {a} {a′} {r} k ep h s ew o = record {
@@ -121,6 +133,17 @@ run-of {t = t} {mode} {states} {at} {w₁ = w₁} {w₂} {w′} {a} {a′} {r} k
       ∙ state-loaded-after s workingWords (omega arith);
   size = o .size ∙ size-kept k w₁ ep h ew ∙ s .size;
 }
+
+pub loaded-for : {bs p : List ℕ} {t : Trailer} {states : List ℕ} {at : ℕ} {w w₁ w₂ : List ℕ} → Accepts bs t → p ≡ take (t .state) bs
+    → labelBase (t .count) ≤ length w₁ → StateLoaded states at (locations t) w w₁ → w₂ ≡ sets w₁ labels (wordsFrom (t .count) p 0)
+    → workingWords ≤ length w → LoadedFor bs t states at w w₂
+loaded-for {bs} {t = t} {w₁ = w₁} {w₂} k ep h s ew m = record {
+  ready = λ p e. loaded k e h s (same p e) m;
+  runs = λ mode p w′ a a′ r e o. run-of k e h s (same p e) o;
+}
+  where
+    same : (p : List ℕ) → p ≡ take (t .state) bs → w₂ ≡ sets w₁ labels (wordsFrom (t .count) p 0)
+    same p e = ew ∙ ap (λ (q : List ℕ). sets w₁ labels (wordsFrom (t .count) q 0)) (ep ∙ sym e)
 
 -- ---- the run of a job
 module _ {bs : List ℕ} {t : Trailer} (k : Accepts bs t) (mode : Mode) {w w′ a a′ : List ℕ} {r : Ran} where

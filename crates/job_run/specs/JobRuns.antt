@@ -3,7 +3,7 @@
 use mathlib.Core.Path.{_≡_}
 use mathlib.Core.List.{List}
 use Prim.Native.Nat.{ℕ, _+_, _*_, _≤_}
-use lib.ListN.{length, drop}
+use lib.ListN.{length, take, drop}
 use Rattle.rules.specs.declared.Trailer.{Trailer}
 use Rattle.rules.specs.Rules.Runs.{Job, Result, mispredictingRun, plainRun}
 use Rattle.rules.specs.Rules.JobFile.{accepted, parse, locations, wordsAt}
@@ -13,7 +13,8 @@ use Rattle.job.specs.Answers.{Accepts}
 use Rattle.execution.specs.declared.Mode.{Mode}
 use Rattle.execution.specs.declared.Mode.the-variants as modes
 use Rattle.execution.specs.declared.Ran.{Ran}
-use Rattle.execution.specs.Running.{Reports, EndsAs}
+use Rattle.execution.specs.Running.{Loaded, Reports, EndsAs, RanTo}
+use Rattle.execution.specs.Starts.{whole}
 
 -- the rules' run of a job in each of the two modes
 abbrev pub resultOf : Mode → Job → ℕ → Result
@@ -32,6 +33,13 @@ pub record RunOf (bs : List ℕ) (t : Trailer) (mode : Mode) (states : List ℕ)
       → EndsAs t a w′ a′ r (resultOf mode (withState job (wordsAt (locations t) states at)) (room a))
   pub past : drop workingWords w′ ≡ drop workingWords w
   pub size : length w′ ≡ length w
+
+-- What loading that state and the program leaves, in the words w₁ that were w: a run can be made from the words, over the program's bytes p,
+-- and any run made from them is the job's with that state.
+pub record LoadedFor (bs : List ℕ) (t : Trailer) (states : List ℕ) (at : ℕ) (w w₁ : List ℕ) : Type 0 where
+  pub ready : (p : List ℕ) → p ≡ take (t .state) bs → Loaded p t w₁ × (workingWords ≤ length w₁)
+  pub runs : (mode : Mode) (p w′ a a′ : List ℕ) (r : Ran) → p ≡ take (t .state) bs → RanTo t w₁ a w′ a′ r (whole p t mode w₁ a)
+      → RunOf bs t mode states at w w′ a a′ r
 
 -- The job was accepted, and neither area is too short.
 pub record AreasFit (bs : List ℕ) (t : Trailer) (ends w : List ℕ) : Type 0 where

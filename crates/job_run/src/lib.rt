@@ -8,7 +8,18 @@ ghost use lib.Dec.{leb};
 ghost use lib.ListN.{length};
 ghost use Rattle.rules.specs.Rules.Calls.{workingWords};
 ghost use Rattle.rules.specs.Rules.Promises.{areasAtEntry, areasAtExit};
-ghost use Rattle.job_run.specs.JobRuns.{Runnable, RunOf, AreasFit, RunIn};
+ghost use Rattle.job_run.specs.JobRuns.{Runnable, LoadedFor, RunOf, AreasFit, RunIn};
+
+// The state that stands at an offset of some bytes and the words of the job's program are loaded for a run.
+fn load(job: &[u8], t: Trailer, states: &[u8], at: usize, work: &mut [u64])
+    requires { ⌜ Runnable (now job) t (now states) at (now work) ⌝ }
+    ensures { λ _. ⌜ LoadedFor (now (job .entry)) t (now (states .entry)) at (now (work .entry)) (now (work .exit)) ⌝ }
+{
+    let n = t.locations();
+    transfer::load_state(states, at, n, &mut work[..]);
+    let s = t.state;
+    program::write_words(&job[0..s], t.count, &mut work[..], work::LABELS);
+}
 
 // The run with the state that stands at an offset of some bytes.
 pub fn run_state(
@@ -24,12 +35,9 @@ pub fn run_state(
     ensures { λ r. ⌜ RunOf (now (job .entry)) t mode (now (states .entry)) at
         (now (work .entry)) (now (work .exit)) (now (trace .entry)) (now (trace .exit)) r ⌝ }
 {
-    let n = t.locations();
-    transfer::load_state(states, at, n, &mut work[..]);
+    load(job, t, states, at, &mut work[..]);
     let s = t.state;
-    let p = &job[0..s];
-    program::write_words(p, t.count, &mut work[..], work::LABELS);
-    execution::run(p, t, mode, &mut work[..], &mut trace[..])
+    execution::run(&job[0..s], t, mode, &mut work[..], &mut trace[..])
 }
 
 // Whether the working area and the end area are long enough for n locations.
@@ -42,7 +50,8 @@ pub fn areas_fit(n: usize, end: &[u64], work: &[u64]) -> bool
     n <= end.len()
 }
 
-// The run with the job's own state, and what it leaves in every area.
+// The run with the job's own state, and what it leaves in every area. It calls `execution::run` itself: with two calls of it the compiler
+// keeps the run a function of its own, whose steps have the processor's registers for themselves (docs/PERFORMANCE.md).
 pub fn run_in_areas(
     job: &[u8],
     t: Trailer,
@@ -54,7 +63,9 @@ pub fn run_in_areas(
     requires { ⌜ AreasFit (now job) t (now end) (now work) ⌝ }
     ensures { λ r. ⌜ RunIn (now (job .entry)) t mode (areasAtEntry trace end work) (areasAtExit trace end work) r ⌝ }
 {
-    let r = run_state(job, t, mode, job, t.state, &mut work[..], &mut trace[..]);
+    let s = t.state;
+    load(job, t, job, s, &mut work[..]);
+    let r = execution::run(&job[0..s], t, mode, &mut work[..], &mut trace[..]);
     let n = t.locations();
     transfer::save_values(&work[..], n, &mut end[..]);
     work::clear(&mut work[..]);

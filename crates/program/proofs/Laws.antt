@@ -1,14 +1,17 @@
 -- How the loop over instructions meets the rules.
 -- Assumes nothing.
 use mathlib.Core.Path.{_≡_, refl, ap}
-use mathlib.Core.List.{List, _∷_}
+use mathlib.Core.Bool.{true}
+use mathlib.Core.List.{List, [], _∷_}
 use Prim.Native.Nat.{ℕ, suc, _+_}
 use native.Mathlib.Omega.{arith}
 use Rattle.rules.specs.declared.Refusal.{Refusal}
-use Rattle.rules.specs.Rules.Instructions.{Instr}
-use Rattle.rules.specs.Rules.JobFile.{Read, got, refused, andThen, instruction, program}
+use Rattle.rules.specs.Rules.Instructions.{Instr, skip}
+use Rattle.rules.specs.Rules.JobFile.{Read, got, refused, andThen, instr, instruction, program}
+use Rattle.rules.specs.Theorems.Readers.{readable, nextOffset, valueOr, unread, first-read}
 use Rattle.program.specs.declared.Checked.the-variants as check
 use Rattle.program.specs.Checks.{checkedOf}
+use Rattle.program.specs.Programs.{instruction-found}
 
 -- ---- the program: one instruction more, or a refusal
 first : (R : Read (List Instr)) (x : Instr) → checkedOf (andThen R (λ xs q. got (x ∷ xs) q)) ≡ checkedOf R
@@ -34,3 +37,21 @@ pub program-refused : (n k i : ℕ) (p : List ℕ) (at : ℕ) (r : Refusal) → 
     → checkedOf (program n (suc k) i p at) ≡ check.Refused r
 unfolding program
 program-refused n k i p at r e = halted (instruction n i p at) (program n k (i + 1) p) r e
+
+-- ---- an accepted program: its first instruction, and the others
+pub program-read : (n k i : ℕ) (p : List ℕ) (at : ℕ) → readable (program n (suc k) i p at) ≡ true
+    → (readable (instr p at) ≡ true) × (readable (program n k (i + 1) p (nextOffset (instr p at))) ≡ true)
+unfolding program readable nextOffset
+program-read n k i p at h = go (instruction n i p at) refl (first-read skip (instruction n i p at) _ h)
+  where
+    rest : Instr → ℕ → Read (List Instr)
+    rest x q = andThen (program n k (i + 1) p q) (λ xs q′. got (x ∷ xs) q′)
+
+    go : (R : Read Instr) → instruction n i p at ≡ R
+        → (readable R ≡ true) × (andThen R rest ≡ rest (valueOr skip R) (nextOffset R))
+        → (readable (instr p at) ≡ true) × (readable (program n k (i + 1) p (nextOffset (instr p at))) ≡ true)
+    go (refused r) e f = unread (f .0)
+    go (got x q) e f =
+        let w = instruction-found n i p at x q e in
+        let z : readable (rest x q) ≡ true = rw e at h in
+        (rw (w .read), rw (w .read) (first-read [] (program n k (i + 1) p q) (λ xs q′. got (x ∷ xs) q′) z .0))

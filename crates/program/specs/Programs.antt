@@ -1,6 +1,6 @@
 -- The program that the words of a table describe; and the table of an accepted program's words, which describes that program.
 -- Assumes nothing.
-use mathlib.Core.Path.{_≡_, refl, sym, ap, ap₂, _∙_}
+use mathlib.Core.Path.{_≡_, refl, ap, ap₂, _∙_}
 use mathlib.Core.Bool.{Bool, true, false, cond}
 use mathlib.Core.List.{List, [], _∷_, _++_}
 use Prim.Native.Nat.{ℕ, zero, suc, _+_, _≤_, _<_}
@@ -42,11 +42,11 @@ program-at p (suc n) ws (suc i) h =
     ∙ ap (λ (w : ℕ). instructionIn p (descriptorIn w)) (getD-drop 1 ws i 0 ∙ ap (λ (k : ℕ). getD ws k 0) z)
 
 -- ---- an instruction that was read can be read at its offset, and keeps the postfix rule; q is the offset after it
-record Found (p : List ℕ) (at : ℕ) (x : Instr) (q : ℕ) : Type 0 where
-  read : instr p at ≡ got x q
-  sound : postfix x ≡ true
+pub record Found (p : List ℕ) (at : ℕ) (x : Instr) (q : ℕ) : Type 0 where
+  pub read : instr p at ≡ got x q
+  pub sound : postfix x ≡ true
 
-instruction-found : (n i : ℕ) (p : List ℕ) (at : ℕ) (x : Instr) (q : ℕ) → instruction n i p at ≡ got x q → Found p at x q
+pub instruction-found : (n i : ℕ) (p : List ℕ) (at : ℕ) (x : Instr) (q : ℕ) → instruction n i p at ≡ got x q → Found p at x q
 unfolding instruction
 instruction-found n i p at x q e = first (instr p at) refl e
   where

@@ -5,15 +5,16 @@ use instruction::InstructionRead;
 use location::Label;
 use rules::Refusal;
 ghost use mathlib.Core.Path.{_≡_};
+ghost use mathlib.Core.Bool.{true};
 ghost use mathlib.Core.List.{List};
 ghost use Prim.Native.Nat.{ℕ, _+_, _<_, _≤_};
 ghost use lib.ListN.{length, getD};
 ghost use lib.Seq.{sets};
-ghost use Rattle.rules.specs.Rules.JobFile.{instr, branchLabelHolds, instruction, program};
+ghost use Rattle.rules.specs.Rules.JobFile.{branchLabelHolds, instruction, program};
 ghost use Rattle.instruction.specs.Meaning.{meaning};
 ghost use Rattle.program.specs.Checks.{checkedOf};
-ghost use Rattle.descriptor.specs.Descriptors.{descriptorIn};
-ghost use Rattle.rules.specs.Theorems.Readers.{nextOffset};
+ghost use Rattle.descriptor.specs.Descriptors.{offsets, descriptorIn};
+ghost use Rattle.rules.specs.Theorems.Readers.{readable};
 ghost use Rattle.program.specs.Words.{wordsFrom};
 
 // Whether the branch label, if it has one, of the instruction with a label is allowed: at most n, and not the next label.
@@ -94,27 +95,26 @@ pub fn check_program(p: &[u8], n: usize) -> Checked
     }
 }
 
-fn next_offset(p: &[u8], at: usize) -> usize
-    ensures { λ r. ⌜ r ≡ nextOffset (instr (now (p .entry)) at) ⌝ }
-{
-    match instruction::decode(p, at) {
-        InstructionRead::Found(d) => d.next,
-        InstructionRead::Refused(_) => 0,
-    }
-}
-
-// Writes the words of n instructions to a table, from a base on. Any bytes have such words.
+// Writes the words of the n instructions of an accepted program to a table, from a base on.
 pub fn write_words(p: &[u8], n: usize, table: &mut [u64], base: usize)
-    requires { ⌜ base + n ≤ length (now table) ⌝ }
+    requires { ⌜ (readable (program n n 0 (now p) 0) ≡ true) × (length (now p) ≤ offsets) × (base + n ≤ length (now table)) ⌝ }
     ensures { λ _. ⌜ now (table .exit) ≡ sets (now (table .entry)) base (wordsFrom n (now (p .entry)) 0) ⌝ }
 {
     let mut at: usize = 0;
     let mut i = 0;
     while i < n {
         table[base + i] = descriptor::word_at(p, at);
-        at = next_offset(p, at);
+        at = descriptor::next_offset(p, at);
         i += 1;
     }
+}
+
+// The word of a label in the table.
+pub fn word_of(table: &[u64], base: usize, label: Label) -> u64
+    requires { ⌜ base + label .0 < length (now table) ⌝ }
+    ensures { λ r. ⌜ r ≡ getD (now (table .entry)) (base + label .0) 0 ⌝ }
+{
+    table[base + label.index()]
 }
 
 // The descriptor of a label, by its word in the table.
@@ -122,6 +122,5 @@ pub fn fetch(table: &[u64], base: usize, label: Label) -> Descriptor
     requires { ⌜ base + label .0 < length (now table) ⌝ }
     ensures { λ e. ⌜ e ≡ descriptorIn (getD (now (table .entry)) (base + label .0) 0) ⌝ }
 {
-    let word = table[base + label.index()];
-    descriptor::descriptor_in(word)
+    descriptor::descriptor_in(word_of(table, base, label))
 }

@@ -10,10 +10,10 @@ pub mod observation;
 
 const REGISTERS: usize = Location::REGISTERS as usize;
 
-// A word with the set of locations that it rests on.
+// A word with the set of locations that it rests on; the set first, as in an operand of the working words.
 pub struct Tagged {
-    pub value: u64,
     pub deps: LocationSet,
+    pub value: u64,
 }
 
 // Why a run ended.

@@ -11,9 +11,9 @@ use lib.ListN.{length, getD}
 use borrow.Author.Tests.{leb-true, ltb-true, ltb-false, le-leb, lt-leb, lt-ltb, le-ltb, ne-eqb}
 use Rattle.rules.specs.declared.Refusal.the-variants as refusals
 use Rattle.rules.specs.Rules.Operators.{neg, add}
-use Rattle.rules.specs.Rules.Expressions.{Token, reg, const, op1, op2, Expr}
+use Rattle.rules.specs.Rules.Expressions.{Token, reg, const, op1, op2}
 use Rattle.rules.specs.Rules.JobFile.{Read, got, refused, andThen, return, refuse, little, wordOf, byte, unary, binary, constant, tokenOf, token, tokens, expr}
-use Rattle.rules.specs.Theorems.Readers.{readable, unread, first-read}
+use Rattle.rules.specs.Theorems.Readers.{readable, nextOffset, unread, first-read}
 use Rattle.token.specs.Bytes.{byte-got, byte-past}
 
 pub byte-read : (p : List ℕ) (at : ℕ) → readable (byte p at) ≡ true → at < length p
@@ -39,6 +39,10 @@ pub token-read : (p : List ℕ) (at : ℕ) → readable (token p at) ≡ true �
 unfolding token readable
 token-read p at h = let l = byte-read p at (first-read 0 (byte p at) _ h .0) in (l, rw (byte-got p at l))
 
+pub register-read : (p : List ℕ) (at : ℕ) → readable (token p at) ≡ true → getD p at 0 < 16 → token p at ≡ got (reg (getD p at 0)) (at + 1)
+unfolding tokenOf
+register-read p at h l = rw (lt-ltb _ 16 l) at (token-read p at h .1)
+
 pub constant-read : (p : List ℕ) (at : ℕ) → readable (token p at) ≡ true → getD p at 0 ≡ 16
     → (at + 1 + 8 ≤ length p) × (token p at ≡ got (const (little p (at + 1) 8)) (at + 1 + 8))
 unfolding tokenOf constant
@@ -46,6 +50,11 @@ constant-read p at h e =
     let t = rw e at (token-read p at h .1) in
     let w = word-read 8 p (at + 1) (first-read 0 (wordOf 8 p (at + 1)) _ (rw t at h) .0) in
     (w .0, rw (t, w .1))
+
+pub unary-read : (p : List ℕ) (at : ℕ) → readable (token p at) ≡ true → 16 ≤ getD p at 0 → getD p at 0 ≢ 16 → getD p at 0 < 19
+    → token p at ≡ got (op1 (getD unary (getD p at 0 - 17) neg)) (at + 1)
+unfolding tokenOf
+unary-read p at h l ne u = rw (le-ltb _ 16 l, ne-eqb _ 16 ne, lt-ltb _ 19 u) at (token-read p at h .1)
 
 pub operator-read : (p : List ℕ) (at : ℕ) → readable (token p at) ≡ true → 19 ≤ getD p at 0
     → token p at ≡ got (op2 (getD binary (getD p at 0 - 19) add)) (at + 1)
@@ -61,6 +70,31 @@ operator-read p at h l =
         (op2 (getD binary (getD p at 0 - 19) add)) (at + 1)
     go true h = refl
     go false h = unread h
+
+-- the offset after it: a constant has eight bytes after its first, any other token none
+pub constant-next : (p : List ℕ) (at : ℕ) → readable (token p at) ≡ true → getD p at 0 ≡ 16 → nextOffset (token p at) ≡ at + 9
+unfolding nextOffset
+constant-next p at h e = rw (constant-read p at h e .1) (omega arith)
+
+pub other-next : (p : List ℕ) (at : ℕ) → readable (token p at) ≡ true → getD p at 0 ≢ 16 → nextOffset (token p at) ≡ at + 1
+unfolding tokenOf readable nextOffset
+other-next p at h ne =
+    let t = rw (ne-eqb _ 16 ne) at (token-read p at h .1) in
+    rw t (go (ltb (getD p at 0) 16) (ltb (getD p at 0) 19) (ltb (getD p at 0) 29) (rw t at h))
+  where
+    k : ℕ
+    k = getD p at 0
+
+    by : Bool → Bool → Bool → Read Token
+    by a b c =
+        cond a (return (reg k))
+        (cond b (return (op1 (getD unary (k - 17) neg))) (cond c (return (op2 (getD binary (k - 19) add))) (refuse refusals.Encoding))) p (at + 1)
+
+    go : (a b c : Bool) → readable (by a b c) ≡ true → nextOffset (by a b c) ≡ at + 1
+    go true b c h = refl
+    go false true c h = refl
+    go false false true h = refl
+    go false false false h = unread h
 
 -- ---- when a token can be read: its byte stands before the end, and is known
 module _ (p : List ℕ) (at : ℕ) (l : at < length p) where
@@ -144,6 +178,16 @@ tokens-read k p at h =
   where
     skipped : Token
     skipped = const 0
+
+-- the offset after some tokens is that after the others, which follow the first
+pub tokens-next : (k : ℕ) (p : List ℕ) (at : ℕ) → readable (tokens (suc k) p at) ≡ true
+    → (readable (tokens k p (nextOffset (token p at))) ≡ true)
+    × (nextOffset (tokens (suc k) p at) ≡ nextOffset (tokens k p (nextOffset (token p at))))
+unfolding tokens nextOffset
+tokens-next k p at h =
+    let t = first-read (const 0) (token p at) _ h in
+    let ts = first-read [] (tokens k p (nextOffset (token p at))) _ (rw (t .1) at h) in
+    (ts .0, rw (t .1, ts .1))
 
 -- an expression: its token count, then so many tokens
 pub expr-read : (p : List ℕ) (at : ℕ) → readable (expr p at) ≡ true → (at < length p) × (expr p at ≡ tokens (getD p at 0) p (at + 1))

@@ -30,8 +30,16 @@ pub fn number(s: &[u8], at: usize, k: usize) -> u64
     x
 }
 
+// The number in eight bytes at an offset. As the number of bytes is told, the compiler makes this one load.
+pub fn word(s: &[u8], at: usize) -> u64
+    requires { ⌜ at + 8 ≤ length (now s) ⌝ }
+    ensures { λ r. ⌜ r ≡ little (now (s .entry)) at 8 ⌝ }
+{
+    number(s, at, 8)
+}
+
 // A token: a register, a constant, or an operator of one or of two operands by its place in the rules' table of them.
-pub enum Token {
+enum Token {
     Register(u8),
     Constant(u64),
     Unary(u8),
@@ -39,13 +47,13 @@ pub enum Token {
 }
 
 // A token and the offset after it.
-pub struct TokenAt {
+struct TokenAt {
     pub token: Token,
     pub next: usize,
 }
 
 // The token at an offset where one can be read: taken as it stands, with no test of the length.
-pub fn token_at(p: &[u8], at: usize) -> TokenAt
+fn token_at(p: &[u8], at: usize) -> TokenAt
     requires { ⌜ readable (token (now p) at) ≡ true ⌝ }
     ensures { λ r. ⌜ got (tokenMeaning (r .token)) (r .next) ≡ token (now (p .entry)) at ⌝ }
 {
@@ -58,9 +66,9 @@ pub fn token_at(p: &[u8], at: usize) -> TokenAt
         };
     }
     if byte == 16 {
-        let word = number(p, next, 8);
+        let constant = word(p, next);
         return TokenAt {
-            token: Token::Constant(word),
+            token: Token::Constant(constant),
             next: next + 8,
         };
     }
@@ -97,13 +105,13 @@ fn stands(p: &[u8], at: usize) -> bool
 }
 
 // A token with the offset after it, or a refusal.
-pub enum TokenRead {
+enum TokenRead {
     Found(Token, usize),
     Refused(Refusal),
 }
 
 // The token at an offset of any bytes.
-pub fn read_token(p: &[u8], at: usize) -> TokenRead
+fn read_token(p: &[u8], at: usize) -> TokenRead
     ensures { λ r. ⌜ tokenReadMeaning r ≡ token (now (p .entry)) at ⌝ }
 {
     if stands(p, at) {
@@ -115,7 +123,7 @@ pub fn read_token(p: &[u8], at: usize) -> TokenRead
 }
 
 // How many operands a token takes.
-pub fn taken(t: Token) -> usize
+fn taken(t: Token) -> usize
     ensures { λ r. ⌜ r ≡ takes (tokenMeaning t) ⌝ }
 {
     match t {
@@ -143,7 +151,7 @@ fn held_after(held: usize, k: usize) -> usize
 }
 
 // The tokens of an expression: the offset after them, and the values held after them.
-pub enum Scan {
+enum Scan {
     Past(usize, usize),
     Refused(Refusal),
 }
@@ -214,12 +222,37 @@ pub fn expression_at(p: &[u8], at: usize) -> Expression
     Expression { at: at + 1, count }
 }
 
-// The offset after the tokens of an expression; 0 where they cannot be read.
-pub fn expression_end(p: &[u8], e: Expression) -> usize
+// The offset after the token at an offset where one can be read: only a constant has bytes after its first.
+fn token_end(p: &[u8], at: usize) -> usize
+    requires { ⌜ readable (token (now p) at) ≡ true ⌝ }
+    ensures { λ r. ⌜ r ≡ nextOffset (token (now (p .entry)) at) ⌝ }
+{
+    if p[at] == 16 {
+        return at + 9;
+    }
+    at + 1
+}
+
+// The offset after the tokens of an expression that can be read.
+fn tokens_end(p: &[u8], e: Expression) -> usize
+    requires { ⌜ readable (tokens (e .count) (now p) (e .at)) ≡ true ⌝ }
     ensures { λ r. ⌜ r ≡ nextOffset (tokens (e .count) (now (p .entry)) (e .at)) ⌝ }
 {
-    match scan_tokens(p, e.at, e.count) {
-        Scan::Past(next, _) => next,
-        Scan::Refused(_) => 0,
+    let mut offset = e.at;
+    let count = e.count;
+    let mut i = 0;
+    while i < count {
+        offset = token_end(p, offset);
+        i += 1;
     }
+    offset
+}
+
+// The offset after the expression at an offset where one can be read.
+pub fn expression_end(p: &[u8], at: usize) -> usize
+    requires { ⌜ readable (expr (now p) at) ≡ true ⌝ }
+    ensures { λ r. ⌜ r ≡ nextOffset (expr (now (p .entry)) at) ⌝ }
+{
+    let e = expression_at(p, at);
+    tokens_end(p, e)
 }

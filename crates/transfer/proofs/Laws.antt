@@ -44,13 +44,13 @@ unfolding single only none
 single-length l = length-set (replicate 4 0) (l / 64) (2 ^ (l % 64)) ∙ length-replicate {A = ℕ} 4 0
 
 module _ (bs : List ℕ) (at n : ℕ) (w₀ w w₁ : List ℕ) (l : ℕ) (known : Loading bs at n w₀ w l) where
-  pub loading-more : (j k x : ℕ) (s : LocationSet) → l < n → operandBase n ≤ length w₀ → j ≡ l → k ≡ l → x ≡ little bs (at + 8 * l) 8
-      → s ≡ single j → w₁ ≡ stored w k (tagged x s) → Loading bs at n w₀ w₁ (l + 1)
+  pub loading-more : (k x : ℕ) → l < n → operandBase n ≤ length w₀ → k ≡ l → x ≡ little bs (at + 8 * l) 8 → w₁ ≡ stored w k (tagged x (single k))
+      → Loading bs at n w₀ w₁ (l + 1)
   unfolding ownFrom wordsAt
-  loading-more j k x s h f ej ek ex es e =
+  loading-more k x h f ek ex e =
       let v = tagged (little bs (at + 8 * l) 8) (single l) in
       let vs = taggedWords v in
-      let g : w₁ ≡ stored w l v = e ∙ (λ t. stored w (ek t) (tagged (ex t) ((es ∙ ap single ej) t))) in
+      let g : w₁ ≡ stored w l v = e ∙ (λ t. stored w (ek t) (tagged (ex t) (single (ek t)))) in
       let four = single-length l in
       let room : operandBase l + 5 ≤ length w = rw (known .size) (omega arith) in
       let words = wordsAt (n - (l + 1)) bs (at + 8 * (l + 1)) in

@@ -1,13 +1,12 @@
 // Words moved between what the caller lends and the working words, before a run and after it; and two states compared.
 use location::Location;
 use location::LocationSet;
-use rules::Tagged;
 ghost use mathlib.Core.Path.{_≡_};
 ghost use mathlib.Core.Bool.{not, _||_};
 ghost use Prim.Native.Nat.{_+_, _*_, _≤_};
 ghost use lib.Dec.{eqb};
 ghost use lib.ListN.{length};
-ghost use Rattle.location.specs.Sets.{member};
+ghost use Rattle.location.specs.Sets.{limit, member};
 ghost use Rattle.rules.specs.Rules.Plain.{values};
 ghost use Rattle.rules.specs.Rules.JobFile.{little, wordsAt};
 ghost use Rattle.rules.specs.Rules.Calls.{written};
@@ -24,19 +23,18 @@ fn word_at(bytes: &[u8], at: usize, l: usize) -> u64
     requires { ⌜ at + 8 * l + 8 ≤ length (now bytes) ⌝ }
     ensures { λ r. ⌜ r ≡ little (now (bytes .entry)) (at + 8 * l) 8 ⌝ }
 {
-    token::number(bytes, at + WORD_BYTES * l, WORD_BYTES)
+    token::word(bytes, at + WORD_BYTES * l)
 }
 
 // Each of n locations takes its word of those at an offset of the bytes, with the set of itself alone.
 pub fn load_state(bytes: &[u8], at: usize, n: usize, work: &mut [u64])
-    requires { ⌜ (at + 8 * n ≤ length (now bytes)) × (operandBase n ≤ length (now work)) ⌝ }
+    requires { ⌜ (at + 8 * n ≤ length (now bytes)) × (operandBase n ≤ length (now work)) × (n ≤ limit) ⌝ }
     ensures { λ _. ⌜ StateLoaded (now (bytes .entry)) at n (now (work .entry)) (now (work .exit)) ⌝ }
 {
     let mut loaded = 0;
     while loaded < n {
         let value = word_at(bytes, at, loaded);
-        let deps = LocationSet::single(Location::new(loaded));
-        work::store(&mut work[..], Location::new(loaded), Tagged { value, deps });
+        work::store_own(&mut work[..], Location::new(loaded), value);
         loaded += 1;
     }
 }

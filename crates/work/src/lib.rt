@@ -6,8 +6,9 @@ use location::Location;
 use location::LocationSet;
 use rules::Tagged;
 ghost use mathlib.Core.Path.{_≡_};
-ghost use Prim.Native.Nat.{_+_, _-_, _*_, _≤_};
+ghost use Prim.Native.Nat.{_+_, _-_, _*_, _<_, _≤_};
 ghost use lib.ListN.{length, replicate};
+ghost use Rattle.location.specs.Sets.{limit, single};
 ghost use Rattle.rules.specs.Rules.Expressions.{tagged};
 ghost use Rattle.rules.specs.Rules.Calls.{written, workingWords};
 ghost use Rattle.work.specs.Layout.{operandBase, changeBase, firstBranch, branchBase};
@@ -74,6 +75,18 @@ pub fn store(work: &mut [u64], l: Location, v: Tagged)
 {
     let deps = v.deps;
     store_at(&mut work[..], OPERAND * l.index(), v.value, deps);
+}
+
+// Location l takes a value that rests on l alone: of its set only the word that has its bit is not 0.
+pub fn store_own(work: &mut [u64], l: Location, value: u64)
+    requires { ⌜ l .0 < limit ⌝ }
+    requires { ⌜ operandBase (l .0) + 5 ≤ length (now work) ⌝ }
+    ensures { λ _. ⌜ now (work .exit) ≡ stored (now (work .entry)) (l .0) (tagged value (single (l .0))) ⌝ }
+{
+    let k = l.index();
+    let at = OPERAND * k;
+    store_at(&mut work[..], at, value, LocationSet::empty());
+    work[at + k / 64] = 1 << (k % 64);
 }
 
 // Location l takes v; its operand of before goes to the log as change number count.

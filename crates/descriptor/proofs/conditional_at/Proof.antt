@@ -7,27 +7,28 @@ use Rattle.descriptor.proofs.conditional_at.Statement.{statement}
 use Rattle.descriptor.proofs.conditional_at.Tie as tie
 
 shared-slice-read-r : tie.Need-shared-slice-read-r
-shared-slice-read-r c = let s = c .before .before in let a = s .args in conditional-parts (a .p .now) (a .at) (s .pre) .room
+shared-slice-read-r c = let s = c .before .before in let a = s .args in conditional-parts (a .p .now) (a .at) (s .pre .0) .room
 
 add-expression-at : tie.Need-add-expression-at
-add-expression-at c = let s = c .before .before in let a = s .args in let h = conditional-parts (a .p .now) (a .at) (s .pre) .room in search needs
+add-expression-at c = let s = c .before .before in let a = s .args in let h = conditional-parts (a .p .now) (a .at) (s .pre .0) .room in search needs
 
 expression-at-requires : tie.Need-expression-at-requires
-expression-at-requires c κs = let s = c .before .before in let a = s .args in conditional-parts (a .p .now) (a .at) (s .pre) .condition
+expression-at-requires c κs = let s = c .before .before in let a = s .args in conditional-parts (a .p .now) (a .at) (s .pre .0) .condition
 
 expression-at-requires-2 : tie.Need-expression-at-requires-2
 expression-at-requires-2 c κs =
-    let s = c .before .before .before .before in
+    let s = c .before .before .before in
     let a = s .args in
-    rw (c .expression-end .ensures, c .before .expression-at .ensures) (conditional-parts (a .p .now) (a .at) (s .pre) .expression)
+    rw (s .pre .1) (conditional-parts (a .p .now) (a .at) (s .pre .0) .expression)
 
 returns : tie.Need-returns
 unfolding tokensOf
 returns c =
-    let s = c .before .before .before .before .before in
+    let at-condition = c .before in
+    let s = at-condition .before .before .before in
     let a = s .args in
-    rw (c .expression-at2 .ensures, c .before .expression-end .ensures, c .before .before .expression-at .ensures)
-    (sym (conditional-parts (a .p .now) (a .at) (s .pre) .value))
+    rw (c .expression-at2 .ensures, s .pre .1, at-condition .expression-at .ensures)
+    (sym (conditional-parts (a .p .now) (a .at) (s .pre .0) .value))
 
 pub conditional-at-spec : {M : Type 1} → statement M
 conditional-at-spec =
@@ -36,6 +37,5 @@ conditional-at-spec =
     shared-slice-read-r
     add-expression-at
     expression-at-requires
-    (λ c κs. search needs)
     expression-at-requires-2
     returns)

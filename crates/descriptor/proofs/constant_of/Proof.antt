@@ -11,7 +11,7 @@ returns c =
     let at-constant-place = c .before .before in
     let at-start = at-constant-place .before .before in
     let a = at-start .args in
-    c .number .ensures .0 ∙ ap (λ (k : ℕ). little (a .p .now) (a .d .at + k) 8) (at-constant-place .constant-place .ensures .0)
+    c .word .ensures ∙ ap (λ (k : ℕ). little (a .p .now) (a .d .at + k) 8) (at-constant-place .constant-place .ensures .0)
 
 pub constant-of-spec : {M : Type 1} → statement M
 constant-of-spec = tie.close (tie.spec (λ c κs. search needs) (λ c. search needs) (λ c κs. search needs) returns)

@@ -16,7 +16,13 @@ returns c =
 
 returns-2 : tie.Need-returns-2
 returns-2 c =
-    chosen-new _ _ (c .before .before .if1 .left) (c .before .evaluate .ensures) (c .joined2 .ensures)
+    let at-one = c .before in
+    chosen-new _ _ (at-one .before .before .before .if1 .left) (at-one .one-value .ensures) (c .joined2 .ensures)
+
+returns-3 : tie.Need-returns-3
+returns-3 c =
+    let at-evaluate = c .before in
+    chosen-new _ _ (at-evaluate .before .before .before .if1 .left) (at-evaluate .evaluate .ensures) (c .joined3 .ensures)
 
 pub chosen-spec : {M : Type 1} → statement M
 chosen-spec =
@@ -28,4 +34,7 @@ chosen-spec =
     returns
     (λ c κs. search needs)
     (λ c κs. search needs)
-    returns-2)
+    returns-2
+    (λ c κs. search needs)
+    (λ c κs. search needs)
+    returns-3)

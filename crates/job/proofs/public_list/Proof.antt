@@ -14,7 +14,7 @@ returns c =
     let a = b .before .before .args in
     let e : a .t .list + 8 + 8 ≡ a .t .list + 16 = omega arith in
     let f : a .t .list + 16 + 8 ≡ a .t .list + 24 = omega arith in
-    rw (b .number .ensures .0, c .before .before .number2 .ensures .0, c .before .number3 .ensures .0, c .number4 .ensures .0, e, f)
+    rw (b .word .ensures, c .before .before .word2 .ensures, c .before .word3 .ensures, c .word4 .ensures, e, f)
 
 pub public-list-spec : {M : Type 1} → statement M
 public-list-spec =

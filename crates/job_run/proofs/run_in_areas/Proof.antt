@@ -1,53 +1,90 @@
 -- `job_run::run_in_areas` meets its contract: the run is made, its values are saved, the working words are cleared. Assumes nothing.
 use native.Mathlib.Omega.{arith}
 use Rattle.job_run.specs.Accepted.{accepted-limits, accepted-list, accepted-length}
-use Rattle.job_run.proofs.Laws.{run-in}
+use Rattle.job_run.proofs.Laws.{same-part, run-in}
 use borrow.Author.Needs.{needs}
 use Rattle.job_run.proofs.run_in_areas.Statement.{statement}
 use Rattle.job_run.proofs.run_in_areas.Tie as tie
 
-run-state-requires : tie.Need-run-state-requires
-run-state-requires c κs =
-    let at-start = c .before .before .before .before .before .before in
+load-requires : tie.Need-load-requires
+load-requires c κs =
+    let at-start = c .before .before .before .before .before in
     let k = at-start .pre in
     let e = accepted-list (k .accepts) in
     let f = accepted-length (k .accepts) in
     record { accepts = k .accepts; state = omega arith; room = k .work }
 
+part-run-end : tie.Need-part-run-end
+part-run-end c =
+    let at-start = c .before .before .before .before .before .before .before .before in
+    let k = at-start .pre in
+    let e = accepted-list (k .accepts) in
+    let f = accepted-length (k .accepts) in
+    omega arith
+
+run-requires : tie.Need-run-requires
+run-requires c κs =
+    let at-load = c .before .before .before .before .before in
+    let at-start = at-load .before .before .before .before .before .before in
+    let a = at-start .args in
+    at-load .load .ensures .ready _ (same-part (a .t .state) (a .job .now))
+
 locations-requires : tie.Need-locations-requires
 locations-requires c κs =
-    let at-start = c .before .before .before .before .before .before .before .before .before .before .before in
+    let at-load = c .before .before .before .before .before .before .before .before .before .before in
+    let at-start = at-load .before .before .before .before .before .before in
     let l = accepted-limits (at-start .pre .accepts) .cells in omega arith
 
 save-values-requires : tie.Need-save-values-requires
 save-values-requires c κs =
-    let at-run-state = c .before .before .before .before .before .before .before in
-    let at-start = at-run-state .before .before .before .before .before .before .before in
+    let at-run = c .before .before .before .before .before .before .before in
+    let at-load = at-run .before .before .before .before .before .before in
+    let at-start = at-load .before .before .before .before .before .before in
+    let a = at-start .args in
     let k = at-start .pre in
     let l = accepted-limits (k .accepts) .cells in
-    let s = at-run-state .run-state .ensures .size in
+    let o = at-load .load .ensures .runs (a .mode) _ _ _ _ _ (same-part (a .t .state) (a .job .now)) (at-run .run .ensures) in
+    let s = o .size in
     let m = k .work in
     let n = k .end in
     (omega arith, omega arith)
+
+clear-requires : tie.Need-clear-requires
+clear-requires c κs =
+    let at-run = c .before .before .before .before .before .before .before .before .before .before .before in
+    let at-load = at-run .before .before .before .before .before .before in
+    let at-start = at-load .before .before .before .before .before .before in
+    let a = at-start .args in
+    let o = at-load .load .ensures .runs (a .mode) _ _ _ _ _ (same-part (a .t .state) (a .job .now)) (at-run .run .ensures) in
+    let s = o .size in
+    let m = at-start .pre .work in
+    omega arith
 
 returns : tie.Need-returns
 returns c =
     let at-clear = c .before .before in
     let at-save-values = at-clear .before .before .before .before in
     let at-locations = at-save-values .before .before .before in
-    let at-run-state = at-locations .before .before .before .before .before in
-    let at-start = at-run-state .before .before .before .before .before .before .before in
-    run-in (at-start .pre .accepts) (at-start .args .mode) (at-run-state .run-state .ensures)
+    let at-run = at-locations .before .before .before .before .before in
+    let at-load = at-run .before .before .before .before .before .before in
+    let at-start = at-load .before .before .before .before .before .before in
+    let a = at-start .args in
+    let o = at-load .load .ensures .runs (a .mode) _ _ _ _ _ (same-part (a .t .state) (a .job .now)) (at-run .run .ensures) in
+    run-in (at-start .pre .accepts) (a .mode) o
     (rw (at-locations .locations .ensures) at (at-save-values .save-values .ensures)) (at-clear .clear .ensures)
 
 pub run-in-areas-spec : {M : Type 1} → statement M
 run-in-areas-spec =
     tie.close
     (tie.spec
-    run-state-requires
+    load-requires
+    (λ c. search needs)
+    (λ c. search needs)
+    part-run-end
+    run-requires
     locations-requires
     save-values-requires
-    (λ c κs. search needs)
+    clear-requires
     (λ c. search needs)
     (λ c. search needs)
     (λ c. search needs)

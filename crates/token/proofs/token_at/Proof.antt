@@ -1,8 +1,6 @@
 -- `token::token_at` meets its contract: where a token can be read, what its byte asks for stands before the end. Assumes nothing.
 use mathlib.Core.Path.{sym}
-use borrow.Author.Tests.{lt-ltb, le-ltb, ne-eqb}
-use Rattle.rules.specs.Rules.JobFile.{tokenOf}
-use Rattle.token.specs.Readable.{token-read, constant-read, operator-read}
+use Rattle.token.specs.Readable.{token-read, register-read, constant-read, unary-read, operator-read}
 use borrow.Author.Needs.{needs}
 use Rattle.token.proofs.token_at.Statement.{statement}
 use Rattle.token.proofs.token_at.Tie as tie
@@ -14,13 +12,12 @@ add-next : tie.Need-add-next
 add-next c = let h = token-read (c .before .before .args .p .now) (c .before .before .args .at) (c .before .before .pre) .0 in search needs
 
 returns : tie.Need-returns
-unfolding tokenOf
 returns c =
     let at-start = c .before .before .before in
-    simp (token-read (at-start .args .p .now) (at-start .args .at) (at-start .pre) .1, lt-ltb _ _ (c .if1 .taken))
+    sym (register-read (at-start .args .p .now) (at-start .args .at) (at-start .pre) (c .if1 .taken))
 
-number-requires : tie.Need-number-requires
-number-requires c κs =
+word-requires : tie.Need-word-requires
+word-requires c κs =
     let at-start = c .before .before .before .before in
     let h = constant-read (at-start .args .p .now) (at-start .args .at) (at-start .pre) (c .if2 .taken) .0 in search needs
 
@@ -34,21 +31,14 @@ returns-2 : tie.Need-returns-2
 returns-2 c =
     let at-if2 = c .before in
     let at-start = at-if2 .before .before .before .before in
-    rw (c .number .ensures .0) (sym (constant-read (at-start .args .p .now) (at-start .args .at) (at-start .pre) (at-if2 .if2 .taken) .1))
+    rw (c .word .ensures) (sym (constant-read (at-start .args .p .now) (at-start .args .at) (at-start .pre) (at-if2 .if2 .taken) .1))
 
 returns-3 : tie.Need-returns-3
-unfolding tokenOf
 returns-3 c =
     let at-if2 = c .before in
     let at-if1 = at-if2 .before in
     let at-start = at-if1 .before .before .before in
-    simp (
-      token-read (at-start .args .p .now) (at-start .args .at) (at-start .pre) .1,
-      le-ltb _ _ (at-if1 .if1 .left),
-      ne-eqb _ _
-          (at-if2 .if2 .left),
-      lt-ltb _ _ (c .if3 .taken),
-    )
+    sym (unary-read (at-start .args .p .now) (at-start .args .at) (at-start .pre) (at-if1 .if1 .left) (at-if2 .if2 .left) (c .if3 .taken))
 
 returns-4 : tie.Need-returns-4
 returns-4 c =
@@ -62,7 +52,7 @@ token-at-spec =
     shared-slice-read-byte
     add-next
     returns
-    number-requires
+    word-requires
     add-t11
     returns-2
     (λ c. search needs)

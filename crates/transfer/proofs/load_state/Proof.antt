@@ -18,14 +18,10 @@ loop-holds c = let a = c .before .before .args in loading-none (a .bytes .now) (
 word-at-requires : tie.Need-word-at-requires Inv-loop μ-loop
 word-at-requires c κs = omega arith
 
-new-requires : tie.Need-new-requires Inv-loop μ-loop
-new-requires c κs = tt
-
-single-requires : tie.Need-single-requires Inv-loop μ-loop
-single-requires c κs = tt
-
-new-requires-2 : tie.Need-new-requires-2 Inv-loop μ-loop
-new-requires-2 c κs = tt
+store-own-requires : tie.Need-store-own-requires Inv-loop μ-loop
+store-own-requires c κs =
+    let s = c .before .before .before .before .loop .inv .size in
+    (omega arith, omega arith)
 
 add-loaded : tie.Need-add-loaded Inv-loop μ-loop
 add-loaded c = omega arith
@@ -35,16 +31,18 @@ loop-less c = omega arith
 
 loop-again : tie.Need-loop-again Inv-loop μ-loop
 loop-again c =
-    let s = c .before .before .before .before .before .before .before .before .before .before .before .before in
-    let a = s .args in
-    let v = c .before .before .before .before .before .before .before .before .before .loop in
-    let word = c .before .before .before .before .before .before .before .word-at in
-    let own = c .before .before .before .before .before .before .new in
-    let set = c .before .before .before .before .before .single in
-    let l = c .before .before .before .new2 in
-    let store = c .before .before .store in
-    loading-more (a .bytes .now) (a .at) (a .n) (a .work .now) (v .work) (store .last .0) (v .loaded) (v .inv) (own .result .0) (l .result .0)
-    (word .result) (set .result) (omega arith) (s .pre .1) (own .ensures) (l .ensures) (word .ensures) (set .ensures) (store .ensures)
+    let at-store = c .before .before in
+    let at-new = at-store .before in
+    let at-word = at-new .before .before in
+    let at-loop = at-word .before .before in
+    let start = at-loop .before .before .before in
+    let a = start .args in
+    let v = at-loop .loop in
+    let word = at-word .word-at in
+    let l = at-new .new in
+    let store = at-store .store-own in
+    loading-more (a .bytes .now) (a .at) (a .n) (a .work .now) (v .work) (store .last .0) (v .loaded) (v .inv) (l .result .0) (word .result)
+    (omega arith) (start .pre .1) (l .ensures) (word .ensures) (store .ensures)
 
 same-length : tie.Need-same-length Inv-loop μ-loop
 same-length c = c .before .loop .inv .size
@@ -63,10 +61,8 @@ load-state-spec =
     μ-loop
     loop-holds
     word-at-requires
-    new-requires
-    single-requires
-    new-requires-2
     (λ c κs. search needs)
+    store-own-requires
     add-loaded
     loop-less
     loop-again

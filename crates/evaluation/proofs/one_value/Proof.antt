@@ -1,0 +1,68 @@
+-- `evaluation::one_value` meets its contract: the token is a register or a constant. Assumes nothing.
+use mathlib.Core.Path.{ap₂}
+use Prim.Native.Nat.{ℕ}
+use native.Mathlib.Omega.{arith}
+use Rattle.location.specs.declared.LocationSet.{LocationSet}
+use Rattle.rules.specs.declared.Tagged.{Tagged}
+use Rattle.rules.specs.Rules.Expressions.{tagged}
+use Rattle.evaluation.proofs.Laws.{value-register, value-constant, one-read, one-register, one-constant}
+use borrow.Author.Needs.{needs}
+use Rattle.evaluation.proofs.one_value.Statement.{statement}
+use Rattle.evaluation.proofs.one_value.Tie as tie
+
+shared-slice-read-byte : tie.Need-shared-slice-read-byte
+shared-slice-read-byte c =
+    let start = c .before .before .before in
+    let a = start .args in
+    one-read (a .p .now) (a .e) (start .pre .0) (start .pre .1) .0
+
+load-requires : tie.Need-load-requires
+load-requires c κs =
+    let e = c .register .ensures in
+    let s = c .before .before .before .before .before .pre .2 in
+    omega arith
+
+returns : tie.Need-returns
+returns c =
+    let at-register = c .before in
+    let at-if1 = at-register .before in
+    let start = at-if1 .before .before .before .before in
+    let a = start .args in
+    value-register _ (one-register (a .p .now) (a .e) (start .pre .0) (start .pre .1) (at-if1 .if1 .taken)) (at-register .register .ensures)
+    (c .load .ensures)
+
+add-word : tie.Need-add-word
+add-word c =
+    let start = c .before .before .before .before in
+    let a = start .args in
+    let h = one-constant (a .p .now) (a .e) (start .pre .0) (start .pre .1) (c .if1 .left) .0 in
+    search needs
+
+word-requires : tie.Need-word-requires
+word-requires c κs =
+    let start = c .before .before .before .before in
+    let a = start .args in
+    let h = one-constant (a .p .now) (a .e) (start .pre .0) (start .pre .1) (c .if1 .left) .0 in
+    omega arith
+
+returns-2 : tie.Need-returns-2
+returns-2 c =
+    let at-word = c .before in
+    let at-if1 = at-word .before in
+    let start = at-if1 .before .before .before .before in
+    let a = start .args in
+    value-constant _ (one-constant (a .p .now) (a .e) (start .pre .0) (start .pre .1) (at-if1 .if1 .left) .1)
+    (ap₂ {C = Tagged} (λ (n : ℕ) (s : LocationSet). tagged n s) (at-word .word .ensures) (c .empty .ensures))
+
+pub one-value-spec : {M : Type 1} → statement M
+one-value-spec =
+    tie.close
+    (tie.spec
+    shared-slice-read-byte
+    (λ c κs. search needs)
+    load-requires
+    returns
+    add-word
+    word-requires
+    (λ c κs. search needs)
+    returns-2)
