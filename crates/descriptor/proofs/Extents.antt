@@ -58,7 +58,8 @@ module _ (p : List ℕ) (at : ℕ) (h : readable (instr p at) ≡ true) where
       let z : at + 1 + 1 ≡ at + 2 = omega arith in
       (rw z at (w .expression), rw (i, ← z) (w .next))
 
-  pub with-register-next : (getD p at 0 ≡ 0 → ⊥) → (getD p at 0 ≡ 4 → ⊥) → (getD p at 0 ≡ 5 → ⊥) → (getD p at 0 ≡ 6 → ⊥) → (getD p at 0 ≡ 7 → ⊥)
+  pub with-register-next : (getD p at 0 ≡ 0 → ⊥) → (getD p at 0 ≡ 4 → ⊥) → (getD p at 0 ≡ 5 → ⊥)
+      → (getD p at 0 ≡ 6 → ⊥) → (getD p at 0 ≡ 7 → ⊥)
       → (readable (expr p (at + 2)) ≡ true) × (nextOffset (instr p at) ≡ nextOffset (expr p (at + 2)))
   unfolding fields readable
   with-register-next a b c d e = go (getD p at 0) refl

@@ -18,7 +18,9 @@ use Rattle.token.specs.Readable.{token-read, register-read, constant-read, oper
 use Rattle.instruction.specs.Fields.{instr-kind, instr-unknown, instr-read, with-parts, jump-parts, branch-parts, conditional-parts}
 use Rattle.instruction.specs.Registers.{RegistersBelow, instr-below}
 use Rattle.descriptor.specs.declared.Descriptor.{Descriptor}
-use Rattle.descriptor.specs.Descriptors.{shapeNothing, shapeRegister, shapeConstant, shapeRegisterConstant, shapeRegisterRegister, shapeJumpConstant, shapeBranch, oneShape, threeShape, expressionShape, jumpShape, nothingRead, kindShapes, shapeAt, firstBy, firstAt, extraBy, extraAt, countAt}
+use Rattle.descriptor.specs.Descriptors.{shapeNothing, shapeRegister, shapeConstant, shapeRegisterConstant, shapeRegisterRegister}
+use Rattle.descriptor.specs.Descriptors.{shapeJumpConstant, shapeBranch, oneShape, threeShape, expressionShape, jumpShape, nothingRead}
+use Rattle.descriptor.specs.Descriptors.{kindShapes, shapeAt, firstBy, firstAt, extraBy, extraAt, countAt}
 use Rattle.descriptor.specs.Descriptors.{offsets, shapes, firsts, wordAt, descriptorIn, bare, instructionBy, instructionIn}
 use Rattle.descriptor.specs.Descriptors.{operatorOf, firstTokens, NoBranch, WithExpression, General, SecondAt, ShapeMeans, Valid}
 
@@ -169,7 +171,8 @@ of-expression p at l x n e t g =
     of-tokens (expressionShape p (at + 2)) p at l x e t g (rw (← z, f) (expression-means p (at + 2) (rw n at (g .1))))
 
 -- a jump's expression, whose token count stands one byte after the instruction's offset
-of-jump : (p : List ℕ) (at l : ℕ) (x : Instr) → getD p at 0 ≡ 4 → countAt p at ≡ at + 1 → valueOr skip (instr p at) ≡ x → WithExpression p at → General p at x
+of-jump : (p : List ℕ) (at l : ℕ) (x : Instr) → getD p at 0 ≡ 4 → countAt p at ≡ at + 1 → valueOr skip (instr p at) ≡ x
+    → WithExpression p at → General p at x
     → Meant (jumpShape p (at + 1)) p at (getD p (at + 2) 0 % firsts) l x
 of-jump p at l x kind n e t g =
     let h = rw n at (g .1) in
@@ -420,8 +423,10 @@ general-by (suc (suc (suc (suc (suc zero))))) p at r x a b c d e f g m = absurd 
 general-by (suc (suc (suc (suc (suc (suc zero)))))) p at r x a b c d e f g m = absurd (g refl)
 general-by (suc (suc (suc (suc (suc (suc (suc s))))))) p at r x a b c d e f g m = m .1
 
-pub general-shaped : {p : List ℕ} {d : Descriptor} → Valid p d → (d .shape ≡ shapeNothing → ⊥) → (d .shape ≡ shapeRegister → ⊥) → (d .shape ≡ shapeConstant → ⊥)
-    → (d .shape ≡ shapeRegisterConstant → ⊥) → (d .shape ≡ shapeRegisterRegister → ⊥) → (d .shape ≡ shapeJumpConstant → ⊥) → (d .shape ≡ shapeBranch → ⊥) → General p (d .at) (instructionIn p d)
+pub general-shaped : {p : List ℕ} {d : Descriptor}
+    → Valid p d → (d .shape ≡ shapeNothing → ⊥) → (d .shape ≡ shapeRegister → ⊥) → (d .shape ≡ shapeConstant → ⊥)
+    → (d .shape ≡ shapeRegisterConstant → ⊥) → (d .shape ≡ shapeRegisterRegister → ⊥) → (d .shape ≡ shapeJumpConstant → ⊥)
+    → (d .shape ≡ shapeBranch → ⊥) → General p (d .at) (instructionIn p d)
 general-shaped {p} {d} v a b c e f g h = general-by (d .shape) p (d .at) (d .first) (instructionIn p d) a b c e f g h (v .shaped)
 
 -- the token count of an expression stands after the kind byte, and before the end

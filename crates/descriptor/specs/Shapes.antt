@@ -10,7 +10,8 @@ use Rattle.rules.specs.Rules.Expressions.{reg, const}
 use Rattle.rules.specs.Rules.Instructions.{Instr}
 use Rattle.rules.specs.Rules.JobFile.{little}
 use Rattle.descriptor.specs.declared.Descriptor.{Descriptor}
-use Rattle.descriptor.specs.Descriptors.{shapeRegister, shapeConstant, shapeRegisterConstant, shapeRegisterRegister, shapeJumpConstant, shapeBranch, constantPlace, operatorPlace, operatorOf, instructionIn, firstTokens, ShapeMeans, Valid}
+use Rattle.descriptor.specs.Descriptors.{shapeRegister, shapeConstant, shapeRegisterConstant, shapeRegisterRegister, shapeJumpConstant}
+use Rattle.descriptor.specs.Descriptors.{shapeBranch, constantPlace, operatorPlace, operatorOf, instructionIn, firstTokens, ShapeMeans, Valid}
 use Rattle.descriptor.specs.Reading.{branch-shaped}
 
 -- a register alone

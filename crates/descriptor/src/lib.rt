@@ -14,7 +14,9 @@ ghost use Rattle.rules.specs.Rules.Instructions.{skip};
 ghost use Rattle.rules.specs.Rules.JobFile.{little, tokens, expr, withRegister, jump, conditional, instr};
 ghost use Rattle.rules.specs.Theorems.Readers.{readable, nextOffset, valueOr};
 ghost use Rattle.instruction.specs.Meaning.{meaning, withRegisterOf};
-ghost use Rattle.descriptor.specs.Descriptors.{oneShape, threeShape, expressionShape, jumpShape, shapeAt, firstAt, extraAt, countAt, offsets, wordAt, descriptorIn, constantPlace, operatorPlace, bare, isSkip, isBare, instructionIn, WithExpression, SecondAt, Valid};
+ghost use Rattle.descriptor.specs.Descriptors.{oneShape, threeShape, expressionShape, jumpShape, shapeAt, firstAt, extraAt, countAt, offsets};
+ghost use Rattle.descriptor.specs.Descriptors.{wordAt, descriptorIn, constantPlace, operatorPlace, bare, isSkip, isBare, instructionIn};
+ghost use Rattle.descriptor.specs.Descriptors.{WithExpression, SecondAt, Valid};
 
 // `at` is the instruction's offset, `shape` what the instruction reads first, `extra` the label of a branch, or where the second expression
 // of a conditional assignment stands. In the shapes that do not name it, `first` means nothing; nor does `extra` of any other instruction,

@@ -40,9 +40,11 @@ use Rattle.execution.specs.declared.rule.Rule.{Rule}
 use Rattle.execution.specs.declared.rule.Rule.the-variants as rule
 use Rattle.execution.specs.declared.step.Opening.the-variants as openings
 use Rattle.execution.specs.Next.{stepBy, forwardBy, overAt, ruleAt, Opens}
-use Rattle.execution.specs.Running.{codeIn, Loaded, CodeOf, Steady, Ready, codeAt, nextStep, observedBy, Permitted, Halts, HaltOf, FreeUntil, Running, GoesOn, reportOf, RanTo}
+use Rattle.execution.specs.Running.{codeIn, Loaded, CodeOf, Steady, Ready, codeAt, nextStep, observedBy, Permitted, Halts, HaltOf, FreeUntil}
+use Rattle.execution.specs.Running.{Running, GoesOn, reportOf, RanTo}
 use Rattle.execution.specs.Starts.{beginning, whole}
-use Rattle.execution.proofs.Machine.{over-by, over-named, back-named, advance-named, Going, step-expired, forward-step, closed-not-expired, plain-closed, same-shown, step-most}
+use Rattle.execution.proofs.Machine.{over-by, over-named, back-named, advance-named, Going, step-expired, forward-step, closed-not-expired}
+use Rattle.execution.proofs.Machine.{plain-closed, same-shown, step-most}
 use Rattle.execution.proofs.TraceArea.{observed-more}
 
 -- at most 256 locations
