@@ -5,7 +5,7 @@
 //   what the words on a pair say.
 use execution::Mode;
 use execution::Ran;
-use job::JobRead;
+use job::JobOutcome;
 use location::LocationSet;
 use rules::PairAnswer;
 use rules::PlainAnswer;
@@ -16,6 +16,7 @@ use rules::RunAnswer;
 use rules::RunOutcome;
 use rules::Trailer;
 ghost use mathlib.Core.Path.{_≡_};
+ghost use Rattle.rules.specs.Rules.JobFile.{publicOf};
 ghost use Rattle.rules.specs.Rules.Calls.{runRefused, plainRefused, runCall, plainCall};
 ghost use Rattle.rules.specs.Rules.Demands.{Exact};
 ghost use Rattle.rules.specs.Rules.Promises.{RunPromise, PlainPromise, PairPromise, areasAtEntry, areasAtExit, pairAtEntry, pairAtExit};
@@ -78,11 +79,12 @@ fn plain_report(r: Ran) -> PlainAnswer
 fn run_accepted(
     job: &[u8],
     t: Trailer,
+    public: LocationSet,
     trace: &mut [u64],
     end: &mut [u64],
     work: &mut [u64],
 ) -> RunAnswer
-    requires { ⌜ Accepts (now job) t ⌝ }
+    requires { ⌜ Accepts (now job) t × (public ≡ publicOf t (now job)) ⌝ }
     ensures { λ r. ⌜ Exact (runCall (now (job .entry)) (areasAtEntry trace end work)) r (areasAtExit trace end work) ⌝ }
 {
     let n = t.locations();
@@ -91,16 +93,18 @@ fn run_accepted(
     }
     let mode = Mode::Mispredicting;
     let r = job_run::run_in_areas(job, t, mode, &mut trace[..], &mut end[..], &mut work[..]);
-    report(job::public_list(job, t), r)
+    report(public, r)
 }
 
 // A run: as if every branch were guessed wrongly.
 pub fn run(job: &[u8], trace: &mut [u64], end: &mut [u64], work: &mut [u64]) -> RunAnswer
     ensures { λ r. ⌜ RunPromise (now (job .entry)) (areasAtEntry trace end work) r (areasAtExit trace end work) ⌝ }
 {
-    match job::read_job(job) {
-        JobRead::Accepted(t) => run_accepted(job, t, &mut trace[..], &mut end[..], &mut work[..]),
-        JobRead::Refused(n) => run_refused(n),
+    let read = job::read_job(job);
+    let outcome = read.outcome;
+    match outcome {
+        JobOutcome::Accepted(t) => run_accepted(job, t, read.public, trace, end, work),
+        JobOutcome::Refused(n) => run_refused(n),
     }
 }
 
@@ -127,9 +131,11 @@ fn plain_accepted(
 pub fn plain_run(job: &[u8], trace: &mut [u64], end: &mut [u64], work: &mut [u64]) -> PlainAnswer
     ensures { λ r. ⌜ PlainPromise (now (job .entry)) (areasAtEntry trace end work) r (areasAtExit trace end work) ⌝ }
 {
-    match job::read_job(job) {
-        JobRead::Accepted(t) => plain_accepted(job, t, &mut trace[..], &mut end[..], &mut work[..]),
-        JobRead::Refused(n) => plain_refused(n),
+    let read = job::read_job(job);
+    let outcome = read.outcome;
+    match outcome {
+        JobOutcome::Accepted(t) => plain_accepted(job, t, trace, end, work),
+        JobOutcome::Refused(n) => plain_refused(n),
     }
 }
 
@@ -144,15 +150,18 @@ pub fn compare(
     ensures { λ r. ⌜ PairPromise (now (job .entry)) (now (second .entry)) (pairAtEntry «first_trace» «second_trace» work) r
         (pairAtExit «first_trace» «second_trace» work) ⌝ }
 {
-    match job::read_job(job) {
-        JobRead::Accepted(t) => pair::compare_accepted(
+    let read = job::read_job(job);
+    let outcome = read.outcome;
+    match outcome {
+        JobOutcome::Accepted(t) => pair::compare_accepted(
             job,
             t,
+            read.public,
             second,
             &mut first_trace[..],
             &mut second_trace[..],
             &mut work[..],
         ),
-        JobRead::Refused(n) => PairAnswer::Refused(n),
+        JobOutcome::Refused(n) => PairAnswer::Refused(n),
     }
 }

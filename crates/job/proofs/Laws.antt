@@ -18,12 +18,12 @@ use Rattle.rules.specs.declared.Refusal.the-variants as refusals
 use Rattle.rules.specs.Rules.Instructions.{Instr}
 use Rattle.rules.specs.Rules.Runs.{Job}
 use Rattle.rules.specs.Rules.Limits.{maxBytes, trailerSize}
-use Rattle.rules.specs.Rules.JobFile.{Read, got, refused, sized, noneFrom, listed, accepted, rejected, program, jobOf, programOf, finish}
+use Rattle.rules.specs.Rules.JobFile.{Read, got, refused, sized, publicOf, noneFrom, listed, accepted, rejected, program, jobOf, programOf, finish}
 use Rattle.program.specs.declared.Checked.{Checked}
 use Rattle.program.specs.declared.Checked.the-variants as check
 use Rattle.program.specs.Checks.{checkedOf}
-use Rattle.job.specs.declared.JobRead.the-variants as job-read
-use Rattle.job.specs.Answers.{jobReadOf}
+use Rattle.job.specs.declared.JobOutcome.the-variants as outcomes
+use Rattle.job.specs.Answers.{refusedBy, jobReadOf}
 
 -- a length that is allowed
 pub sized-true : {len : ℕ} → trailerSize ≤ len → len ≤ maxBytes → sized len ≡ true
@@ -90,18 +90,20 @@ unfolding programOf
 checked-program bs t r e = rw (sub-zero (t .state)) at e
 
 choice : (b : Bool) (j : Job) (t : Trailer)
-    → jobReadOf t (cond b (accepted j) (rejected refusals.PublicList)) ≡ cond b (job-read.Accepted t) (job-read.Refused refusals.PublicList)
+    → jobReadOf t (cond b (accepted j) (rejected refusals.PublicList))
+    ≡ cond b (record { outcome = outcomes.Accepted t; public = j .public }) (refusedBy refusals.PublicList)
 choice true j t = refl
 choice false j t = refl
 
 pub finish-next : (bs : List ℕ) (t : Trailer) (R : Read (List Instr)) (q : ℕ) → check.Next q ≡ checkedOf R
-    → jobReadOf t (finish bs t R) ≡ cond (listed t bs) (job-read.Accepted t) (job-read.Refused refusals.PublicList)
-unfolding finish
+    → jobReadOf t (finish bs t R)
+    ≡ cond (listed t bs) (record { outcome = outcomes.Accepted t; public = publicOf t bs }) (refusedBy refusals.PublicList)
+unfolding finish jobOf
 finish-next bs t (got xs q′) q e = choice (listed t bs) (jobOf bs t xs) t
 finish-next bs t (refused r) q e = absurd (let z : _≡_ {A = ℕ} 0 1 = cc in omega arith)
 
 pub finish-refused : (bs : List ℕ) (t : Trailer) (R : Read (List Instr)) (r : Refusal) → check.Refused r ≡ checkedOf R
-    → jobReadOf t (finish bs t R) ≡ job-read.Refused r
+    → jobReadOf t (finish bs t R) ≡ refusedBy r
 unfolding finish
 finish-refused bs t (got xs q) r e = absurd (let z : _≡_ {A = ℕ} 0 1 = cc in omega arith)
-finish-refused bs t (refused r′) r e = let e₁ : r′ ≡ r = cc in ap job-read.Refused e₁
+finish-refused bs t (refused r′) r e = let e₁ : r′ ≡ r = cc in ap (λ (n : Refusal). refusedBy n) e₁

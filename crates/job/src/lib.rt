@@ -13,13 +13,13 @@ ghost use lib.ListN.{length, getD};
 ghost use Rattle.location.specs.Sets.{registers, limit};
 ghost use Rattle.rules.specs.Rules.Limits.{maxCells, listSize};
 ghost use Rattle.rules.specs.Rules.JobFile.{trailer, publicOf, noneFrom, programOf, finish, parse};
-ghost use Rattle.job.specs.Answers.{jobReadOf};
+ghost use Rattle.job.specs.Answers.{refusedBy, jobReadOf};
 
 // Cells are numbered after the registers.
 const REGISTERS: usize = Location::REGISTERS as usize;
 
 // The public list of a job file with these offsets.
-pub fn public_list(job: &[u8], t: Trailer) -> LocationSet
+fn public_list(job: &[u8], t: Trailer) -> LocationSet
     requires { ⌜ t .list + listSize ≤ length (now job) ⌝ }
     ensures { λ r. ⌜ r ≡ publicOf t (now (job .entry)) ⌝ }
 {
@@ -64,12 +64,27 @@ fn no_cell_from(set: LocationSet, first: usize) -> bool
 }
 
 // What a job file is: its trailer, or the first refusal.
-pub enum JobRead {
+pub enum JobOutcome {
     Accepted(Trailer),
     Refused(Refusal),
 }
 
-// The program's tests, then that of the public list.
+// What reading a job file gives: the public list stands beside the outcome, and is empty where the job is refused.
+pub struct JobRead {
+    pub outcome: JobOutcome,
+    pub public: LocationSet,
+}
+
+fn refused(r: Refusal) -> JobRead
+    ensures { λ x. ⌜ x ≡ refusedBy r ⌝ }
+{
+    JobRead {
+        outcome: JobOutcome::Refused(r),
+        public: LocationSet::empty(),
+    }
+}
+
+// The program's tests, then that of the public list, which is read here and nowhere else.
 fn check_parts(job: &[u8], t: Trailer) -> JobRead
     requires { ⌜ (t .cells ≤ maxCells) × (t .state ≤ length (now job)) × (t .list + listSize ≤ length (now job)) ⌝ }
     ensures { λ r. ⌜ r ≡ jobReadOf t (finish (now (job .entry)) t (programOf (now (job .entry)) t)) ⌝ }
@@ -79,12 +94,15 @@ fn check_parts(job: &[u8], t: Trailer) -> JobRead
         Checked::Next(_) => {
             let public = public_list(job, t);
             if no_cell_from(public, t.cells) {
-                JobRead::Accepted(t)
+                JobRead {
+                    outcome: JobOutcome::Accepted(t),
+                    public,
+                }
             } else {
-                JobRead::Refused(Refusal::PublicList)
+                refused(Refusal::PublicList)
             }
         }
-        Checked::Refused(r) => JobRead::Refused(r),
+        Checked::Refused(r) => refused(r),
     }
 }
 
@@ -94,19 +112,19 @@ pub fn read_job(job: &[u8]) -> JobRead
 {
     let len = job.len();
     if len < TRAILER_SIZE {
-        return JobRead::Refused(Refusal::Length);
+        return refused(Refusal::Length);
     }
     if MAX_BYTES < len {
-        return JobRead::Refused(Refusal::Length);
+        return refused(Refusal::Length);
     }
     let t = trailer::trailer_at(job, len - TRAILER_SIZE);
     if trailer::limits_hold(t) {
         if trailer::offsets_hold(t, len) {
             check_parts(job, t)
         } else {
-            JobRead::Refused(Refusal::Offsets)
+            refused(Refusal::Offsets)
         }
     } else {
-        JobRead::Refused(Refusal::Trailer)
+        refused(Refusal::Trailer)
     }
 }

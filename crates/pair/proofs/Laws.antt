@@ -19,7 +19,7 @@ use Rattle.rules.specs.declared.PairAnswer.{PairAnswer}
 use Rattle.rules.specs.declared.PairAnswer.the-variants as answers
 use Rattle.rules.specs.Rules.Instructions.{Observation}
 use Rattle.rules.specs.Rules.Runs.{Job, Result, mispredictingRun}
-use Rattle.rules.specs.Rules.JobFile.{locations, publicOf, wordsAt}
+use Rattle.rules.specs.Rules.JobFile.{locations, wordsAt}
 use Rattle.rules.specs.Rules.Calls.{traceWords, written, workingWords, room, counts}
 use Rattle.rules.specs.Rules.Pairs.{withState, alikeFrom, PairAreas, pairLent, pairAfter, pairRefused, secondFits, pairFits, pairAccepted, pairParsed, pairCall}
 use Rattle.rules.specs.Rules.Demands.{Exact}
@@ -64,16 +64,16 @@ module _ {t : Trailer} {a w a′ : List ℕ} {r : Ran} (job : Job) (e : EndsAs t
       ∙ take-at (traceWords trace) _ (2 * length trace) (length-traceWords trace)
 
 -- ---- the answer on two runs, of what the code has found
-pub compared-same : (bs : List ℕ) (t : Trailer) (second a b : List ℕ) (n n′ : Counts) {word : PairWord} {alike : Bool} {public : LocationSet}
-    → public ≡ publicOf t bs → alike ≡ alikeFrom public 0 (wordsAt (locations t) bs (t .state)) (wordsAt (locations t) second 0)
+pub compared-same : (bs : List ℕ) (t : Trailer) (public : LocationSet) (second a b : List ℕ) (n n′ : Counts) {word : PairWord} {alike : Bool}
+    → alike ≡ alikeFrom public 0 (wordsAt (locations t) bs (t .state)) (wordsAt (locations t) second 0)
     → word ≡ pairWordOf alike (n .stop) (n′ .stop) (take (2 * n .observations - 0) (drop 0 a)) (take (2 * n′ .observations - 0) (drop 0 b))
-    → answers.Compared word n n′ ≡ comparedOf bs t second n n′ a b
-compared-same bs t second a b n n′ ep ea ew =
-    rw (ew, ea, ep, same-part (2 * n .observations) a, same-part (2 * n′ .observations) b)
+    → answers.Compared word n n′ ≡ comparedOf bs t public second n n′ a b
+compared-same bs t public second a b n n′ ea ew =
+    rw (ew, ea, same-part (2 * n .observations) a, same-part (2 * n′ .observations) b)
 
 -- ---- both runs
-module _ {bs : List ℕ} {t : Trailer} {second a b w w₁ w₂ a′ b′ : List ℕ} {r r′ : Ran}
-    (q : Comparable bs t second a b w) (o : RunOf bs t modes.Mispredicting bs (t .state) w w₁ a a′ r)
+module _ {bs : List ℕ} {t : Trailer} {public : LocationSet} {second a b w w₁ w₂ a′ b′ : List ℕ} {r r′ : Ran}
+    (q : Comparable bs t public second a b w) (o : RunOf bs t modes.Mispredicting bs (t .state) w w₁ a a′ r)
     (o′ : RunOf bs t modes.Mispredicting second 0 w₁ w₂ b b′ r′) where
   abbrev job : Job
   job = q .accepts .job
@@ -120,22 +120,23 @@ module _ {bs : List ℕ} {t : Trailer} {second a b w w₁ w₂ a′ b′ : List 
   run₂ = mispredictingRun (withState job vs) (room b)
 
   -- the answer is that of the rules' two runs
-  answer-same : comparedOf bs t second (r .counts) (r′ .counts) a′ b′
+  answer-same : comparedOf bs t public second (r .counts) (r′ .counts) a′ b′
       ≡ answers.Compared
       (pairWordOf (alikeFrom (job .public) 0 (job .init) vs) (run₁ .stop) (run₂ .stop) (traceWords (run₁ .gathered .trace))
       (traceWords (run₂ .gathered .trace)))
       (counts run₁) (counts run₂)
   unfolding counts
   answer-same =
+      let p = q .listed ∙ accepted-public (q .accepts) in
       let n = first-ran .reports .counts in
       let n′ = second-ran .reports .counts in
       λ i. answers.Compared
-      (pairWordOf (alikeFrom (accepted-public (q .accepts) i) 0 (accepted-init (q .accepts) i) (second-words i)) (n i .stop) (n′ i .stop)
+      (pairWordOf (alikeFrom (p i) 0 (accepted-init (q .accepts) i) (second-words i)) (n i .stop) (n′ i .stop)
       (observed-words job first-ran i) (observed-words (withState job vs) second-ran i))
       (n i) (n′ i)
 
   pub exact-compared : {x : PairAnswer} {w₃ : List ℕ} → w₃ ≡ written (replicate workingWords 0) w₂
-      → x ≡ comparedOf bs t second (r .counts) (r′ .counts) a′ b′
+      → x ≡ comparedOf bs t public second (r .counts) (r′ .counts) a′ b′
       → Exact (pairCall bs second (pairLent a b w)) x (pairLent a′ b′ w₃)
   unfolding pairAccepted pairAfter compares
   exact-compared ew er =

@@ -4,6 +4,7 @@ use mathlib.Core.Path.{_≡_}
 use mathlib.Core.List.{List}
 use Prim.Native.Nat.{ℕ, _*_, _≤_}
 use lib.ListN.{length, take}
+use Rattle.location.specs.declared.LocationSet.{LocationSet}
 use Rattle.rules.specs.declared.Trailer.{Trailer}
 use Rattle.rules.specs.declared.Counts.{Counts}
 use Rattle.rules.specs.declared.PairAnswer.{PairAnswer}
@@ -21,17 +22,18 @@ pub record BothRan (bs : List ℕ) (t : Trailer) (second : List ℕ) (c c′ : C
   pub first-fits : 2 * c .observations ≤ length a
   pub second-fits : 2 * c′ .observations ≤ length b
 
--- the answer on two runs
-abbrev pub comparedOf : List ℕ → Trailer → List ℕ → Counts → Counts → List ℕ → List ℕ → PairAnswer
-comparedOf bs t second c c′ a b =
+-- the answer on two runs, with public as the job's public list
+abbrev pub comparedOf : List ℕ → Trailer → LocationSet → List ℕ → Counts → Counts → List ℕ → List ℕ → PairAnswer
+comparedOf bs t public second c c′ a b =
     answers.Compared
-    (pairWordOf (alikeFrom (publicOf t bs) 0 (wordsAt (locations t) bs (t .state)) (wordsAt (locations t) second 0)) (c .stop) (c′ .stop)
+    (pairWordOf (alikeFrom public 0 (wordsAt (locations t) bs (t .state)) (wordsAt (locations t) second 0)) (c .stop) (c′ .stop)
     (take (2 * c .observations) a) (take (2 * c′ .observations) b))
     c c′
 
--- The job was accepted, and nothing of what is lent is refused.
-pub record Comparable (bs : List ℕ) (t : Trailer) (second a b w : List ℕ) : Type 0 where
+-- The job was accepted with that public list, and nothing of what is lent is refused.
+pub record Comparable (bs : List ℕ) (t : Trailer) (public : LocationSet) (second a b w : List ℕ) : Type 0 where
   pub accepts : Accepts bs t
+  pub listed : public ≡ publicOf t bs
   pub sized : length second ≡ 8 * locations t
   pub work : workingWords ≤ length w
   pub traces : length a ≡ length b

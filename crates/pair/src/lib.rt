@@ -1,10 +1,12 @@
 // The pair of states: both runs of an accepted job, and the answer on them.
 use execution::Mode;
+use location::LocationSet;
 use rules::Counts;
 use rules::PairAnswer;
 use rules::Refusal;
 use rules::Trailer;
 ghost use mathlib.Core.Path.{_≡_};
+ghost use Rattle.rules.specs.Rules.JobFile.{publicOf};
 ghost use Rattle.rules.specs.Rules.Pairs.{pairCall};
 ghost use Rattle.rules.specs.Rules.Demands.{Exact};
 ghost use Rattle.rules.specs.Rules.Promises.{pairAtEntry, pairAtExit};
@@ -15,6 +17,7 @@ ghost use Rattle.pair.specs.Runs.{BothRan, comparedOf, Comparable};
 fn compared(
     job: &[u8],
     t: Trailer,
+    public: LocationSet,
     second: &[u8],
     c: Counts,
     d: Counts,
@@ -22,10 +25,9 @@ fn compared(
     second_trace: &[u64],
 ) -> PairAnswer
     requires { ⌜ BothRan (now job) t (now second) c d (now «first_trace») (now «second_trace») ⌝ }
-    ensures { λ x. ⌜ x ≡ comparedOf (now (job .entry)) t (now (second .entry)) c d
+    ensures { λ x. ⌜ x ≡ comparedOf (now (job .entry)) t public (now (second .entry)) c d
         (now («first_trace» .entry)) (now («second_trace» .entry)) ⌝ }
 {
-    let public = job::public_list(job, t);
     let n = t.locations();
     let alike = transfer::alike_bytes(public, job, t.state, second, n);
     let first_stop = c.stop;
@@ -46,12 +48,13 @@ fn compared(
 fn compare_runs(
     job: &[u8],
     t: Trailer,
+    public: LocationSet,
     second: &[u8],
     first_trace: &mut [u64],
     second_trace: &mut [u64],
     work: &mut [u64],
 ) -> PairAnswer
-    requires { ⌜ Comparable (now job) t (now second) (now «first_trace») (now «second_trace») (now work) ⌝ }
+    requires { ⌜ Comparable (now job) t public (now second) (now «first_trace») (now «second_trace») (now work) ⌝ }
     ensures { λ r. ⌜ Exact (pairCall (now (job .entry)) (now (second .entry)) (pairAtEntry «first_trace» «second_trace» work)) r
         (pairAtExit «first_trace» «second_trace» work) ⌝ }
 {
@@ -62,6 +65,7 @@ fn compare_runs(
     compared(
         job,
         t,
+        public,
         second,
         r.counts,
         s.counts,
@@ -74,12 +78,13 @@ fn compare_runs(
 pub fn compare_accepted(
     job: &[u8],
     t: Trailer,
+    public: LocationSet,
     second: &[u8],
     first_trace: &mut [u64],
     second_trace: &mut [u64],
     work: &mut [u64],
 ) -> PairAnswer
-    requires { ⌜ Accepts (now job) t ⌝ }
+    requires { ⌜ Accepts (now job) t × (public ≡ publicOf t (now job)) ⌝ }
     ensures { λ r. ⌜ Exact (pairCall (now (job .entry)) (now (second .entry)) (pairAtEntry «first_trace» «second_trace» work)) r
         (pairAtExit «first_trace» «second_trace» work) ⌝ }
 {
@@ -96,6 +101,7 @@ pub fn compare_accepted(
     compare_runs(
         job,
         t,
+        public,
         second,
         &mut first_trace[..],
         &mut second_trace[..],

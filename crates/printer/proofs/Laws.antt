@@ -19,7 +19,8 @@ use Rattle.rules.specs.Rules.Demands.{observationCount, Exact}
 use Rattle.rules.specs.Rules.Listing.{printedRoom, listingOf, listing}
 use Rattle.rules.specs.Theorems.JobLaws.{passed, job-end, init-most}
 use Rattle.rules.specs.Theorems.CallLaws.{call-runs}
-use Rattle.job.specs.declared.JobRead.the-variants as job-read
+use Rattle.job.specs.declared.JobOutcome.the-variants as outcomes
+use Rattle.job.specs.declared.JobRead.{JobRead}
 use Rattle.job.specs.Answers.{jobReadOf, read-accepted, read-refused}
 use Rattle.checker.specs.Reports.{run-rejected}
 use Rattle.listing.specs.Lines.{Put, observationsIn, printed}
@@ -29,14 +30,15 @@ use Rattle.listing.specs.Lengths.{observations-length, answer-bound}
 use Rattle.printer.specs.Printing.{instructionCount, traceAfter, Prints, Listed}
 
 -- ---- the number of instructions
-pub count-accepted : (bs : List ℕ) (t : Trailer) → job-read.Accepted t ≡ jobReadOf (trailer bs) (parse bs) → t .count ≡ instructionCount (parse bs)
-unfolding endPlace
-count-accepted bs t e =
-    let a = read-accepted bs t e in
-    ap (λ (u : Trailer). u .count) (a .trailer) ∙ sym (job-end (passed bs (a .job) (a .parsed))) ∙ sym (ap instructionCount (a .parsed))
+module _ (bs : List ℕ) {x : JobRead} (read : x ≡ jobReadOf (trailer bs) (parse bs)) where
+  pub count-accepted : {t : Trailer} → x .outcome ≡ outcomes.Accepted t → t .count ≡ instructionCount (parse bs)
+  unfolding endPlace
+  count-accepted e =
+      let a = read-accepted bs read e in
+      ap (λ (u : Trailer). u .count) (a .trailer) ∙ sym (job-end (passed bs (a .job) (a .parsed))) ∙ sym (ap instructionCount (a .parsed))
 
-pub count-refused : (bs : List ℕ) (r : Refusal) → job-read.Refused r ≡ jobReadOf (trailer bs) (parse bs) → 0 ≡ instructionCount (parse bs)
-count-refused bs r e = rw (read-refused (trailer bs) r (parse bs) e)
+  pub count-refused : {r : Refusal} → x .outcome ≡ outcomes.Refused r → 0 ≡ instructionCount (parse bs)
+  count-refused e = rw (read-refused bs read e)
 
 -- ---- the lines of a call
 -- what a call on these areas leaves in its trace area, and the lines that are printed of it

@@ -1,6 +1,6 @@
 // A run printed whole, from any bytes as a job to the bytes of its lines. The caller lends a trace area and an area for the lines;
 // the end area and the working area are this crate's own, long enough for every job. Nothing has to be tested beforehand.
-use job::JobRead;
+use job::JobOutcome;
 use location::LocationSet;
 ghost use mathlib.Core.Path.{_≡_};
 ghost use Prim.Native.Nat.{_+_, _*_, _≤_};
@@ -18,9 +18,11 @@ pub const LINES: usize = 26732;
 fn instruction_count(job: &[u8]) -> usize
     ensures { λ r. ⌜ r ≡ instructionCount (parse (now (job .entry))) ⌝ }
 {
-    match job::read_job(job) {
-        JobRead::Accepted(t) => t.count,
-        JobRead::Refused(_) => 0,
+    let read = job::read_job(job);
+    let outcome = read.outcome;
+    match outcome {
+        JobOutcome::Accepted(t) => t.count,
+        JobOutcome::Refused(_) => 0,
     }
 }
 

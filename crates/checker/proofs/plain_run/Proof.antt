@@ -1,7 +1,5 @@
 -- `plain_run` meets its contract: the answer and the areas are the rules', and such a call keeps its promise. Assumes nothing.
-use mathlib.Core.Path.{sym, _∙_}
 use Rattle.rules.specs.Rules.Calls.{lent}
-use Rattle.rules.specs.Rules.JobFile.{trailer, parse}
 use Rattle.rules.specs.Theorems.Promises.{plain-promise}
 use Rattle.job.specs.Answers.{read-accepted, read-refused}
 use Rattle.checker.proofs.Laws.{plain-exact-rejected}
@@ -14,7 +12,7 @@ plain-accepted-requires c κs =
     let at-arm = c .before .before .before .before in
     let at-read = at-arm .before .before in
     let at-entry = at-read .before .before .before .before .before in
-    read-accepted (at-entry .args .job .now) _ (sym (at-arm .t .given .1) ∙ at-read .read-job .ensures)
+    read-accepted (at-entry .args .job .now) (at-read .read-job .ensures) (at-arm .outcome .given .1)
 
 returns : tie.Need-returns
 returns c =
@@ -31,7 +29,7 @@ returns-2 c =
     let a = at-entry .args in
     let f = a .job .now in
     let l = lent (a .trace .now) (a .end .now) (a .work .now) in
-    let p = read-refused (trailer f) _ (parse f) (sym (at-arm .n .given .1) ∙ at-read .read-job .ensures) in
+    let p = read-refused f (at-read .read-job .ensures) (at-arm .outcome2 .given .1) in
     plain-promise f l (plain-exact-rejected f _ p l (c .plain-refused .ensures))
 
 pub plain-run-spec : {M : Type 1} → statement M

@@ -1,7 +1,7 @@
 -- `run_accepted` meets its contract: too short an area is refused before anything is written, else the run is made. Assumes nothing.
 use native.Mathlib.Omega.{arith}
 use borrow.Author.Tests.{not-true, not-false}
-use Rattle.job_run.specs.Accepted.{accepted-limits, accepted-length}
+use Rattle.job_run.specs.Accepted.{accepted-limits}
 use Rattle.checker.proofs.Laws.{exact-short, areas-fit, exact-ran}
 use borrow.Author.Needs.{needs}
 use Rattle.checker.proofs.run_accepted.Statement.{statement}
@@ -10,7 +10,7 @@ use Rattle.checker.proofs.run_accepted.Tie as tie
 locations-requires : tie.Need-locations-requires
 locations-requires c κs =
     let at-start = c .before .before .before .before in
-    let l = accepted-limits (at-start .pre) .cells in omega arith
+    let l = accepted-limits (at-start .pre .0) .cells in omega arith
 
 returns : tie.Need-returns
 returns c =
@@ -19,7 +19,7 @@ returns c =
     let at-locations = at-areas-fit .before .before .before in
     let at-start = at-locations .before .before .before .before .before in
     let a = at-start .args in
-    exact-short (at-start .pre) (a .trace .now) (a .end .now) (a .work .now)
+    exact-short (at-start .pre .0) (a .trace .now) (a .end .now) (a .work .now)
     (rw (at-locations .locations .ensures) at (at-areas-fit .areas-fit .ensures)) (not-true _ (at-if1 .if1 .taken)) (c .run-refused .ensures)
 
 run-in-areas-requires : tie.Need-run-in-areas-requires
@@ -29,27 +29,20 @@ run-in-areas-requires c κs =
     let at-locations = at-areas-fit .before .before .before in
     let at-start = at-locations .before .before .before .before .before in
     let a = at-start .args in
-    areas-fit (at-start .pre) (a .trace .now) (a .end .now) (a .work .now)
+    areas-fit (at-start .pre .0) (a .trace .now) (a .end .now) (a .work .now)
     (rw (at-locations .locations .ensures) at (at-areas-fit .areas-fit .ensures)) (not-false _ (at-if1 .if1 .left))
-
-public-list-requires : tie.Need-public-list-requires
-public-list-requires c κs =
-    let back-1 = c .before .before .before .before .before .before .before .before .before .before .before .before in
-    let at-start = back-1 .before .before .before .before .before .before .before in
-    let f = accepted-length (at-start .pre) in omega arith
 
 returns-2 : tie.Need-returns-2
 returns-2 c =
-    let at-public-list = c .before in
-    let at-run-in-areas = at-public-list .before .before .before .before .before .before .before in
+    let at-run-in-areas = c .before .before .before .before .before .before .before in
     let at-if1 = at-run-in-areas .before .before .before .before in
     let at-areas-fit = at-if1 .before in
     let at-locations = at-areas-fit .before .before .before in
     let at-start = at-locations .before .before .before .before .before in
     let a = at-start .args in
-    exact-ran (at-start .pre) (a .trace .now) (a .end .now) (a .work .now)
+    exact-ran (at-start .pre .0) (a .trace .now) (a .end .now) (a .work .now)
     (rw (at-locations .locations .ensures) at (at-areas-fit .areas-fit .ensures)) (not-false _ (at-if1 .if1 .left))
-    (at-run-in-areas .run-in-areas .ensures) (at-public-list .public-list .ensures) (c .report .ensures)
+    (at-run-in-areas .run-in-areas .ensures) (at-start .pre .1) (c .report .ensures)
 
 pub run-accepted-spec : {M : Type 1} → statement M
 run-accepted-spec =
@@ -62,7 +55,6 @@ run-accepted-spec =
     (λ c. search needs)
     returns
     run-in-areas-requires
-    public-list-requires
     (λ c κs. search needs)
     (λ c. search needs)
     (λ c. search needs)

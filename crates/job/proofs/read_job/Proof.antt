@@ -14,15 +14,20 @@ use Rattle.job.proofs.read_job.Tie as tie
 
 returns : tie.Need-returns
 unfolding parse sized
-returns c = let a = c .before .before .args in rw (lt-leb trailerSize (length (a .job .now)) (c .if1 .taken))
+returns c =
+    let at-if1 = c .before in
+    let a = at-if1 .before .before .args in
+    rw (lt-leb trailerSize (length (a .job .now)) (at-if1 .if1 .taken)) (c .refused .ensures)
 
 returns-2 : tie.Need-returns-2
 unfolding parse sized
 returns-2 c =
-    let at-if1 = c .before in
+    let at-if2 = c .before in
+    let at-if1 = at-if2 .before in
     let at-start = at-if1 .before .before in
     let a = at-start .args in
-    rw (le-leb trailerSize (length (a .job .now)) (at-if1 .if1 .left), lt-leb (length (a .job .now)) maxBytes (c .if2 .taken))
+    rw (le-leb trailerSize (length (a .job .now)) (at-if1 .if1 .left), lt-leb (length (a .job .now)) maxBytes (at-if2 .if2 .taken))
+    (c .refused2 .ensures)
 
 offsets-hold-requires : tie.Need-offsets-hold-requires
 offsets-hold-requires c κs = limits-hold _ (sym (c .before .limits-hold .ensures) ∙ c .if3 .taken) .cells
@@ -53,34 +58,40 @@ returns-3 c =
 returns-4 : tie.Need-returns-4
 unfolding parse trailer
 returns-4 c =
-    let t = c .before .before .before .before in
+    let at-if4 = c .before in
+    let t = at-if4 .before .before .before .before in
     let z = sized-true (t .before .before .if1 .left) (t .before .if2 .left) in
     rw (
       z,
       ← (t .trailer-at .ensures),
-      ← (c .before .before .before .limits-hold .ensures),
-      c .before .before .if3 .taken,
-      ← (c .before .offsets-hold .ensures),
-      c .if4 .left,
-    )
+      ← (at-if4 .before .before .before .limits-hold .ensures),
+      at-if4 .before .before .if3 .taken,
+      ← (at-if4 .before .offsets-hold .ensures),
+      at-if4 .if4 .left,
+    ) (c .refused3 .ensures)
 
 returns-5 : tie.Need-returns-5
 unfolding parse trailer
 returns-5 c =
-    let t = c .before .before in
+    let at-if3 = c .before in
+    let t = at-if3 .before .before in
     let z = sized-true (t .before .before .if1 .left) (t .before .if2 .left) in
-    rw (z, ← (t .trailer-at .ensures), ← (c .before .limits-hold .ensures), c .if3 .left)
+    rw (z, ← (t .trailer-at .ensures), ← (at-if3 .before .limits-hold .ensures), at-if3 .if3 .left) (c .refused4 .ensures)
 
 pub read-job-spec : {M : Type 1} → statement M
 read-job-spec =
     tie.close
     (tie.spec
+    (λ c κs. search needs)
     returns
+    (λ c κs. search needs)
     returns-2
     (λ c κs. search needs)
     (λ c κs. search needs)
     offsets-hold-requires
     check-parts-requires
+    (λ c κs. search needs)
+    (λ c κs. search needs)
     returns-3
     returns-4
     returns-5)

@@ -9,18 +9,18 @@ use Rattle.pair.proofs.compare_accepted.Tie as tie
 locations-requires : tie.Need-locations-requires
 locations-requires c κs =
     let at-start = c .before .before .before .before .before in
-    let l = accepted-limits (at-start .pre) .cells in omega arith
+    let l = accepted-limits (at-start .pre .0) .cells in omega arith
 
 mul-if1 : tie.Need-mul-if1
 mul-if1 c =
     let at-start = c .before .before .before .before .before .before in
-    let l = accepted-limits (at-start .pre) .cells in omega arith
+    let l = accepted-limits (at-start .pre .0) .cells in omega arith
 
 returns : tie.Need-returns
 returns c =
     let at-locations = c .before in
     let at-start = at-locations .before .before .before .before .before .before in
-    let a = at-start .args in other-size (at-start .pre) (a .second .now) (a .first-trace .now) (a .second-trace .now) (a .work .now)
+    let a = at-start .args in other-size (at-start .pre .0) (a .second .now) (a .first-trace .now) (a .second-trace .now) (a .work .now)
     (rw (at-locations .locations .ensures) at (c .if1 .taken))
 
 returns-2 : tie.Need-returns-2
@@ -28,7 +28,7 @@ returns-2 c =
     let at-if1 = c .before in
     let at-locations = at-if1 .before in
     let at-start = at-locations .before .before .before .before .before .before in
-    let a = at-start .args in short-work (at-start .pre) (a .second .now) (a .first-trace .now) (a .second-trace .now) (a .work .now)
+    let a = at-start .args in short-work (at-start .pre .0) (a .second .now) (a .first-trace .now) (a .second-trace .now) (a .work .now)
     (rw (at-locations .locations .ensures) at (at-if1 .if1 .left)) (c .if2 .taken)
 
 returns-3 : tie.Need-returns-3
@@ -37,7 +37,7 @@ returns-3 c =
     let at-if1 = at-if2 .before in
     let at-locations = at-if1 .before in
     let at-start = at-locations .before .before .before .before .before .before in
-    let a = at-start .args in unequal-traces (at-start .pre) (a .second .now) (a .first-trace .now) (a .second-trace .now) (a .work .now)
+    let a = at-start .args in unequal-traces (at-start .pre .0) (a .second .now) (a .first-trace .now) (a .second-trace .now) (a .work .now)
     (rw (at-locations .locations .ensures) at (at-if1 .if1 .left)) (at-if2 .if2 .left) (c .if3 .taken)
 
 pub compare-accepted-spec : {M : Type 1} → statement M

@@ -1,5 +1,4 @@
 -- `instruction_count` meets its contract. Assumes nothing.
-use mathlib.Core.Path.{sym, _∙_}
 use Rattle.printer.proofs.Laws.{count-accepted, count-refused}
 use borrow.Author.Needs.{needs}
 use Rattle.printer.proofs.instruction_count.Statement.{statement}
@@ -7,11 +6,14 @@ use Rattle.printer.proofs.instruction_count.Tie as tie
 
 returns : tie.Need-returns
 returns c =
-    count-accepted (c .before .before .before .before .before .args .job .now) _ (sym (c .before .t .given .1) ∙ c .before .before .before .read-job .ensures)
+    let at-arm = c .before in
+    let at-read = at-arm .before .before in
+    count-accepted (at-read .before .before .args .job .now) (at-read .read-job .ensures) (at-arm .outcome .given .1)
 
 returns-2 : tie.Need-returns-2
 returns-2 c =
-    count-refused (c .before .before .before .before .args .job .now) _ (sym (c .enum-told .given .1) ∙ c .before .before .read-job .ensures)
+    let at-read = c .before .before in
+    count-refused (at-read .before .before .args .job .now) (at-read .read-job .ensures) (c .enum-told .given .1)
 
 pub instruction-count-spec : {M : Type 1} → statement M
 instruction-count-spec =
