@@ -1,4 +1,3 @@
 pub mod Lines
-pub mod Areas
 pub mod Traces
 pub mod Lengths

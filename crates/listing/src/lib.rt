@@ -13,77 +13,26 @@ use rules::observation::PC;
 use rules::observation::ROLLBACK;
 use rules::observation::START;
 ghost use mathlib.Core.Path.{_≡_};
-ghost use mathlib.Core.List.{_∷_, []};
 ghost use Prim.Native.Nat.{_+_, _^_, _<_};
-ghost use lib.ListN.{length, drop};
+ghost use lib.ListN.{length};
 ghost use Rattle.location.specs.Sets.{limit};
 ghost use Rattle.rules.specs.Rules.Answers.{text, stopWord, verdictWord};
 ghost use Rattle.rules.specs.Rules.Instructions.{observed, pc};
 ghost use Rattle.rules.specs.Rules.Listing.{decimal, line, numberLine, observationLine, traceLines, locationText, members, setLine, summary};
-ghost use Rattle.listing.specs.Lines.{Put, observationsIn, memberText, printed};
-
-// A number of 64 bits has at most 20 decimal digits; this is the place of the last.
-const LAST: usize = 19;
+ghost use Rattle.byte_writer.specs.Writing.{Put};
+ghost use Rattle.listing.specs.Lines.{observationsIn, memberText, printed};
 
 // Cells are numbered after the registers.
 const REGISTERS: usize = Location::REGISTERS as usize;
-
-fn put_byte(out: &mut [u8], at: usize, byte: u8) -> usize
-    requires { ⌜ at + 1 < 2 ^ 64 ⌝ }
-    ensures { λ r. ⌜ Put (now (out .entry)) at (byte ∷ []) (now (out .exit)) r ⌝ }
-{
-    if at < out.len() {
-        out[at] = byte;
-    }
-    at + 1
-}
-
-fn put_text(out: &mut [u8], at: usize, bytes: &[u8]) -> usize
-    requires { ⌜ at + length (now bytes) < 2 ^ 64 ⌝ }
-    ensures { λ r. ⌜ Put (now (out .entry)) at (now (bytes .entry)) (now (out .exit)) r ⌝ }
-{
-    let mut next = at;
-    let mut i = 0;
-    while i < bytes.len() {
-        next = put_byte(&mut out[..], next, bytes[i]);
-        i += 1;
-    }
-    next
-}
-
-// The decimal digits of a number, lowest last, at the end of the buffer; the result is where they start.
-fn find_digits(buffer: &mut [u8], n: u64) -> usize
-    requires { ⌜ length (now buffer) ≡ 20 ⌝ }
-    ensures { λ r. ⌜ (r < 20) × (drop r (now (buffer .exit)) ≡ decimal n) ⌝ }
-{
-    let mut rest = n;
-    let mut i = LAST;
-    while 10 <= rest {
-        buffer[i] = b'0' + (rest % 10) as u8;
-        rest /= 10;
-        i -= 1;
-    }
-    buffer[i] = b'0' + rest as u8;
-    i
-}
-
-fn put_decimal(out: &mut [u8], at: usize, n: u64) -> usize
-    requires { ⌜ at + length (decimal n) < 2 ^ 64 ⌝ }
-    ensures { λ r. ⌜ Put (now (out .entry)) at (decimal n) (now (out .exit)) r ⌝ }
-{
-    let mut buffer = [0u8; 20];
-    let first = find_digits(&mut buffer, n);
-    put_text(out, at, &buffer[first..])
-}
 
 fn put_number_line(out: &mut [u8], at: usize, word: &[u8], n: u64) -> usize
     requires { ⌜ at + length (numberLine (now word) n) < 2 ^ 64 ⌝ }
     ensures { λ r. ⌜ Put (now (out .entry)) at (numberLine (now (word .entry)) n) (now (out .exit)) r ⌝ }
 {
-    let after_word = put_text(out, at, word);
-    let after_blank = put_text(out, after_word, b" ");
-    let after_digits = put_decimal(out, after_blank, n);
-    put_text(out, after_digits, b"\n")
+    let after_word = byte_writer::put_text(out, at, word);
+    let after_blank = byte_writer::put_text(out, after_word, b" ");
+    let after_digits = byte_writer::put_decimal(out, after_blank, n);
+    byte_writer::put_text(out, after_digits, b"\n")
 }
 
 // The place that was gone to; the number of instructions is the place END.
@@ -92,7 +41,7 @@ fn put_place_line(out: &mut [u8], at: usize, n: u64, place: u64) -> usize
     ensures { λ r. ⌜ Put (now (out .entry)) at (observationLine n (pc place)) (now (out .exit)) r ⌝ }
 {
     if place == n {
-        return put_text(out, at, b"pc end\n");
+        return byte_writer::put_text(out, at, b"pc end\n");
     }
     put_number_line(out, at, b"pc", place)
 }
@@ -141,12 +90,12 @@ fn put_location(out: &mut [u8], at: usize, l: usize) -> usize
     ensures { λ r. ⌜ Put (now (out .entry)) at (locationText l) (now (out .exit)) r ⌝ }
 {
     if l < REGISTERS {
-        let after_r = put_text(out, at, b" r");
-        return put_decimal(out, after_r, l as u64);
+        let after_r = byte_writer::put_text(out, at, b" r");
+        return byte_writer::put_decimal(out, after_r, l as u64);
     }
     let cell = l - REGISTERS;
-    let after_m = put_text(out, at, b" m");
-    put_decimal(out, after_m, cell as u64)
+    let after_m = byte_writer::put_text(out, at, b" m");
+    byte_writer::put_decimal(out, after_m, cell as u64)
 }
 
 fn put_member(out: &mut [u8], at: usize, s: LocationSet, l: usize) -> usize
@@ -176,9 +125,9 @@ fn put_set(out: &mut [u8], at: usize, word: &[u8], s: LocationSet) -> usize
     requires { ⌜ at + length (setLine (now word) s) < 2 ^ 64 ⌝ }
     ensures { λ r. ⌜ Put (now (out .entry)) at (setLine (now (word .entry)) s) (now (out .exit)) r ⌝ }
 {
-    let after_word = put_text(out, at, word);
+    let after_word = byte_writer::put_text(out, at, word);
     let after_members = put_members(out, after_word, s);
-    put_text(out, after_members, b"\n")
+    byte_writer::put_text(out, after_members, b"\n")
 }
 
 fn put_stop(out: &mut [u8], at: usize, stop: Stop) -> usize
@@ -186,9 +135,9 @@ fn put_stop(out: &mut [u8], at: usize, stop: Stop) -> usize
     ensures { λ r. ⌜ Put (now (out .entry)) at (line (text "stop ") (stopWord stop)) (now (out .exit)) r ⌝ }
 {
     match stop {
-        Stop::Finished => put_text(out, at, b"stop finished\n"),
-        Stop::Spent => put_text(out, at, b"stop spent\n"),
-        Stop::TraceFull => put_text(out, at, b"stop trace full\n"),
+        Stop::Finished => byte_writer::put_text(out, at, b"stop finished\n"),
+        Stop::Spent => byte_writer::put_text(out, at, b"stop spent\n"),
+        Stop::TraceFull => byte_writer::put_text(out, at, b"stop trace full\n"),
     }
 }
 
@@ -197,10 +146,10 @@ fn put_verdict(out: &mut [u8], at: usize, verdict: Verdict) -> usize
     ensures { λ r. ⌜ Put (now (out .entry)) at (line (text "verdict ") (verdictWord verdict)) (now (out .exit)) r ⌝ }
 {
     match verdict {
-        Verdict::Undecided => put_text(out, at, b"verdict undecided\n"),
-        Verdict::Clean => put_text(out, at, b"verdict clean\n"),
-        Verdict::Speculative => put_text(out, at, b"verdict speculative\n"),
-        Verdict::Plain => put_text(out, at, b"verdict plain\n"),
+        Verdict::Undecided => byte_writer::put_text(out, at, b"verdict undecided\n"),
+        Verdict::Clean => byte_writer::put_text(out, at, b"verdict clean\n"),
+        Verdict::Speculative => byte_writer::put_text(out, at, b"verdict speculative\n"),
+        Verdict::Plain => byte_writer::put_text(out, at, b"verdict plain\n"),
     }
 }
 

@@ -23,8 +23,9 @@ use Rattle.job.specs.declared.JobOutcome.the-variants as outcomes
 use Rattle.job.specs.declared.JobRead.{JobRead}
 use Rattle.job.specs.Answers.{jobReadOf, read-accepted, read-refused}
 use Rattle.checker.specs.Reports.{run-rejected}
-use Rattle.listing.specs.Lines.{Put, observationsIn, printed}
-use Rattle.listing.specs.Areas.{put-next, put-fits}
+use Rattle.byte_writer.specs.Writing.{Put}
+use Rattle.byte_writer.specs.Areas.{put-next, put-fits}
+use Rattle.listing.specs.Lines.{observationsIn, printed}
 use Rattle.listing.specs.Traces.{printed-report, printed-refused}
 use Rattle.listing.specs.Lengths.{observations-length, answer-bound}
 use Rattle.printer.specs.Printing.{instructionCount, traceAfter, Prints, Listed}

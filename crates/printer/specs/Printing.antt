@@ -9,7 +9,7 @@ use Rattle.rules.specs.Rules.Runs.{mispredictingRun}
 use Rattle.rules.specs.Rules.JobFile.{Parsed, accepted, rejected, parse}
 use Rattle.rules.specs.Rules.Calls.{traceWords, room, written}
 use Rattle.rules.specs.Rules.Listing.{listingOf, listing}
-use Rattle.listing.specs.Lines.{Put}
+use Rattle.byte_writer.specs.Writing.{Put}
 
 -- the number of instructions of an accepted job
 abbrev pub instructionCount : Parsed → ℕ

@@ -3,7 +3,7 @@ use mathlib.Core.Path.{ap}
 use native.Mathlib.Omega.{arith}
 use lib.ListN.{length}
 use Rattle.rules.specs.Rules.Answers.{text}
-use Rattle.listing.proofs.Laws.{put-append}
+use Rattle.byte_writer.specs.Texts.{put-append}
 use Rattle.listing.proofs.Texts.{register-text, cell-text}
 use borrow.Author.Needs.{needs}
 use Rattle.listing.proofs.put_location.Statement.{statement}

@@ -2,7 +2,7 @@
 use mathlib.Core.Path.{ap}
 use native.Mathlib.Omega.{arith}
 use lib.ListN.{length}
-use Rattle.listing.proofs.Laws.{put-nothing}
+use Rattle.byte_writer.specs.Texts.{put-nothing}
 use Rattle.listing.proofs.Texts.{member-text, no-member-text}
 use borrow.Author.Needs.{needs}
 use Rattle.listing.proofs.put_member.Statement.{statement}

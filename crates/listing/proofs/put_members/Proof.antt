@@ -5,7 +5,7 @@ use native.Mathlib.Omega.{arith}
 use Rattle.location.specs.Sets.{limit}
 use Rattle.rules.specs.Rules.Listing.{members}
 use Rattle.listing.specs.Lines.{memberText}
-use Rattle.listing.proofs.Laws.{Left, left-done, left-length, left-room, left-next}
+use Rattle.byte_writer.specs.Texts.{Left, left-done, left-length, left-room, left-next}
 use Rattle.listing.proofs.Texts.{members-next}
 use Rattle.listing.proofs.put_members.Statement.{statement}
 use Rattle.listing.proofs.put_members.Tie as tie

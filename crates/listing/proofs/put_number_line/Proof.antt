@@ -1,7 +1,7 @@
 -- `put_number_line` meets its contract: the word, a blank, the digits and the newline one after the other. Assumes nothing.
 use native.Mathlib.Omega.{arith}
 use Rattle.rules.specs.Rules.Listing.{line, numberLine}
-use Rattle.listing.proofs.Laws.{put-append}
+use Rattle.byte_writer.specs.Texts.{put-append}
 use Rattle.listing.specs.Lengths.{number-line-length}
 use borrow.Author.Needs.{needs}
 use Rattle.listing.proofs.put_number_line.Statement.{statement}

@@ -2,7 +2,7 @@
 use native.Mathlib.Omega.{arith}
 use Rattle.rules.specs.Rules.Listing.{line, setLine}
 use Rattle.listing.specs.Lengths.{set-line-length}
-use Rattle.listing.proofs.Laws.{put-append}
+use Rattle.byte_writer.specs.Texts.{put-append}
 use borrow.Author.Needs.{needs}
 use Rattle.listing.proofs.put_set.Statement.{statement}
 use Rattle.listing.proofs.put_set.Tie as tie

@@ -3,7 +3,7 @@ use native.Mathlib.Omega.{arith}
 use Rattle.rules.specs.Rules.Answers.{text}
 use Rattle.rules.specs.Rules.Listing.{summary}
 use Rattle.listing.specs.Lengths.{summary-length}
-use Rattle.listing.proofs.Laws.{put-append}
+use Rattle.byte_writer.specs.Texts.{put-append}
 use borrow.Author.Needs.{needs}
 use Rattle.listing.proofs.put_summary.Statement.{statement}
 use Rattle.listing.proofs.put_summary.Tie as tie

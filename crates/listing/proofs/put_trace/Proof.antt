@@ -7,7 +7,7 @@ use lib.ListN.{length, getD, drop}
 use Rattle.rules.specs.Rules.Instructions.{observed}
 use Rattle.rules.specs.Rules.Listing.{observationLine, traceLines}
 use Rattle.listing.specs.Lines.{observationsIn}
-use Rattle.listing.proofs.Laws.{Left, left-done, left-length, left-room, left-next}
+use Rattle.byte_writer.specs.Texts.{Left, left-done, left-length, left-room, left-next}
 use Rattle.listing.proofs.Texts.{trace-next, trace-counted, trace-over}
 use Rattle.listing.proofs.put_trace.Statement.{statement}
 use Rattle.listing.proofs.put_trace.Tie as tie

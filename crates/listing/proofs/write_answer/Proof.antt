@@ -4,7 +4,7 @@ use native.Mathlib.Omega.{arith}
 use Rattle.rules.specs.Rules.Answers.{text}
 use Rattle.listing.specs.Lines.{observationsIn}
 use Rattle.listing.specs.Lengths.{number-line-bound, trace-length, observations-length, summary-bound}
-use Rattle.listing.proofs.Laws.{put-append}
+use Rattle.byte_writer.specs.Texts.{put-append}
 use Rattle.listing.proofs.Texts.{printed-refusal, printed-run}
 use borrow.Author.Needs.{needs}
 use Rattle.listing.proofs.write_answer.Statement.{statement}

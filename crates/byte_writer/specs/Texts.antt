@@ -1,14 +1,13 @@
--- Writing one text after another, and the loops that write a text part by part.
+-- Writing one text after another or before one that stands, and the loops that write a text part by part.
 -- Assumes nothing.
 use mathlib.Core.Path.{_≡_, refl, sym, ap, _∙_}
 use mathlib.Core.List.{List, [], _∷_, _++_}
 use Prim.Native.Nat.{ℕ, suc, _+_, _<_, _≤_}
 use native.Mathlib.Nat.{add-zero}
-use native.Mathlib.Numerals.{add-one}
 use native.Mathlib.Omega.{arith}
-use lib.ListN.{length, getD, drop, set, length-append}
-use lib.Seq.{sets, length-sets, set-out, drop-cons}
-use Rattle.listing.specs.Lines.{Put}
+use lib.ListN.{length, set, length-append}
+use lib.Seq.{sets, length-sets, set-comm}
+use Rattle.byte_writer.specs.Writing.{Put}
 
 sets-append : (xs ys l : List ℕ) (i : ℕ) → sets l i (xs ++ ys) ≡ sets (sets l i xs) (i + length xs) ys
 sets-append [] ys l i = rw add-zero
@@ -16,7 +15,19 @@ sets-append (x ∷ xs) ys l i =
     let e : suc i + length xs ≡ i + suc (length xs) = omega arith in
     sets-append xs ys (set l i x) (suc i) ∙ ap (λ (k : ℕ). sets (sets (set l i x) (suc i) xs) k ys) e
 
--- ---- no text; one text, then another
+-- what is stored before a text may be stored first
+set-sets : (ys l : List ℕ) (i v j : ℕ) → i < j → set (sets l j ys) i v ≡ sets (set l i v) j ys
+set-sets [] l i v j h = refl
+set-sets (y ∷ ys) l i v j h =
+    let other : j ≡ i → ⊥ = λ e. omega arith in
+    set-sets ys (set l j y) i v (suc j) (omega arith) ∙ ap (λ (r : List ℕ). sets r (suc j) ys) (set-comm l j i y v other)
+
+sets-sets : (xs ys l : List ℕ) (i j : ℕ) → i + length xs ≤ j → sets (sets l j ys) i xs ≡ sets (sets l i xs) j ys
+sets-sets [] ys l i j h = refl
+sets-sets (x ∷ xs) ys l i j h =
+    ap (λ (r : List ℕ). sets r (suc i) xs) (set-sets ys l i x j (omega arith)) ∙ sets-sets xs ys (set l i x) (suc i) j (omega arith)
+
+-- ---- no text; one text, then another; one text before another that was written already
 pub put-nothing : (a : List ℕ) (i : ℕ) → Put a i [] a i
 put-nothing a i = record { area = refl; place = omega arith }
 
@@ -24,6 +35,12 @@ pub put-append : {a b d xs ys : List ℕ} {i j k : ℕ} → Put a i xs b j → P
 put-append {a} {b} {d} {xs} {ys} {i} {j} {k} p q = record {
   area = q .area ∙ rw (p .area, p .place) (sym (sets-append xs ys a i));
   place = omega (arith, p .place, q .place, length-append xs ys);
+}
+
+pub put-before : {a b d xs ys : List ℕ} {i j k : ℕ} → Put a (i + length xs) ys b k → Put b i xs d j → Put a i (xs ++ ys) d k
+put-before {a} {b} {d} {xs} {ys} {i} {j} {k} p q = record {
+  area = q .area ∙ rw (p .area) (sets-sets xs ys a i (i + length xs) (omega arith) ∙ sym (sets-append xs ys a i));
+  place = omega (arith, p .place, length-append xs ys);
 }
 
 -- ---- a text written part by part: what is left to write from here on ends where the whole text ends
@@ -48,15 +65,3 @@ module _ {a whole b : List ℕ} {i j : ℕ} where
       area = rw (p .area, p .place) (sym (sets-append x later b j)) ∙ ap (sets b j) (sym split) ∙ h .area;
       place = omega (arith, h .place, p .place, ap length split, length-append x later);
     }
-
--- ---- a byte
-pub put-stored : {a b : List ℕ} {i v : ℕ} → b ≡ set a i v → Put a i (v ∷ []) b (i + 1)
-put-stored e = record { area = e; place = refl }
-
--- past the end nothing is stored
-pub put-past : {a b : List ℕ} {i : ℕ} (v : ℕ) → length a ≤ i → b ≡ a → Put a i (v ∷ []) b (i + 1)
-put-past {a} {b} {i} v h e = record { area = e ∙ sym (set-out a i v h); place = refl }
-
--- ---- a text byte by byte
-pub byte-next : (bytes : List ℕ) (i : ℕ) → i < length bytes → drop i bytes ≡ (getD bytes i 0 ∷ []) ++ drop (i + 1) bytes
-byte-next bytes i h = rw (add-one, drop-cons bytes i 0)

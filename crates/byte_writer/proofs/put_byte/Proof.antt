@@ -3,9 +3,9 @@ use mathlib.Core.Path.{ap, _∙_}
 use mathlib.Core.Logic.{⊎-elim}
 use borrow.Author.Needs.{needs}
 use lib.ListN.{length, length-set}
-use Rattle.listing.proofs.Laws.{put-stored, put-past}
-use Rattle.listing.proofs.put_byte.Statement.{statement}
-use Rattle.listing.proofs.put_byte.Tie as tie
+use Rattle.byte_writer.proofs.Laws.{put-stored, put-past}
+use Rattle.byte_writer.proofs.put_byte.Statement.{statement}
+use Rattle.byte_writer.proofs.put_byte.Tie as tie
 
 same-length : tie.Need-same-length
 same-length c = ⊎-elim (λ w. ap length (w .1) ∙ simp length-set) (λ w. ap length (w .1)) (c .if1 .came)

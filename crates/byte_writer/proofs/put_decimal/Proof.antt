@@ -3,17 +3,11 @@ use mathlib.Core.Path.{ap}
 use native.Mathlib.Omega.{arith}
 use lib.ListN.{length}
 use Rattle.rules.specs.Rules.Listing.{decimal}
-use Rattle.listing.proofs.Digits.{digits-part}
+use Rattle.byte_writer.proofs.Digits.{digits-part}
 use borrow.Author.Needs.{needs}
-use Rattle.listing.proofs.put_decimal.Statement.{statement}
-use Rattle.listing.proofs.put_decimal.Tie as tie
+use Rattle.byte_writer.proofs.put_decimal.Statement.{statement}
+use Rattle.byte_writer.proofs.put_decimal.Tie as tie
 
--- src/lib.rt:78:29
--- src/lib.rt:78:9
--- src/lib.rt:79:23
--- src/lib.rt:79:23
--- src/lib.rt:79:23
--- src/lib.rt:79:5
 put-text-requires : tie.Need-put-text-requires
 put-text-requires c κs =
     let at-find-digits = c .before .before .before .before in
@@ -22,8 +16,6 @@ put-text-requires c κs =
     let a = at-start .args in
     omega (arith, ap length (digits-part (f .last .0) (decimal (a .n)) (f .result) (f .kept .0) (f .ensures .1)))
 
--- src/lib.rt:73:1
--- src/lib.rt:73:1
 returns : tie.Need-returns
 returns c =
     let at-put-text = c .before .before in

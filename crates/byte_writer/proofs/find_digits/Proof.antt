@@ -4,9 +4,9 @@ use mathlib.Core.Path.{_≡_, sym, _∙_}
 use native.Mathlib.Omega.{arith}
 use lib.ListN.{length, length-set}
 use Rattle.rules.specs.Rules.Listing.{decimal}
-use Rattle.listing.proofs.Digits.{Found, found-none, found-positive, found-more, found-all}
-use Rattle.listing.proofs.find_digits.Statement.{statement}
-use Rattle.listing.proofs.find_digits.Tie as tie
+use Rattle.byte_writer.proofs.Digits.{Found, found-none, found-positive, found-more, found-all}
+use Rattle.byte_writer.proofs.find_digits.Statement.{statement}
+use Rattle.byte_writer.proofs.find_digits.Tie as tie
 
 abbrev Inv-loop : tie.InvT-loop
 Inv-loop buffer₀ n rest₀ i₀ buffer rest i = (length buffer ≡ 20) × Found n buffer rest i

@@ -4,9 +4,10 @@ use mathlib.Core.List.{[], _∷_}
 use Prim.Native.Nat.{_+_, _-_, _^_, _≤_}
 use native.Mathlib.Omega.{arith}
 use lib.ListN.{length, getD, drop, drop-of-length-le}
-use Rattle.listing.proofs.Laws.{Left, left-done, left-length, left-room, left-next, byte-next}
-use Rattle.listing.proofs.put_text.Statement.{statement}
-use Rattle.listing.proofs.put_text.Tie as tie
+use Rattle.byte_writer.specs.Texts.{Left, left-done, left-length, left-room, left-next}
+use Rattle.byte_writer.proofs.Laws.{byte-next}
+use Rattle.byte_writer.proofs.put_text.Statement.{statement}
+use Rattle.byte_writer.proofs.put_text.Tie as tie
 
 abbrev Inv-loop : tie.InvT-loop
 Inv-loop out₀ at bytes next₀ i₀ out next i = (i ≤ length bytes) × Left out₀ at bytes out next (drop i bytes)
