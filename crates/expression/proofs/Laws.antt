@@ -1,47 +1,27 @@
--- The tables' operators by their places, and the loop over the tokens: what it keeps from one token to the next.
+-- The loop over the tokens: what it keeps from one token to the next.
 -- Assumes nothing.
 use mathlib.Core.Path.{_≡_, refl, sym, ap, ap₂, _∙_}
 use mathlib.Core.Logic.{_≢_}
 use mathlib.Core.List.{List, [], _∷_}
-use mathlib.Core.Bool.{Bool, true, false, _&&_, cond, and-eq-true-iff}
+use mathlib.Core.Bool.{true}
 use Prim.Native.Nat.{ℕ, zero, suc, _+_, _-_, _≤_, _<_}
 use native.Mathlib.Omega.{arith}
-use lib.Dec.{leb, eqb}
+use lib.Dec.{eqb}
 use lib.ListN.{length, getD, set, length-set}
 use lib.Seq.{getD-set-same, getD-set-other}
-use borrow.Author.Tests.{leb-true, eqb-true}
+use borrow.Author.Tests.{eqb-true}
 use Rattle.location.specs.declared.LocationSet.{LocationSet}
 use Rattle.location.specs.Sets.{none, either, empty, union}
 use Rattle.location.specs.SetLaws.{either-assoc, either-comm, either-none}
 use Rattle.rules.specs.declared.Tagged.{Tagged}
 use Rattle.rules.specs.Rules.Operators.{Op1, neg, Op2, add, apply1, apply2}
-use Rattle.rules.specs.Rules.Expressions.{Token, reg, const, op1, op2, Expr, takes, after, held, sound, tagged, pushed, evalOn, top, eval}
+use Rattle.rules.specs.Rules.Expressions.{Token, reg, const, op1, op2, Expr, takes, held, sound, tagged, pushed, evalOn, top, eval}
 use Rattle.rules.specs.Rules.JobFile.{Read, got, refused, andThen, little, unary, binary, token, tokens}
 use Rattle.rules.specs.Theorems.Readers.{readable, valueOr, unread}
 use Rattle.token.specs.declared.Expression.{Expression}
 use Rattle.token.specs.Meaning.{tokensOf}
 use Rattle.token.specs.Readable.{register-read, constant-read, unary-read, operator-read}
-
--- ---- a place in a table that no arm of the code names: the first operator
-pub unary-default : (i : ℕ) → i ≢ 1 → getD unary i neg ≡ neg
-unfolding unary
-unary-default zero h = refl
-unary-default (suc zero) h = absurd (h refl)
-unary-default (suc (suc i)) h = refl
-
-pub binary-default : (i : ℕ) → i ≢ 1 → i ≢ 2 → i ≢ 3 → i ≢ 4 → i ≢ 5 → i ≢ 6 → i ≢ 7 → i ≢ 8 → i ≢ 9 → getD binary i add ≡ add
-unfolding binary
-binary-default zero h₁ h₂ h₃ h₄ h₅ h₆ h₇ h₈ h₉ = refl
-binary-default (suc zero) h₁ h₂ h₃ h₄ h₅ h₆ h₇ h₈ h₉ = absurd (h₁ refl)
-binary-default (suc (suc zero)) h₁ h₂ h₃ h₄ h₅ h₆ h₇ h₈ h₉ = absurd (h₂ refl)
-binary-default (suc (suc (suc zero))) h₁ h₂ h₃ h₄ h₅ h₆ h₇ h₈ h₉ = absurd (h₃ refl)
-binary-default (suc (suc (suc (suc zero)))) h₁ h₂ h₃ h₄ h₅ h₆ h₇ h₈ h₉ = absurd (h₄ refl)
-binary-default (suc (suc (suc (suc (suc zero))))) h₁ h₂ h₃ h₄ h₅ h₆ h₇ h₈ h₉ = absurd (h₅ refl)
-binary-default (suc (suc (suc (suc (suc (suc zero)))))) h₁ h₂ h₃ h₄ h₅ h₆ h₇ h₈ h₉ = absurd (h₆ refl)
-binary-default (suc (suc (suc (suc (suc (suc (suc zero))))))) h₁ h₂ h₃ h₄ h₅ h₆ h₇ h₈ h₉ = absurd (h₇ refl)
-binary-default (suc (suc (suc (suc (suc (suc (suc (suc zero)))))))) h₁ h₂ h₃ h₄ h₅ h₆ h₇ h₈ h₉ = absurd (h₈ refl)
-binary-default (suc (suc (suc (suc (suc (suc (suc (suc (suc zero))))))))) h₁ h₂ h₃ h₄ h₅ h₆ h₇ h₈ h₉ = absurd (h₉ refl)
-binary-default (suc (suc (suc (suc (suc (suc (suc (suc (suc (suc i)))))))))) h₁ h₂ h₃ h₄ h₅ h₆ h₇ h₈ h₉ = refl
+use Rattle.rules.specs.Theorems.Postfix.{after-holds}
 
 -- ---- the stack of the code: its top in a variable, the values below it in the slots
 -- the d values below the top stand in the slots from 2 on, the last of them in slot d + 1; the rules' stack has its top first
@@ -159,24 +139,6 @@ push-binary f o vs x (suc d) s (b ∷ c ∷ st) l a = record {
 }
 
 -- ---- the postfix rule, token by token
-broken : (ts : Expr) → held 9 ts ≡ 9
-unfolding held after
-broken [] = refl
-broken (t ∷ ts) = broken ts
-
--- a token that leaves the rule unbroken has its operands, and leaves a slot free
-after-holds : (d k : ℕ) (ts : Expr) → held (after d k) ts ≡ 1 → (d ≤ 8) × (k ≤ d) × (d - k ≤ 7) × (held (d - k + 1) ts ≡ 1)
-unfolding after
-after-holds d k ts = go (leb d 8 && leb k d && leb (d - k) 7) refl
-  where
-    go : (b : Bool) → (leb d 8 && leb k d && leb (d - k) 7) ≡ b → held (cond b (d - k + 1) 9) ts ≡ 1
-        → (d ≤ 8) × (k ≤ d) × (d - k ≤ 7) × (held (d - k + 1) ts ≡ 1)
-    go true e h =
-        let a = and-eq-true-iff (leb d 8 && leb k d) (leb (d - k) 7) .0 e in
-        let b = and-eq-true-iff (leb d 8) (leb k d) .0 (a .0) in
-        (leb-true d 8 (b .0), leb-true k d (b .1), leb-true (d - k) 7 (a .1), h)
-    go false e h = absurd (let z = broken ts in omega arith)
-
 -- tokens that were read, and keep the postfix rule where d values are held before them
 abbrev pub Keeps : ℕ → Read Expr → Type 0
 Keeps d (got ts q) = held d ts ≡ 1

@@ -1,4 +1,4 @@
--- Document 01 as definitions: what a reader has to believe. Each file uses only those above it.
+-- Documents 01 and 02 as definitions: what a reader has to believe. Each file uses only those above it.
 pub mod Limits
 pub mod Operators
 pub mod Expressions
@@ -16,3 +16,9 @@ pub mod Strike
 pub mod Demands
 pub mod Promises
 pub mod Listing
+pub mod Encoding
+pub mod Parts
+pub mod TextReading
+pub mod TextPrinting
+pub mod TextCalls
+pub mod TextPromises

@@ -51,6 +51,8 @@ pub enum Refusal {
     PublicList,
     SecondState,
     Areas,
+    Text,
+    Output,
 }
 
 // The numbers of a job file's trailer: the offsets of the state and of the public list, the counts of instructions and
@@ -117,4 +119,16 @@ pub struct PlainAnswer {
 pub enum PairAnswer {
     Refused(Refusal),
     Compared(PairWord, Counts, Counts),
+}
+
+// The answer of reading a text: the bytes and the instructions of its program.
+pub enum ReadAnswer {
+    Refused(Refusal),
+    Read(usize, usize),
+}
+
+// The answer of printing a job's program as text: the bytes of the text.
+pub enum PrintAnswer {
+    Refused(Refusal),
+    Printed(usize),
 }

@@ -3,6 +3,9 @@ pub const MAX_BYTES: usize = 16384;
 
 pub const MAX_INSTRUCTIONS: usize = 512;
 
+// Of an expression.
+pub const MAX_TOKENS: usize = 16;
+
 pub const MAX_CELLS: usize = 240;
 
 pub const MAX_WINDOW: usize = 200;

@@ -1,7 +1,8 @@
 -- `second_state` meets its contract, by computing. Assumes nothing.
 use mathlib.Core.Path.{refl}
 use borrow.Author.Needs.{needs}
-use Rattle.rules.specs.Cases.Files.{bytesOf, wordBytes}
+use Rattle.rules.specs.Rules.Encoding.{bytesOf}
+use Rattle.rules.specs.Cases.Files.{wordBytes}
 use Rattle.rules.specs.Cases.Document01.{state}
 use Rattle.cases.proofs.second_state.Statement.{statement}
 use Rattle.cases.proofs.second_state.Tie as tie

@@ -1,7 +1,7 @@
 -- `expression::operate_one` meets its contract: each arm is the operator at that place of the rules' table. Assumes nothing.
 use borrow.Author.Needs.{needs}
 use Rattle.rules.specs.Rules.JobFile.{unary}
-use Rattle.expression.proofs.Laws.{unary-default}
+use Rattle.token.specs.Operators.{unary-default}
 use Rattle.expression.proofs.operate_one.Statement.{statement}
 use Rattle.expression.proofs.operate_one.Tie as tie
 

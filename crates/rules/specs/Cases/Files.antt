@@ -1,7 +1,7 @@
 -- Job files for the tables, laid out byte by byte, and the rows of the tables.
 -- Assumes nothing.
 use mathlib.Core.List.{List, [], _∷_, _++_}
-use Prim.Native.Nat.{ℕ, zero, suc, _+_, _-_, _*_, _/_, _%_}
+use Prim.Native.Nat.{ℕ, _+_, _-_, _*_}
 use lib.ListN.{length, replicate}
 use Rattle.location.specs.declared.LocationSet.{LocationSet}
 use Rattle.location.specs.Sets.{empty, single, union}
@@ -23,13 +23,9 @@ use Rattle.rules.specs.Rules.JobFile.{Parsed, accepted, rejected, parse}
 use Rattle.rules.specs.Rules.Calls.{Areas, runCall, plainCall}
 use Rattle.rules.specs.Rules.Pairs.{PairAreas, pairCall}
 use Rattle.rules.specs.Rules.Listing.{listing}
+use Rattle.rules.specs.Rules.Encoding.{bytesOf}
 
 -- ---- files
--- a number in k bytes, lowest first
-unfoldable pub bytesOf : ℕ → ℕ → List ℕ
-bytesOf zero v = []
-bytesOf (suc k) v = (v % 256) ∷ bytesOf k (v / 256)
-
 unfoldable pub wordBytes : List ℕ → List ℕ
 wordBytes [] = []
 wordBytes (v ∷ vs) = bytesOf 8 v ++ wordBytes vs

@@ -14,7 +14,8 @@ use Rattle.rules.specs.Rules.JobFile.{little, wordOf, byte, register, un
 use Rattle.rules.specs.Rules.Calls.{traceWords, room, longEnough, written, areasAfter, counts, runReport, runRefused, runParsed, runCall, plainReport, plainRefused, plainParsed, plainCall}
 use Rattle.rules.specs.Rules.Pairs.{withState, alikeFrom, sameWords, sameTrace, pairWord, pairAfter, pairRefused, secondFits, pairFits, pairAccepted, pairParsed, pairCall}
 use Rattle.rules.specs.Rules.Listing.{digits, decimal, line, numberLine, kindWord, valueText, observationLine, traceLines, locationText, members, setLine, summary, answerLines, listingOf, listing}
-use Rattle.rules.specs.Cases.Files.{bytesOf, wordBytes, trailerBytes, file, lines, setOf, ran, plainRan, areas, pairAreas, front, lastAt, given, wanted, allGiven, allWanted}
+use Rattle.rules.specs.Rules.Encoding.{bytesOf}
+use Rattle.rules.specs.Cases.Files.{wordBytes, trailerBytes, file, lines, setOf, ran, plainRan, areas, pairAreas, front, lastAt, given, wanted, allGiven, allWanted}
 use Rattle.rules.specs.Cases.Document01.{printedProgram, barrierProgram, nestedProgram, state, public, job, wholeTrace, r01, r01m1, listing01, document01}
 use Rattle.rules.specs.Cases.Readings.{secretJob, zero17, deep, inner, restoring, conditionally, twice, mixed, ending, operations, costing, filled, readings, details, areasLeft, listings}
 use Rattle.rules.specs.Cases.Refusals as refusal

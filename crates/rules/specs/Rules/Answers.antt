@@ -19,6 +19,10 @@ use Rattle.rules.specs.declared.PlainOutcome.the-variants as plains
 use Rattle.rules.specs.declared.PlainAnswer.{PlainAnswer}
 use Rattle.rules.specs.declared.PairAnswer.{PairAnswer}
 use Rattle.rules.specs.declared.PairAnswer.the-variants as answers
+use Rattle.rules.specs.declared.ReadAnswer.{ReadAnswer}
+use Rattle.rules.specs.declared.ReadAnswer.the-variants as reads
+use Rattle.rules.specs.declared.PrintAnswer.{PrintAnswer}
+use Rattle.rules.specs.declared.PrintAnswer.the-variants as prints
 
 -- the bytes of a text
 unfoldable pub text : String → List ℕ
@@ -54,7 +58,7 @@ pairNumber pairs.PlainDiffers = 2
 pairNumber pairs.LeakShown = 3
 pairNumber pairs.Equal = 4
 
--- the table of refusals, in its order
+-- the table of refusals, in its order, then document 02's
 abbrev pub refusalNumber : Refusal → ℕ
 refusalNumber refusals.Length = 1
 refusalNumber refusals.Trailer = 2
@@ -66,6 +70,8 @@ refusalNumber refusals.Surplus = 7
 refusalNumber refusals.PublicList = 8
 refusalNumber refusals.SecondState = 9
 refusalNumber refusals.Areas = 10
+refusalNumber refusals.Text = 11
+refusalNumber refusals.Output = 12
 
 -- the refusal number of a call's answer: 0 where the call was carried out
 abbrev pub runRefusal : RunAnswer → ℕ
@@ -77,3 +83,11 @@ plainRefusal r = elim (r .outcome) [ plains.Refused n ↦ refusalNumber n | plai
 abbrev pub pairRefusal : PairAnswer → ℕ
 pairRefusal (answers.Refused n) = refusalNumber n
 pairRefusal (answers.Compared w c d) = 0
+
+abbrev pub readRefusal : ReadAnswer → ℕ
+readRefusal (reads.Refused n) = refusalNumber n
+readRefusal (reads.Read k n) = 0
+
+abbrev pub printRefusal : PrintAnswer → ℕ
+printRefusal (prints.Refused n) = refusalNumber n
+printRefusal (prints.Printed k) = 0

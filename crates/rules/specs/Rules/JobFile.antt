@@ -11,7 +11,7 @@ use Rattle.location.specs.Sets.{registers, limit, member}
 use Rattle.rules.specs.declared.Trailer.{Trailer}
 use Rattle.rules.specs.declared.Refusal.{Refusal}
 use Rattle.rules.specs.declared.Refusal.the-variants as refusals
-use Rattle.rules.specs.Rules.Limits.{maxBytes, maxInstructions, maxCells, maxWindow, maxBudget, registersSize, listSize, trailerSize}
+use Rattle.rules.specs.Rules.Limits.{maxBytes, maxInstructions, maxTokens, maxCells, maxWindow, maxBudget, registersSize, listSize, trailerSize}
 use Rattle.rules.specs.Rules.Operators.{Op1, neg, inv, Op2, add, sub, mul, and, or, xor, shl, shr, eq, ult}
 use Rattle.rules.specs.Rules.Expressions.{Token, reg, const, op1, op2, Expr, sound}
 use Rattle.rules.specs.Rules.Instructions.{Instr, skip, assign, load, store, jmp, beqz, cassign, spbarr, windowCosts, branching, other, branchView}
@@ -98,7 +98,7 @@ tokens (suc k) = do
 unfoldable pub expr : Reader Expr
 expr = do
   k ← byte
-  cond (leb 1 k && leb k 16) (tokens k) (refuse refusals.Encoding)
+  cond (leb 1 k && leb k maxTokens) (tokens k) (refuse refusals.Encoding)
 
 -- ---- instructions
 unfoldable pub withRegister : (ℕ → Expr → Instr) → Reader Instr

@@ -18,6 +18,10 @@ maxWindow = 200
 abbrev pub maxBudget : ℕ
 maxBudget = 1000000
 
+-- "An expression is a byte with its token count, 1 to 16"
+abbrev pub maxTokens : ℕ
+maxTokens = 16
+
 -- "16 registers", "8 bytes each"; "32 bytes of public list"; "a trailer of 16 bytes"
 abbrev pub registersSize : ℕ
 registersSize = 128

@@ -54,3 +54,20 @@ always (refused r) = tt
 pub holds-value : {A : Type 0} (P : A → Type 0) (d : A) (m : Read A) → P d → Holds P m → P (valueOr d m)
 holds-value P d (got a q) k h = h
 holds-value P d (refused r) k h = k
+
+-- ---- what is read has a property together with the offset after it
+abbrev pub HoldsAt : {A : Type 0} → (A → ℕ → Type 0) → Read A → Type 0
+HoldsAt P (got a q) = P a q
+HoldsAt P (refused r) = Unit
+
+pub then-at : {A B : Type 0} (P : A → ℕ → Type 0) (Q : B → ℕ → Type 0) (m : Read A) (f : A → ℕ → Read B) → HoldsAt P m
+    → ((a : A) (q : ℕ) → P a q → HoldsAt Q (f a q)) → HoldsAt Q (andThen m f)
+then-at P Q (got a q) f h k = k a q h
+then-at P Q (refused r) f h k = tt
+
+pub holds-map : {A : Type 0} (P Q : A → ℕ → Type 0) (m : Read A) → HoldsAt P m → ((a : A) (q : ℕ) → P a q → Q a q) → HoldsAt Q m
+holds-map P Q (got a q) h k = k a q h
+holds-map P Q (refused r) h k = tt
+
+pub holds-got : {A : Type 0} {a : A} {q : ℕ} (P : A → ℕ → Type 0) (m : Read A) → HoldsAt P m → m ≡ got a q → P a q
+holds-got P m h e = rw e at h

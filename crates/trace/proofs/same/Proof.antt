@@ -6,7 +6,7 @@ use native.Mathlib.Omega.{arith}
 use borrow.Author.Tests.{ne-eqb, eq-eqb}
 use lib.ListN.{length, drop}
 use Rattle.rules.specs.Rules.Pairs.{sameWords}
-use Rattle.trace.proofs.Laws.{same-step, other-length, both-done}
+use Rattle.rules.specs.Theorems.SameWords.{same-step, other-length, both-done}
 use Rattle.trace.proofs.same.Statement.{statement}
 use Rattle.trace.proofs.same.Tie as tie
 
