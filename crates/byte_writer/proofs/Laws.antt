@@ -1,11 +1,13 @@
--- A byte stored, or not where the area has ended; a text byte by byte.
+-- A byte stored, or not where the area has ended; a text and a number byte by byte.
 -- Assumes nothing.
-use mathlib.Core.Path.{_≡_, refl, sym, _∙_}
+use mathlib.Core.Path.{_≡_, refl, sym, ap, _∙_}
 use mathlib.Core.List.{List, [], _∷_, _++_}
-use Prim.Native.Nat.{ℕ, _+_, _<_, _≤_}
+use Prim.Native.Nat.{ℕ, zero, suc, _+_, _-_, _/_, _%_, _<_, _≤_}
+use native.Mathlib.Omega.{arith}
 use native.Mathlib.Numerals.{add-one}
 use lib.ListN.{length, getD, drop, set}
 use lib.Seq.{set-out, drop-cons}
+use Rattle.rules.specs.Rules.Encoding.{bytesOf}
 use Rattle.byte_writer.specs.Writing.{Put}
 
 -- ---- a byte
@@ -19,3 +21,20 @@ put-past {a} {b} {i} v h e = record { area = e ∙ sym (set-out a i v h); place 
 -- ---- a text byte by byte
 pub byte-next : (bytes : List ℕ) (i : ℕ) → i < length bytes → drop i bytes ≡ (getD bytes i 0 ∷ []) ++ drop (i + 1) bytes
 byte-next bytes i h = rw (add-one, drop-cons bytes i 0)
+
+-- ---- a number byte by byte
+pub number-next : (left rest : ℕ) → 0 < left → bytesOf left rest ≡ ((rest % 256) ∷ []) ++ bytesOf (left - 1) (rest / 256)
+unfolding bytesOf
+number-next zero rest h = absurd (omega arith)
+number-next (suc k) rest h =
+    let e : suc k - 1 ≡ k = omega arith in
+    ap (λ (j : ℕ). (rest % 256) ∷ bytesOf j (rest / 256)) (sym e)
+
+pub number-over : (rest : ℕ) → bytesOf 0 rest ≡ []
+unfolding bytesOf
+number-over rest = refl
+
+pub number-length : (k n : ℕ) → length (bytesOf k n) ≡ k
+unfolding bytesOf
+number-length zero n = refl
+number-length (suc k) n = ap suc (number-length k (n / 256))

@@ -1,3 +1,4 @@
 pub mod Writing
 pub mod Texts
 pub mod Areas
+pub mod Lengths

@@ -1,10 +1,11 @@
-// Bytes written into an area that the caller lends: a byte, a text, the decimal digits of a number.
+// Bytes written into an area that the caller lends: a byte, a text, the decimal digits of a number, a number in bytes.
 // Each function writes from a place on, as far as the area goes, and returns the next place.
 ghost use mathlib.Core.Path.{_≡_};
 ghost use mathlib.Core.List.{_∷_, []};
 ghost use Prim.Native.Nat.{_+_, _^_, _<_};
 ghost use lib.ListN.{length, drop};
 ghost use Rattle.rules.specs.Rules.Listing.{decimal};
+ghost use Rattle.rules.specs.Rules.Encoding.{bytesOf};
 ghost use Rattle.byte_writer.specs.Writing.{Put};
 
 // A number of 64 bits has at most 20 decimal digits; this is the place of the last.
@@ -56,4 +57,20 @@ pub fn put_decimal(out: &mut [u8], at: usize, n: u64) -> usize
     let mut buffer = [0u8; 20];
     let first = find_digits(&mut buffer, n);
     put_text(out, at, &buffer[first..])
+}
+
+// A number in k bytes, the lowest first.
+pub fn put_number(out: &mut [u8], at: usize, n: u64, k: usize) -> usize
+    requires { ⌜ at + k < 2 ^ 64 ⌝ }
+    ensures { λ r. ⌜ Put (now (out .entry)) at (bytesOf k n) (now (out .exit)) r ⌝ }
+{
+    let mut next = at;
+    let mut rest = n;
+    let mut left = k;
+    while 0 < left {
+        next = put_byte(&mut out[..], next, (rest % 256) as u8);
+        rest /= 256;
+        left -= 1;
+    }
+    next
 }

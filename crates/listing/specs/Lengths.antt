@@ -1,9 +1,9 @@
 -- How long a printed run can be: at most 30 bytes a line of the trace, and 11,372 bytes after them.
 -- Assumes nothing.
 use mathlib.Core.Path.{_≡_}
-use mathlib.Core.Bool.{Bool, true, false, _&&_, cond}
+use mathlib.Core.Bool.{_&&_, cond}
 use mathlib.Core.List.{List, [], _∷_, _++_}
-use Prim.Native.Nat.{ℕ, zero, suc, _+_, _-_, _*_, _/_, _%_, _≤_}
+use Prim.Native.Nat.{ℕ, zero, suc, _+_, _-_, _*_, _≤_}
 use native.Mathlib.Omega.{arith}
 use lib.Dec.{eqb, ltb}
 use lib.ListN.{length, length-append}
@@ -19,24 +19,10 @@ use Rattle.rules.specs.declared.RunOutcome.the-variants as runs
 use Rattle.rules.specs.declared.RunAnswer.{RunAnswer}
 use Rattle.rules.specs.Rules.Instructions.{Observation, pcKind}
 use Rattle.rules.specs.Rules.Answers.{text, stopWord, verdictWord, refusalNumber}
-use Rattle.rules.specs.Rules.Listing.{digits, decimal, line, numberLine, kindWord, valueText, observationLine, traceLines, locationText, members, setLine, summary, outcomeLines, answerLines}
+use Rattle.rules.specs.Rules.Listing.{decimal, line, numberLine, kindWord, valueText, observationLine, traceLines, locationText, members, setLine}
+use Rattle.rules.specs.Rules.Listing.{summary, outcomeLines, answerLines}
+use Rattle.byte_writer.specs.Lengths.{cond-length, decimal-length}
 use Rattle.listing.specs.Lines.{observationsIn}
-
--- one of two texts
-cond-length : (b : Bool) (x y : List ℕ) (m : ℕ) → length x ≤ m → length y ≤ m → length (cond b x y) ≤ m
-cond-length true x y m p q = p
-cond-length false x y m p q = q
-
-digits-length : (k n : ℕ) (rest : List ℕ) → length (digits k n rest) ≤ k + length rest
-unfolding digits
-digits-length zero n rest = omega arith
-digits-length (suc k) n rest =
-    cond-length (ltb n 10) ((48 + n) ∷ rest) (digits k (n / 10) ((48 + n % 10) ∷ rest)) (suc k + length rest) (omega arith)
-    (omega (arith, digits-length k (n / 10) ((48 + n % 10) ∷ rest)))
-
-decimal-length : (n : ℕ) → length (decimal n) ≤ 20
-unfolding decimal
-decimal-length n = digits-length 20 n []
 
 line-length : (word rest : List ℕ) → length (line word rest) ≡ length word + length rest + 1
 unfolding line

@@ -1,3 +1,4 @@
 pub mod Bytes
 pub mod Meaning
 pub mod Readable
+pub mod Operators

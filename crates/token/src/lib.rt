@@ -39,7 +39,7 @@ pub fn word(s: &[u8], at: usize) -> u64
 }
 
 // A token: a register, a constant, or an operator of one or of two operands by its place in the rules' table of them.
-enum Token {
+pub enum Token {
     Register(u8),
     Constant(u64),
     Unary(u8),
@@ -47,13 +47,13 @@ enum Token {
 }
 
 // A token and the offset after it.
-struct TokenAt {
+pub struct TokenAt {
     pub token: Token,
     pub next: usize,
 }
 
 // The token at an offset where one can be read: taken as it stands, with no test of the length.
-fn token_at(p: &[u8], at: usize) -> TokenAt
+pub fn token_at(p: &[u8], at: usize) -> TokenAt
     requires { ⌜ readable (token (now p) at) ≡ true ⌝ }
     ensures { λ r. ⌜ got (tokenMeaning (r .token)) (r .next) ≡ token (now (p .entry)) at ⌝ }
 {
@@ -135,7 +135,7 @@ fn taken(t: Token) -> usize
 }
 
 // The values held after a token that takes k, where `held` are held before it. 9 marks the postfix rule as broken, for good.
-fn held_after(held: usize, k: usize) -> usize
+pub fn held_after(held: usize, k: usize) -> usize
     ensures { λ r. ⌜ r ≡ after held k ⌝ }
 {
     if 8 < held {
