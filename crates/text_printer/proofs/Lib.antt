@@ -1,0 +1,3 @@
+pub mod Operands
+pub mod Programs
+pub mod Calls

@@ -1,0 +1,5 @@
+pub mod Parts
+pub mod Fields
+pub mod Lines
+pub mod Scan
+pub mod Answers
