@@ -7,38 +7,40 @@
  * could be observed, the registers and cells that these depend on, and a
  * verdict.
  *
- * Link with libchecker_c.a. There are three functions:
+ * Link with libchecker_c.a. There are five functions:
  *
- *   checker_run        the mispredicting run of a job, with its verdict
- *   checker_plain_run  the same routine without any misprediction
- *   checker_compare    the mispredicting runs of a job with two states
+ *   checker_run         the mispredicting run of a job, with its verdict
+ *   checker_plain_run   the same routine without any misprediction
+ *   checker_compare     the mispredicting runs of a job with two states
+ *   checker_read_text   a routine as text, read to the bytes of its program
+ *   checker_print_text  the program of a job, printed as text
  *
  *
- * WHAT HOLDS FOR ALL THREE
+ * WHAT HOLDS FOR ALL OF THEM
  *
  * The caller lends every byte that is used. A call keeps nothing for the next
  * one: its result depends on its arguments alone.
  *
- * A function returns 0 if it carried the job out, or else the number of the
- * refusal, 1 to 10. After a refusal every area, and the answer too, is exactly
+ * A function returns 0 if it carried out the call, or else the number of the
+ * refusal, 1 to 12. After a refusal every area, and the answer too, is exactly
  * as it was before the call.
  *
- * Any bytes may be given as a job, and areas of any length may be lent: what
- * does not fit is refused. What the caller has to see to is what C cannot
- * check:
+ * Any bytes may be given as a job or as a text, and areas of any length may be
+ * lent: what does not fit is refused. What the caller has to see to is what C
+ * cannot check:
  *   - each pointer is valid for the length given with it, and is not null even
  *     where that length is 0;
- *   - pointers to 64-bit words are aligned for them; the bytes of a job or a
- *     state may start anywhere;
- *   - the areas and the answer do not overlap each other, the job or the
- *     second state;
+ *   - pointers to 64-bit words are aligned for them; the bytes of a job, a
+ *     state or a text may start anywhere;
+ *   - the areas and the answer do not overlap each other, the job, the second
+ *     state or the text;
  *   - the answer has the number of words named at the function.
  *
- * Lengths of a job and of a state are counted in bytes, lengths of areas in
- * 64-bit words.
+ * Lengths of a job, of a state, of a text and of an output area are counted in
+ * bytes, lengths of all other areas in 64-bit words.
  *
  * What the areas hold before a call has no influence on the result. Every word
- * that is not named below as written keeps its contents.
+ * and byte that is not named below as written keeps its contents.
  *
  *
  * THE JOB
@@ -97,6 +99,28 @@
  *        that nothing of the job stays behind there. Further words keep their
  *        contents.
  *
+ * out    Bytes of any length. A text or a program is written from the front if
+ *        all of it fits, and is refused otherwise. Further bytes keep their
+ *        contents.
+ *
+ *
+ * ROUTINES AS TEXT
+ *
+ * One instruction at most stands on a line, with its fields in the order of the
+ * table above. A line ends at a newline or at the text's end; # starts a
+ * remark, which goes on to the end of its line. Lines without instruction have
+ * no label. The instruction words are
+ *
+ *   skip   set   load   store   jmp   beqz   cset   spbarr
+ *
+ * in the order of the kinds. A register is r0 to r15, a label and a constant is
+ * a decimal number below 2^64 without needless leading zero. An operand is a
+ * register, a constant, "neg" or "not" before an operand, or two operands round
+ * the name of an operator in brackets: (r0 ult r1). Spaces must stand between
+ * two words or numbers and may stand anywhere but inside one; no other byte is
+ * a blank. Printing puts one space between parts, none just inside brackets,
+ * and ends each line with a newline: "load r4 (r3 add 2)".
+ *
  *
  * THE SETS
  *
@@ -116,16 +140,26 @@ extern "C" {
 /* The longest job, in bytes. */
 #define CHECKER_JOB_BYTES_MAX 16384
 
-/* Words of the working area that every call needs. */
+/* Words of the working area that every run and comparison needs. */
 #define CHECKER_WORK_WORDS 4096
 
 /* Words of an end area that is long enough for every job: 16 + 240. */
 #define CHECKER_END_WORDS_MAX 256
 
-/* Words of the answers of the three functions. */
+/* Words of the answers of the functions. */
 #define CHECKER_RUN_ANSWER_WORDS 13
 #define CHECKER_PLAIN_ANSWER_WORDS 7
 #define CHECKER_COMPARE_ANSWER_WORDS 9
+#define CHECKER_READ_ANSWER_WORDS 2
+#define CHECKER_PRINT_ANSWER_WORDS 1
+
+/* Bytes of an output area that is long enough for the program of every text:
+ * 512 instructions of at most 292 bytes. */
+#define CHECKER_PROGRAM_BYTES_MAX 149504
+
+/* Bytes of an output area that is long enough for the text of every job: no
+ * byte of a program is printed as more than seven. */
+#define CHECKER_TEXT_BYTES_MAX 114688
 
 /* Why a call was refused; 0 is no refusal. The tests are made in this order and
  * the first that fails gives the number, except that 4, 5 and 6 are all tried
@@ -155,7 +189,14 @@ enum checker_refusal {
     /* The working area is shorter than 4,096 words, the end area is shorter
      * than 16 + m words, or the trace areas of checker_compare have different
      * lengths. */
-    CHECKER_REFUSED_AREAS = 10
+    CHECKER_REFUSED_AREAS = 10,
+    /* The text is no routine: a line is outside the grammar above, a constant
+     * is 2^64 or more, there is no instruction or more than 512, an expression has
+     * more than 16 tokens or holds more than 8 values, or the label of a beqz
+     * is over n or is the next one (checker_read_text only). */
+    CHECKER_REFUSED_TEXT = 11,
+    /* The output area is too short; tested last. */
+    CHECKER_REFUSED_OUTPUT = 12
 };
 
 /* Why a run stopped. Finished is tested first, then spent, then trace full. */
@@ -243,6 +284,17 @@ enum checker_compare_answer {
     CHECKER_COMPARE_SECOND_ROLLBACKS = 8
 };
 
+/* Which word of checker_read_text's answer is what. */
+enum checker_read_answer {
+    CHECKER_READ_BYTES = 0,       /* bytes of the program */
+    CHECKER_READ_INSTRUCTIONS = 1 /* its instructions */
+};
+
+/* Which word of checker_print_text's answer is what. */
+enum checker_print_answer {
+    CHECKER_PRINT_BYTES = 0 /* bytes of the text */
+};
+
 /*
  * The mispredicting run of a job.
  *
@@ -312,6 +364,37 @@ uint32_t checker_compare(const uint8_t *job, size_t job_len,
                          uint64_t *trace2, size_t trace2_len,
                          uint64_t *work, size_t work_len,
                          uint64_t answer[9]);
+
+/*
+ * Reads a routine as text.
+ *
+ * text, text_len  the text, in bytes, of any length
+ * out, out_len    the output area, in bytes; the bytes of the program as they
+ *                 stand at the front of a job
+ * answer          2 words: the bytes of the program and its instructions
+ *
+ * Returns 0 or a refusal number (11, 12). A program that is too long for a job
+ * of 16,384 bytes is read all the same.
+ */
+uint32_t checker_read_text(const uint8_t *text, size_t text_len,
+                           uint8_t *out, size_t out_len,
+                           uint64_t answer[2]);
+
+/*
+ * Prints the program of a job as text.
+ *
+ * job, job_len  the job, in bytes
+ * out, out_len  the output area, in bytes
+ * answer        1 word: the bytes of the text
+ *
+ * Returns 0 or a refusal number (1 to 8, or 12).
+ *
+ * Reading the text with checker_read_text restores the program: the S bytes
+ * before the job's state, and its n instructions.
+ */
+uint32_t checker_print_text(const uint8_t *job, size_t job_len,
+                            uint8_t *out, size_t out_len,
+                            uint64_t answer[1]);
 
 /* 1 if the location is in the set of four words, else 0. */
 static inline int checker_set_has(const uint64_t set[4], unsigned location)

@@ -13,6 +13,10 @@ use Rattle.rules.specs.declared.PlainAnswer.{PlainAnswer}
 use Rattle.rules.specs.declared.PairWord.{PairWord}
 use Rattle.rules.specs.declared.PairAnswer.{PairAnswer}
 use Rattle.rules.specs.declared.PairAnswer.the-variants as pairs
+use Rattle.rules.specs.declared.ReadAnswer.{ReadAnswer}
+use Rattle.rules.specs.declared.ReadAnswer.the-variants as reads
+use Rattle.rules.specs.declared.PrintAnswer.{PrintAnswer}
+use Rattle.rules.specs.declared.PrintAnswer.the-variants as prints
 use Rattle.rules.specs.Rules.Answers.{stopNumber, verdictNumber, pairNumber}
 
 -- stop, observations, steps and rollbacks
@@ -32,6 +36,13 @@ plainWords c plain = (stopNumber (c .stop) ∷ c .observations ∷ c .steps ∷ 
 abbrev pub pairWords : PairWord → Counts → Counts → List ℕ
 pairWords w c d = pairNumber w ∷ countWords c ++ countWords d
 
+-- the bytes and the instructions of a program that was read; the bytes of a text that was printed
+abbrev pub readWords : ℕ → ℕ → List ℕ
+readWords bytes instructions = bytes ∷ instructions ∷ []
+
+abbrev pub printWords : ℕ → List ℕ
+printWords bytes = bytes ∷ []
+
 -- the words of an answer, which a call writes from the first word on: none where it refuses
 abbrev pub runAnswerWords : RunAnswer → List ℕ
 runAnswerWords r = elim (r .outcome) [ runs.Refused n ↦ [] | runs.Ran c v ↦ runWords c (r .full) (r .plain) v ]
@@ -42,3 +53,11 @@ plainAnswerWords r = elim (r .outcome) [ plains.Refused n ↦ [] | plains.Ran c 
 abbrev pub pairAnswerWords : PairAnswer → List ℕ
 pairAnswerWords (pairs.Refused n) = []
 pairAnswerWords (pairs.Compared w c d) = pairWords w c d
+
+abbrev pub readAnswerWords : ReadAnswer → List ℕ
+readAnswerWords (reads.Refused n) = []
+readAnswerWords (reads.Read k n) = readWords k n
+
+abbrev pub printAnswerWords : PrintAnswer → List ℕ
+printAnswerWords (prints.Refused n) = []
+printAnswerWords (prints.Printed k) = printWords k

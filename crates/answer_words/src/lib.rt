@@ -1,4 +1,4 @@
-// An answer as numbers and words, for callers that have no enums: a number for each case (of a refusal document 01's), and the words
+// An answer as numbers and words, for callers that have no enums: a number for each case (of a refusal the documents'), and the words
 // in their order.
 use location::LocationSet;
 use rules::Counts;
@@ -10,7 +10,7 @@ use rules::Verdict;
 ghost use mathlib.Core.Path.{_≡_};
 ghost use lib.Seq.{sets};
 ghost use Rattle.rules.specs.Rules.Answers.{stopNumber, verdictNumber, pairNumber, refusalNumber};
-ghost use Rattle.answer_words.specs.Words.{runWords, plainWords, pairWords};
+ghost use Rattle.answer_words.specs.Words.{runWords, plainWords, pairWords, readWords, printWords};
 
 fn stop_number(s: Stop) -> u64
     ensures { λ r. ⌜ r ≡ stopNumber s ⌝ }
@@ -60,6 +60,8 @@ pub fn refusal_number(n: Refusal) -> u32
         Refusal::PublicList => 8,
         Refusal::SecondState => 9,
         Refusal::Areas => 10,
+        Refusal::Text => 11,
+        Refusal::Output => 12,
     }
 }
 
@@ -121,4 +123,19 @@ pub fn write_pair(w: PairWord, c: Counts, d: Counts, answer: &mut [u64; 9])
     answer[6] = d.observations as u64;
     answer[7] = d.steps as u64;
     answer[8] = d.rollbacks as u64;
+}
+
+// The bytes and the instructions of a program that was read from a text.
+pub fn write_read(bytes: usize, instructions: usize, answer: &mut [u64; 2])
+    ensures { λ _. ⌜ now (answer .exit) ≡ sets (now (answer .entry)) 0 (readWords bytes instructions) ⌝ }
+{
+    answer[0] = bytes as u64;
+    answer[1] = instructions as u64;
+}
+
+// The bytes of a text that was printed.
+pub fn write_print(length: usize, answer: &mut [u64; 1])
+    ensures { λ _. ⌜ now (answer .exit) ≡ sets (now (answer .entry)) 0 (printWords length) ⌝ }
+{
+    answer[0] = length as u64;
 }

@@ -1,4 +1,4 @@
--- How what a C call returns comes from the answer of the call of crates/checker.
+-- How what a C call returns comes from the answer of the call that it makes.
 -- Assumes nothing.
 use mathlib.Core.Path.{_≡_, refl, sym, ap, _∙_}
 use mathlib.Core.List.{List, []}
@@ -16,11 +16,17 @@ use Rattle.rules.specs.declared.PlainAnswer.{PlainAnswer}
 use Rattle.rules.specs.declared.PairWord.{PairWord}
 use Rattle.rules.specs.declared.PairAnswer.{PairAnswer}
 use Rattle.rules.specs.declared.PairAnswer.the-variants as pairs
-use Rattle.rules.specs.Rules.Answers.{refusalNumber, runRefusal, plainRefusal, pairRefusal}
+use Rattle.rules.specs.declared.ReadAnswer.{ReadAnswer}
+use Rattle.rules.specs.declared.ReadAnswer.the-variants as reads
+use Rattle.rules.specs.declared.PrintAnswer.{PrintAnswer}
+use Rattle.rules.specs.declared.PrintAnswer.the-variants as prints
+use Rattle.rules.specs.Rules.Answers.{refusalNumber, runRefusal, plainRefusal, pairRefusal, readRefusal, printRefusal}
 use Rattle.rules.specs.Rules.Calls.{Areas}
 use Rattle.rules.specs.Rules.Pairs.{PairAreas}
 use Rattle.rules.specs.Rules.Promises.{RunPromise, PlainPromise, PairPromise}
-use Rattle.answer_words.specs.Words.{runWords, plainWords, pairWords, runAnswerWords, plainAnswerWords, pairAnswerWords}
+use Rattle.rules.specs.Rules.TextPromises.{ReadPromise, PrintPromise}
+use Rattle.answer_words.specs.Words.{runWords, plainWords, pairWords, readWords, printWords, runAnswerWords, plainAnswerWords, pairAnswerWords}
+use Rattle.answer_words.specs.Words.{readAnswerWords, printAnswerWords}
 use Rattle.checker_c.specs.Calls.{Returns}
 
 -- ---- any call, with an answer a for which its promise holds: it was carried out, or refused
@@ -73,3 +79,21 @@ module _ {f second : List ℕ} {lent left : PairAreas} {a : PairAnswer} (h : Pai
       → after ≡ sets before 0 (pairWords w c d)
       → Returns pairRefusal pairAnswerWords before 0 after (λ x. PairPromise f second lent x left)
   pair-returned e ew = carried-out a h (rw e) (rw e ew)
+
+module _ {text lent left : List ℕ} {a : ReadAnswer} (h : ReadPromise text lent a left) {before : List ℕ} where
+  pub read-refused : {n : Refusal} {r : ℕ} → a ≡ reads.Refused n → r ≡ refusalNumber n
+      → Returns readRefusal readAnswerWords before r before (λ x. ReadPromise text lent x left)
+  read-refused e = refused a h (rw e) (rw e)
+
+  pub read-returned : {k n : ℕ} {after : List ℕ} → a ≡ reads.Read k n → after ≡ sets before 0 (readWords k n)
+      → Returns readRefusal readAnswerWords before 0 after (λ x. ReadPromise text lent x left)
+  read-returned e ew = carried-out a h (rw e) (rw e ew)
+
+module _ {job lent left : List ℕ} {a : PrintAnswer} (h : PrintPromise job lent a left) {before : List ℕ} where
+  pub print-refused : {n : Refusal} {r : ℕ} → a ≡ prints.Refused n → r ≡ refusalNumber n
+      → Returns printRefusal printAnswerWords before r before (λ x. PrintPromise job lent x left)
+  print-refused e = refused a h (rw e) (rw e)
+
+  pub print-returned : {k : ℕ} {after : List ℕ} → a ≡ prints.Printed k → after ≡ sets before 0 (printWords k)
+      → Returns printRefusal printAnswerWords before 0 after (λ x. PrintPromise job lent x left)
+  print-returned e ew = carried-out a h (rw e) (rw e ew)

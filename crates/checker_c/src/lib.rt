@@ -1,12 +1,16 @@
 // The calls for C and Rust: include/checker.h says what each takes and returns. A slice is a pointer and a length.
 //
-// The number and the words that each call returns are those of an answer for which the promise of the call of crates/checker holds,
-// for every input: demands 1 to 3, and the meaning of the words on a pair. A refusal leaves the answer's words as they were.
+// The number and the words that each call returns are those of an answer for which the promise of the call that it makes holds, for
+// every input: demands 1 to 3, the meaning of the words on a pair, and that a printed text restores its program. A refusal leaves the
+// answer's words as they were.
 use rules::PairAnswer;
 use rules::PlainOutcome;
+use rules::PrintAnswer;
+use rules::ReadAnswer;
 use rules::RunOutcome;
 ghost use Rattle.rules.specs.Rules.Promises.{RunPromise, PlainPromise, PairPromise, areasAtEntry, areasAtExit, pairAtEntry, pairAtExit};
-ghost use Rattle.checker_c.specs.Calls.{RunReturns, PlainReturns, PairReturns};
+ghost use Rattle.rules.specs.Rules.TextPromises.{ReadPromise, PrintPromise};
+ghost use Rattle.checker_c.specs.Calls.{RunReturns, PlainReturns, PairReturns, ReadReturns, PrintReturns};
 
 #[no_mangle]
 pub extern "C" fn checker_run(
@@ -78,6 +82,32 @@ pub extern "C" fn checker_compare(
         PairAnswer::Refused(n) => answer_words::refusal_number(n),
         PairAnswer::Compared(w, c, d) => {
             answer_words::write_pair(w, c, d, answer);
+            0
+        }
+    }
+}
+
+#[no_mangle]
+pub extern "C" fn checker_read_text(text: &[u8], out: &mut [u8], answer: &mut [u64; 2]) -> u32
+    ensures { λ r. ⌜ ReadReturns answer r (λ x. ReadPromise (now (text .entry)) (now (out .entry)) x (now (out .exit))) ⌝ }
+{
+    match text_reader::read_text(text, &mut out[..]) {
+        ReadAnswer::Refused(n) => answer_words::refusal_number(n),
+        ReadAnswer::Read(bytes, instructions) => {
+            answer_words::write_read(bytes, instructions, answer);
+            0
+        }
+    }
+}
+
+#[no_mangle]
+pub extern "C" fn checker_print_text(job: &[u8], out: &mut [u8], answer: &mut [u64; 1]) -> u32
+    ensures { λ r. ⌜ PrintReturns answer r (λ x. PrintPromise (now (job .entry)) (now (out .entry)) x (now (out .exit))) ⌝ }
+{
+    match text_printer::print_text(job, &mut out[..]) {
+        PrintAnswer::Refused(n) => answer_words::refusal_number(n),
+        PrintAnswer::Printed(bytes) => {
+            answer_words::write_print(bytes, answer);
             0
         }
     }

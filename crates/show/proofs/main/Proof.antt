@@ -6,7 +6,7 @@ use Rattle.show.proofs.main.Statement.{statement}
 use Rattle.show.proofs.main.Tie as tie
 
 array-share-prefix-buffer : tie.Need-array-share-prefix-buffer
-array-share-prefix-buffer c = rw (c .before .n .given .1) at (c .before .before .before .read-file .ensures .0)
+array-share-prefix-buffer c = rw (c .before .n .given .1) at (c .before .before .before .read-job .ensures .0)
 
 slice-aggregate-show : tie.Need-slice-aggregate-show
 slice-aggregate-show c = sym (length-take-le _ _ (array-share-prefix-buffer (c .before)))

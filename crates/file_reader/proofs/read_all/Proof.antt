@@ -4,8 +4,8 @@ use mathlib.Core.Path.{_≡_}
 use Prim.Native.Nat.{_≤_, _-_}
 use lib.ListN.{length}
 use borrow.Author.Needs.{needs}
-use Rattle.show.proofs.read_all.Statement.{statement}
-use Rattle.show.proofs.read_all.Tie as tie
+use Rattle.file_reader.proofs.read_all.Statement.{statement}
+use Rattle.file_reader.proofs.read_all.Tie as tie
 
 abbrev Inv-loop : tie.InvT-loop
 Inv-loop fd path buffer₀ done₀ buffer done = (done ≤ length buffer) × (length buffer ≡ length buffer₀)
