@@ -1,4 +1,4 @@
-//! The answers of the three checks, with the numbers and words of the document.
+//! The answers of the checks and of reading text, with the numbers and words of the documents.
 
 /// Why a run ended.
 #[derive(Debug, Clone, Copy, PartialEq, Eq)]
@@ -123,4 +123,11 @@ pub struct PairAnswer {
     pub word: PairWord,
     pub first: RunCounts,
     pub second: RunCounts,
+}
+
+/// The answer of reading a routine as text: the length of its program in bytes and instructions.
+#[derive(Debug, Clone, Copy, PartialEq, Eq)]
+pub struct TextCounts {
+    pub bytes: usize,
+    pub instructions: usize,
 }

@@ -102,7 +102,7 @@ fn word(bytes: &[u8]) -> u64 {
 }
 
 /// Refusals 4, 5 and 6 are tried on one instruction before the next is read.
-fn read_program(bytes: &[u8], count: usize) -> Result<Vec<Instruction>, u32> {
+pub fn read_program(bytes: &[u8], count: usize) -> Result<Vec<Instruction>, u32> {
     let mut reader = Reader { program: bytes, offset: 0 };
     let mut program = Vec::with_capacity(count);
     for own_label in 0..count {

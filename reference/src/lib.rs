@@ -1,4 +1,5 @@
-//! A second implementation of document 01, written from the document alone.
+//! A second implementation of document 01 and of request F-1 of document 02,
+//! written from the documents alone.
 //! It prefers clarity to speed: every branch saves a copy of the whole state.
 
 #![forbid(unsafe_code)]
@@ -9,12 +10,20 @@ mod listing;
 mod location_set;
 mod machine;
 mod pair;
+mod program_bytes;
 mod refusal;
 mod run;
+mod text;
+mod text_printing;
+mod text_reading;
 mod trace;
 
-pub use answer::{PairAnswer, PairWord, PlainAnswer, RunAnswer, RunCounts, Stop, Verdict};
+pub use answer::{
+    PairAnswer, PairWord, PlainAnswer, RunAnswer, RunCounts, Stop, TextCounts, Verdict,
+};
 pub use listing::{listing, listing_in};
 pub use pair::compare;
+pub use refusal::Refusal;
 pub use run::{plain_run, run};
+pub use text::{print_text, read_text};
 pub use trace::strike_out;

@@ -1,5 +1,8 @@
 //! The numbers of the refusals, in the order in which they are checked.
 
+/// A refusal is its number.
+pub type Refusal = u32;
+
 pub const LENGTH: u32 = 1;
 pub const TRAILER: u32 = 2;
 pub const OFFSETS: u32 = 3;
@@ -10,6 +13,8 @@ pub const BYTES_LEFT: u32 = 7;
 pub const PUBLIC_BIT: u32 = 8;
 pub const SECOND_STATE: u32 = 9;
 pub const AREAS: u32 = 10;
+pub const TEXT: u32 = 11;
+pub const OUTPUT_AREA: u32 = 12;
 
 /// Refuses with the number unless the condition holds.
 pub fn require(condition: bool, number: u32) -> Result<(), u32> {

@@ -1,12 +1,12 @@
-//! Runs every vector of a vector file; the head of that file describes its format.
-//! The path is the environment variable VECTORS, or `../vectors/document-01.txt` of the package.
+//! Runs every vector of the vector files; the head of each file describes its format.
+//! The file is that of the environment variable VECTORS, or those are of `../vectors` of the package.
 
 mod common;
 
 use std::collections::HashMap;
-use std::path::PathBuf;
+use std::path::{Path, PathBuf};
 
-use check_box_reference::{compare, listing, plain_run, run, RunCounts};
+use check_box_reference::{compare, listing, plain_run, print_text, read_text, run, RunCounts};
 use common::{area, area_with, locations, WORK};
 
 /// One block of the file: its key lines, and the lines that begin with "| ".
@@ -165,12 +165,53 @@ fn check_listing(vector: &Vector) {
     assert_eq!(text, vector.text);
 }
 
+/// The byte at an index of an output area before a call.
+fn output_byte(index: usize) -> u8 {
+    (index * 37 + 11) as u8
+}
+
+/// The output area as it must be afterwards.
+fn output_after(vector: &Vector) -> Vec<u8> {
+    let mut out: Vec<u8> = (0..vector.lent("out")).map(output_byte).collect();
+    if vector.refused().is_none() {
+        let written = vector.bytes("out");
+        assert_eq!(line("bytes", vector.field("bytes")), format!("bytes {}", written.len()));
+        out[..written.len()].copy_from_slice(&written);
+    }
+    out
+}
+
+fn check_read(vector: &Vector) {
+    let mut out: Vec<u8> = (0..vector.lent("out")).map(output_byte).collect();
+    let lines = match read_text(&vector.bytes("text"), &mut out) {
+        Err(number) => refused_lines(number),
+        Ok(counts) => {
+            let (bytes, instructions) = (counts.bytes, counts.instructions);
+            vec![format!("bytes {bytes}"), format!("instructions {instructions}")]
+        }
+    };
+    assert_eq!(lines, vector.answer_lines(&["bytes", "instructions"]));
+    assert_eq!(out, output_after(vector), "output area");
+}
+
+fn check_print(vector: &Vector) {
+    let mut out: Vec<u8> = (0..vector.lent("out")).map(output_byte).collect();
+    let lines = match print_text(&vector.bytes("job"), &mut out) {
+        Err(number) => refused_lines(number),
+        Ok(bytes) => vec![format!("bytes {bytes}")],
+    };
+    assert_eq!(lines, vector.answer_lines(&["bytes"]));
+    assert_eq!(out, output_after(vector), "output area");
+}
+
 fn check(vector: &Vector) {
     match vector.field("op") {
         "run" => check_run(vector),
         "plain" => check_plain(vector),
         "pair" => check_pair(vector),
         "listing" => check_listing(vector),
+        "read" => check_read(vector),
+        "print" => check_print(vector),
         other => panic!("unknown op {other}"),
     }
 }
@@ -190,17 +231,17 @@ fn parse(block: &str) -> Vector {
     vector
 }
 
-fn vectors_path() -> PathBuf {
+fn vector_files() -> Vec<PathBuf> {
+    let folder = PathBuf::from(env!("CARGO_MANIFEST_DIR")).join("../vectors");
     match std::env::var_os("VECTORS") {
-        Some(path) => PathBuf::from(path),
-        None => PathBuf::from(env!("CARGO_MANIFEST_DIR")).join("../vectors/document-01.txt"),
+        Some(path) => vec![PathBuf::from(path)],
+        None => ["document-01.txt", "F-01.txt"].map(|name| folder.join(name)).to_vec(),
     }
 }
 
-#[test]
-fn all_vectors() {
-    let path = vectors_path();
-    let file = std::fs::read_to_string(&path).unwrap_or_else(|error| {
+/// Runs the vectors of a file; the names of those that disagree.
+fn disagreeing(path: &Path) -> Vec<String> {
+    let file = std::fs::read_to_string(path).unwrap_or_else(|error| {
         panic!("cannot read the vector file {}: {error}; set VECTORS to its path", path.display())
     });
     let mut ran = 0;
@@ -212,7 +253,20 @@ fn all_vectors() {
             disagreeing.push(vector.field("vector").to_string());
         }
     }
-    println!("{ran} vectors ran, {} disagreed", disagreeing.len());
+    println!("{}: {ran} vectors ran, {} disagreed", path.display(), disagreeing.len());
     assert!(ran > 0, "the vector file {} holds no vector", path.display());
-    assert!(disagreeing.is_empty(), "vectors that disagree: {}", disagreeing.join(", "));
+    disagreeing
+}
+
+#[test]
+fn all_vectors() {
+    for path in vector_files() {
+        let names = disagreeing(&path);
+        assert!(
+            names.is_empty(),
+            "{}: vectors that disagree: {}",
+            path.display(),
+            names.join(", ")
+        );
+    }
 }
