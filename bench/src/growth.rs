@@ -62,7 +62,7 @@ fn straight_line(n: usize) -> Vec<Instruction> {
 /// A loop of assignments whose expressions have so many tokens.
 fn assignments(tokens: usize) -> Vec<Instruction> {
     let mut expression = vec![Token::Register(1)];
-    if tokens % 2 == 0 {
+    if tokens.is_multiple_of(2) {
         expression.push(NOT);
     }
     while expression.len() < tokens {

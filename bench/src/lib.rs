@@ -1,7 +1,9 @@
 //! Benchmarks of the checker: an optimised Rust implementation to measure the library against, and
-//! the jobs that are measured.
+//! the jobs and texts that are measured.
 
 pub mod fast;
 pub mod growth;
 pub mod jobs;
+pub mod texts;
+pub mod timing;
 pub mod verify;

@@ -4,6 +4,7 @@
 //! checker-bench [ROUNDS [PART]]: the best of so many rounds counts, 100 unless given; of the jobs, those
 //! whose name has the part.
 //! checker-bench --growth [ROUNDS]: how the library's time grows with a job's numbers.
+//! checker-bench --texts [ROUNDS]: reading and printing of texts by the library and by the reference.
 //! checker-bench --calls 0|1 WORKLOAD CALLS: calls alone, for a program that counts instructions;
 //! checker-bench --workloads: how many workloads there are.
 
@@ -15,6 +16,8 @@ use check_box_reference as reference;
 use checker_bench::fast::{Checker, ANSWER_WORDS};
 use checker_bench::growth::{samples, Sample};
 use checker_bench::jobs::{small_job, workloads, Workload};
+use checker_bench::texts::measure_texts;
+use checker_bench::timing::{best_of, processor};
 use checker_bench::verify::agrees_with_reference;
 use checker_tests::library;
 
@@ -61,6 +64,7 @@ fn main() -> ExitCode {
         }
         Some("--calls") => return make_calls(&words[1..]),
         Some("--growth") => return measure_growth(rounds(1)),
+        Some("--texts") => return measure_texts(rounds(1)),
         _ => {}
     }
     match agrees_with_reference(VERIFIED_JOBS, 1) {
@@ -97,13 +101,6 @@ fn make_calls(words: &[String]) -> ExitCode {
     ExitCode::SUCCESS
 }
 
-/// The processor's name as Linux gives it.
-fn processor() -> String {
-    let text = std::fs::read_to_string("/proc/cpuinfo").unwrap_or_default();
-    let name = text.lines().find_map(|line| line.strip_prefix("model name"));
-    name.map_or("unknown", |rest| rest.trim_start_matches([' ', '\t', ':'])).to_string()
-}
-
 fn measure_all(rounds: usize, part: &str) -> ExitCode {
     println!("processor: {}", processor());
     println!("best of {rounds} rounds; each runs the library, then the optimised Rust, every tenth also the reference");
@@ -131,19 +128,6 @@ fn measure_all(rounds: usize, part: &str) -> ExitCode {
     }
     print_fixed_cost(rounds, &mut areas);
     ExitCode::SUCCESS
-}
-
-/// The best time of so many rounds of so many calls each, in nanoseconds a call.
-fn best_of(rounds: usize, calls: usize, mut call: impl FnMut()) -> f64 {
-    let mut best = f64::INFINITY;
-    for _ in 0..rounds {
-        let start = Instant::now();
-        for _ in 0..calls {
-            call();
-        }
-        best = best.min(start.elapsed().as_secs_f64());
-    }
-    best * 1e9 / calls as f64
 }
 
 /// What a call costs whatever its job is, and how much of that is the clearing that the rules demand.

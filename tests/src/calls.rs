@@ -122,7 +122,7 @@ impl Call<'_> {
     }
 }
 
-fn exactly<const N: usize>(words: &mut [u64]) -> &mut [u64; N] {
+pub fn exactly<const N: usize>(words: &mut [u64]) -> &mut [u64; N] {
     words.try_into().expect("the answer has the length of its operation")
 }
 
@@ -152,7 +152,7 @@ fn pair_words(answer: PairAnswer) -> Vec<u64> {
 
 impl Outcome {
     pub fn answer(&self) -> &[u64] {
-        self.answer.words()
+        self.answer.content()
     }
 
     pub fn is_finished(&self) -> bool {
@@ -161,7 +161,7 @@ impl Outcome {
 
     /// The observations of a run or plain run that was not refused.
     pub fn observations(&self) -> Vec<(u64, u64)> {
-        pairs(self.areas[0].words(), self.answer()[1])
+        pairs(self.areas[0].content(), self.answer()[1])
     }
 
     /// Says what differs from the expected outcome; none if they are equal.

@@ -146,7 +146,7 @@ fn same_pair(
         && answer[0] == expected_word(case, run, state)
         && &answer[1..5] == counts
         && &answer[5..9] == counts
-        && (0..2).all(|at| pairs(pair.areas[at].words(), counts[1]) == run.observations());
+        && (0..2).all(|at| pairs(pair.areas[at].content(), counts[1]) == run.observations());
     if same {
         Ok(())
     } else {

@@ -1,4 +1,4 @@
-//! The jobs of document 01's section "A run printed whole".
+//! The jobs of document 01's section "A run printed whole", and the text of the first of them.
 
 use crate::job_file::{assign, beqz, load, skip, spbarr, Parts, Token, ADD, REGISTERS, ULT};
 
@@ -43,7 +43,10 @@ pub fn nested() -> Parts {
     parts
 }
 
-/// Each example with the name of its file.
+/// The program of the printed job as text; document 02 prints these lines.
+pub const PRINTED_TEXT: &str = "set r2 (r0 ult r1)\nbeqz r2 4\nload r3 r0\nload r4 (r3 add 2)\n";
+
+/// Each example job with the name of its file.
 pub fn files() -> [(&'static str, Vec<u8>); 4] {
     [
         ("printed.mua", printed().bytes()),
@@ -51,4 +54,9 @@ pub fn files() -> [(&'static str, Vec<u8>); 4] {
         ("nested.mua", nested().bytes()),
         ("r0-zero.mua", r0_zero().bytes()),
     ]
+}
+
+/// The text of an example with the name of its file.
+pub fn texts() -> [(&'static str, Vec<u8>); 1] {
+    [("printed.txt", PRINTED_TEXT.into())]
 }

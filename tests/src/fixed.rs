@@ -99,7 +99,7 @@ fn second_states(cases: &mut Cases) {
 }
 
 /// A file for each refusal from 1 to 8, and one that is accepted.
-fn file_of_each_refusal() -> [Vec<u8>; 9] {
+pub fn file_of_each_refusal() -> [Vec<u8>; 9] {
     let whole = printed().bytes();
     let changed = |field, number| {
         let mut job = printed().bytes();

@@ -1,7 +1,9 @@
 //! What is lent to a call: areas of words and bytes with known contents, also just outside the lent part.
 
-/// How areas are filled before a call: the salt changes every word, the margin is the number of words
-/// kept in front of and behind the lent ones. With margin 0 an area is an allocation of its own length,
+use std::fmt::Display;
+
+/// How areas are filled before a call: the salt changes every word, the margin is the least number of words
+/// (in areas of bytes, of bytes) kept in front of and behind the lent ones. With margin 0 an area is an allocation of its own length,
 /// so that a memory checker sees each access outside it.
 #[derive(Clone, Copy)]
 pub struct Fill {
@@ -9,56 +11,70 @@ pub struct Fill {
     pub margin: usize,
 }
 
-/// An area with its margins; two areas are equal if every word is, the margins' words too.
+/// What an area is made of: 64-bit words, or bytes.
+pub trait Unit: Copy + Eq + Display {
+    /// The one that stands at an index of a lent area before a call.
+    fn filling(index: usize, salt: u64) -> Self;
+}
+
+impl Unit for u64 {
+    fn filling(index: usize, salt: u64) -> u64 {
+        (index as u64).wrapping_add(1).wrapping_mul(0x9E37_79B9_7F4A_7C15).wrapping_add(salt)
+    }
+}
+
+impl Unit for u8 {
+    fn filling(index: usize, salt: u64) -> u8 {
+        (index as u8).wrapping_mul(37).wrapping_add(11).wrapping_add(salt as u8)
+    }
+}
+
+/// An area with its margins; two areas are equal if all of it is, the margins too.
 #[derive(Clone, PartialEq, Eq)]
-pub struct Area {
-    words: Vec<u64>,
-    margin: usize,
+pub struct Area<T = u64> {
+    units: Vec<T>,
+    front: usize,
+    length: usize,
 }
 
-/// The word that stands at an index of a lent area before a call.
-fn filling(index: usize, salt: u64) -> u64 {
-    (index as u64).wrapping_add(1).wrapping_mul(0x9E37_79B9_7F4A_7C15).wrapping_add(salt)
-}
-
-impl Area {
-    pub fn filled(length: usize, fill: Fill) -> Area {
-        let total = length + 2 * fill.margin;
-        let word = |at: usize| filling(at.wrapping_sub(fill.margin), fill.salt);
-        Area { words: (0..total).map(word).collect(), margin: fill.margin }
+impl<T: Unit> Area<T> {
+    /// The front margin is longer by up to seven, so that an area of bytes starts at any place.
+    pub fn filled(length: usize, fill: Fill) -> Area<T> {
+        let front = if fill.margin == 0 { 0 } else { fill.margin + (fill.salt % 8) as usize };
+        let unit = |at: usize| T::filling(at.wrapping_sub(front), fill.salt);
+        Area { units: (0..front + length + fill.margin).map(unit).collect(), front, length }
     }
 
-    /// A filled area after a call that wrote these words to its front and nothing else.
-    pub fn filled_with(written: &[u64], length: usize, fill: Fill) -> Area {
+    /// A filled area after a call that wrote this to its front and nothing else.
+    pub fn filled_with(written: &[T], length: usize, fill: Fill) -> Area<T> {
         let mut area = Area::filled(length, fill);
         area.lent()[..written.len()].copy_from_slice(written);
         area
     }
 
-    pub fn lent(&mut self) -> &mut [u64] {
-        let end = self.words.len() - self.margin;
-        &mut self.words[self.margin..end]
+    pub fn lent(&mut self) -> &mut [T] {
+        &mut self.units[self.front..self.front + self.length]
     }
 
-    pub fn words(&self) -> &[u64] {
-        &self.words[self.margin..self.words.len() - self.margin]
+    pub fn content(&self) -> &[T] {
+        &self.units[self.front..self.front + self.length]
     }
 
-    /// Says which words differ; none if the areas are equal.
-    pub fn difference(&self, expected: &Area) -> Option<String> {
+    /// Says what differs; none if the areas are equal.
+    pub fn difference(&self, expected: &Area<T>) -> Option<String> {
         if self == expected {
             return None;
         }
-        let pairs = self.words.iter().zip(&expected.words);
+        let pairs = self.units.iter().zip(&expected.units);
         let differing: Vec<usize> =
             pairs.enumerate().filter(|(_, (got, want))| got != want).map(|(at, _)| at).collect();
         let &first = differing.first()?;
         Some(format!(
-            "words that differ: {}; the first, at {}, is {} instead of {}",
+            "places that differ: {}; the first, at {}, is {} instead of {}",
             differing.len(),
-            first as i64 - self.margin as i64,
-            self.words[first],
-            expected.words[first]
+            first as i64 - self.front as i64,
+            self.units[first],
+            expected.units[first]
         ))
     }
 }

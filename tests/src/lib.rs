@@ -4,6 +4,7 @@
 pub mod calls;
 pub mod cases;
 pub mod check;
+pub mod comparison;
 pub mod damage;
 pub mod demands;
 pub mod examples;
@@ -19,4 +20,5 @@ pub mod library;
 pub mod random;
 pub mod report;
 pub mod tally;
+pub mod text;
 pub mod vector_file;

@@ -1,9 +1,11 @@
 //! The library under test: a safe call for each of its C functions.
 
-/// Words of the answers of a run, a plain run and a pair.
+/// Words of the answers of a run, a plain run and a pair, of reading a text and of printing one.
 pub const RUN_ANSWER: usize = 13;
 pub const PLAIN_ANSWER: usize = 7;
 pub const PAIR_ANSWER: usize = 9;
+pub const READ_ANSWER: usize = 2;
+pub const PRINT_ANSWER: usize = 1;
 
 unsafe extern "C" {
     fn checker_run(
@@ -41,6 +43,22 @@ unsafe extern "C" {
         trace2_len: usize,
         work: *mut u64,
         work_len: usize,
+        answer: *mut u64,
+    ) -> u32;
+
+    fn checker_read_text(
+        text: *const u8,
+        text_len: usize,
+        out: *mut u8,
+        out_len: usize,
+        answer: *mut u64,
+    ) -> u32;
+
+    fn checker_print_text(
+        job: *const u8,
+        job_len: usize,
+        out: *mut u8,
+        out_len: usize,
         answer: *mut u64,
     ) -> u32;
 }
@@ -115,6 +133,34 @@ pub fn compare(
             trace2.len(),
             work.as_mut_ptr(),
             work.len(),
+            answer.as_mut_ptr(),
+        )
+    }
+}
+
+/// Reads a text to the bytes of its program; 0 or the refusal number.
+pub fn read_text(text: &[u8], out: &mut [u8], answer: &mut [u64; READ_ANSWER]) -> u32 {
+    // Safety: as in `run`.
+    unsafe {
+        checker_read_text(
+            text.as_ptr(),
+            text.len(),
+            out.as_mut_ptr(),
+            out.len(),
+            answer.as_mut_ptr(),
+        )
+    }
+}
+
+/// Prints the program of a job as text; 0 or the refusal number.
+pub fn print_text(job: &[u8], out: &mut [u8], answer: &mut [u64; PRINT_ANSWER]) -> u32 {
+    // Safety: as in `run`.
+    unsafe {
+        checker_print_text(
+            job.as_ptr(),
+            job.len(),
+            out.as_mut_ptr(),
+            out.len(),
             answer.as_mut_ptr(),
         )
     }

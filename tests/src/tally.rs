@@ -131,7 +131,7 @@ impl Tally {
     }
 }
 
-fn counts<T: AsRef<str>>(names: &[T], numbers: &[u64]) -> String {
+pub fn counts<T: AsRef<str>>(names: &[T], numbers: &[u64]) -> String {
     let parts =
         names.iter().zip(numbers).map(|(name, number)| format!("{} {number}", name.as_ref()));
     parts.collect::<Vec<_>>().join(", ")

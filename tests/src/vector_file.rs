@@ -7,10 +7,11 @@ use check_box_reference::listing;
 
 use crate::calls::{Call, Lengths, Operation, Outcome};
 use crate::lend::{Area, Fill};
+use crate::text::calls::{TextCall, TextOperation, TextOutcome};
 
 const WORKING_WORDS: usize = 4_096;
 
-/// The filling that the file's head prescribes, with some words around each area.
+/// The filling that the files' heads prescribe, with some words or bytes around each area.
 const FILL: Fill = Fill { salt: 0, margin: 8 };
 
 /// One block: its key lines, and the text of the lines that begin with "|".
@@ -24,6 +25,7 @@ pub struct Vector {
 #[derive(Clone, Copy, PartialEq, Eq, Debug)]
 pub enum Checked {
     Library(Operation),
+    LibraryText(TextOperation),
     ReferenceListing,
 }
 
@@ -157,13 +159,18 @@ impl Vector {
         Ok(Area::filled_with(&written, length, FILL))
     }
 
+    /// The refusal's number, or 0.
+    fn refused(&self) -> Result<u32, String> {
+        self.fields.get("refused").map_or(Ok(0), |text| number(text)).map(|number| number as u32)
+    }
+
     fn expected(&self, operation: Operation) -> Result<Outcome, String> {
-        let refused = self.fields.get("refused").map_or(Ok(0), |text| number(text))?;
-        let answer = if refused == 0 { self.answer(operation)? } else { Vec::new() };
+        let number = self.refused()?;
+        let answer = if number == 0 { self.answer(operation)? } else { Vec::new() };
         let [a, b, c] = operation.area_names().map(|name| self.area_after(name));
         Ok(Outcome {
             operation,
-            number: refused as u32,
+            number,
             answer: Area::filled_with(&answer, operation.answer_words(), FILL),
             areas: [a?, b?, c?],
             inputs_kept: true,
@@ -187,6 +194,43 @@ impl Vector {
         }
     }
 
+    fn text_answer(&self, operation: TextOperation) -> Result<Vec<u64>, String> {
+        let keys: &[&str] = match operation {
+            TextOperation::Read => &["bytes", "instructions"],
+            TextOperation::Print => &["bytes"],
+        };
+        keys.iter().map(|key| number(self.field(key)?)).collect()
+    }
+
+    fn expected_text(&self, operation: TextOperation) -> Result<TextOutcome, String> {
+        let number = self.refused()?;
+        let (answer, written) = match number {
+            0 => (self.text_answer(operation)?, self.bytes("out")?),
+            _ => (Vec::new(), Vec::new()),
+        };
+        let length = self.lent("out")?;
+        if written.len() > length || (number == 0 && answer[0] != written.len() as u64) {
+            return Err("the bytes written do not fit the area or their count".to_string());
+        }
+        Ok(TextOutcome {
+            operation,
+            number,
+            answer: Area::filled_with(&answer, operation.answer_words(), FILL),
+            out: Area::filled_with(&written, length, FILL),
+            input_kept: true,
+        })
+    }
+
+    fn check_text(&self, operation: TextOperation) -> Result<(), String> {
+        let key = if operation == TextOperation::Read { "text" } else { "job" };
+        let input = self.bytes(key)?;
+        let call = TextCall { operation, input: &input, length: self.lent("out")?, fill: FILL };
+        match call.by_library().difference(&self.expected_text(operation)?) {
+            Some(difference) => Err(difference),
+            None => Ok(()),
+        }
+    }
+
     fn check_listing(&self) -> Result<(), String> {
         let text = listing(&self.bytes("job")?);
         if text == self.text.as_bytes() {
@@ -198,14 +242,17 @@ impl Vector {
 
     /// Runs the vector; the library has no listing, so listings are made by the reference.
     pub fn check(&self) -> Result<Checked, String> {
-        let operation = match self.field("op")? {
-            "run" => Operation::Run,
-            "plain" => Operation::Plain,
-            "pair" => Operation::Pair,
-            "listing" => return self.check_listing().map(|()| Checked::ReferenceListing),
-            other => return Err(format!("unknown op \"{other}\"")),
-        };
-        self.check_call(operation).map(|()| Checked::Library(operation))
+        let call = |operation| self.check_call(operation).map(|()| Checked::Library(operation));
+        let text = |operation| self.check_text(operation).map(|()| Checked::LibraryText(operation));
+        match self.field("op")? {
+            "run" => call(Operation::Run),
+            "plain" => call(Operation::Plain),
+            "pair" => call(Operation::Pair),
+            "read" => text(TextOperation::Read),
+            "print" => text(TextOperation::Print),
+            "listing" => self.check_listing().map(|()| Checked::ReferenceListing),
+            other => Err(format!("unknown op \"{other}\"")),
+        }
     }
 }
 

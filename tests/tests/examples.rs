@@ -2,16 +2,16 @@
 
 use std::path::PathBuf;
 
-use check_box_reference::listing;
+use check_box_reference::{listing, print_text, read_text};
 use checker_tests::examples::{self, barrier, nested, printed, r0_zero};
 use checker_tests::job_file::Parts;
 
 #[test]
 fn committed_files_are_as_generated() {
     let folder = PathBuf::from(env!("CARGO_MANIFEST_DIR")).join("../examples");
-    for (name, job) in examples::files() {
+    for (name, content) in examples::files().into_iter().chain(examples::texts()) {
         let committed = std::fs::read(folder.join(name)).expect(name);
-        assert_eq!(committed, job, "{name} differs from what make-examples writes");
+        assert_eq!(committed, content, "{name} differs from what make-examples writes");
     }
 }
 
@@ -20,6 +20,15 @@ fn the_printed_job_has_the_offsets_of_the_document() {
     let job = printed().bytes();
     assert_eq!(job.len(), 236);
     assert_eq!(job[220..224], [28, 0, 188, 0]);
+}
+
+#[test]
+fn the_text_is_that_of_the_printed_job() {
+    let (job, mut out) = (printed().bytes(), [0; 100]);
+    let length = print_text(&job, &mut out).expect("accepted");
+    assert_eq!(&out[..length], examples::PRINTED_TEXT.as_bytes());
+    let counts = read_text(examples::PRINTED_TEXT.as_bytes(), &mut out).expect("accepted");
+    assert_eq!((&out[..counts.bytes], counts.instructions), (&job[..28], 4));
 }
 
 fn lines(parts: &Parts) -> String {

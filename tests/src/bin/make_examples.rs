@@ -1,4 +1,4 @@
-//! Writes the example job files to the folder given, or to examples/ of the repository.
+//! Writes the example job files and texts to the folder given, or to examples/ of the repository.
 
 use std::path::PathBuf;
 use std::process::ExitCode;
@@ -10,13 +10,13 @@ fn main() -> ExitCode {
         Some(folder) => PathBuf::from(folder),
         None => PathBuf::from(env!("CARGO_MANIFEST_DIR")).join("../examples"),
     };
-    for (name, job) in examples::files() {
+    for (name, content) in examples::files().into_iter().chain(examples::texts()) {
         let path = folder.join(name);
-        if let Err(error) = std::fs::write(&path, &job) {
+        if let Err(error) = std::fs::write(&path, &content) {
             eprintln!("cannot write {}: {error}", path.display());
             return ExitCode::FAILURE;
         }
-        println!("{} {} bytes", path.display(), job.len());
+        println!("{} {} bytes", path.display(), content.len());
     }
     ExitCode::SUCCESS
 }
