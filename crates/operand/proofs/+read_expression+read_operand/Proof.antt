@@ -60,64 +60,39 @@ read-operand-below t =
     (falls 2 read-operand-kinds.ps _<_ μ-read-operand t)
     read-operand.Pre
 
-read-expression-read-operand-requires : (t : ℕ) → read-expression-lts.Need-read-operand-requires (
+-- what each function that is called asks, and what is learnt of it
+abbrev expression-claims : ℕ → read-expression-lts.Claims
+expression-claims t = (
   read-operand-below t,
   read-operand.Post,
   operator-at-reads.Asked,
   operator-at-reads.Learnt,
   close-reads.Asked,
   close-reads.Learnt,
-) (read-expression-at t) read-expression.Post
+)
+
+abbrev operand-claims : ℕ → read-operand-lts.Claims
+operand-claims t = (
+  part-at-reads.Asked,
+  part-at-reads.Learnt,
+  sign-named-reads.Asked,
+  sign-named-reads.Learnt,
+  read-simple-reads.Asked,
+  read-simple-reads.Learnt,
+  read-operand-below t,
+  read-operand.Post,
+  put-token-reads.Asked,
+  put-token-reads.Learnt,
+  read-expression-below t,
+  read-expression.Post,
+)
+
+-- ---- `read_expression`
+read-expression-read-operand-requires : (t : ℕ)
+    → read-expression-lts.Need-read-operand-requires (expression-claims t) (read-expression-at t) read-expression.Post
 read-expression-read-operand-requires t c κs = (omega arith, c .before .before .before .pre .1)
 
-read-expression-enum-told : (t : ℕ) → read-expression-lts.Need-enum-told (
-  read-operand-below t,
-  read-operand.Post,
-  operator-at-reads.Asked,
-  operator-at-reads.Learnt,
-  close-reads.Asked,
-  close-reads.Learnt,
-) (read-expression-at t) read-expression.Post
-read-expression-enum-told t c = search needs
-
-read-expression-enum-known-x : (t : ℕ) → read-expression-lts.Need-enum-known-x (
-  read-operand-below t,
-  read-operand.Post,
-  operator-at-reads.Asked,
-  operator-at-reads.Learnt,
-  close-reads.Asked,
-  close-reads.Learnt,
-) (read-expression-at t) read-expression.Post
-read-expression-enum-known-x t c = search needs
-
-read-expression-operator-at-requires : (t : ℕ) → read-expression-lts.Need-operator-at-requires (
-  read-operand-below t,
-  read-operand.Post,
-  operator-at-reads.Asked,
-  operator-at-reads.Learnt,
-  close-reads.Asked,
-  close-reads.Learnt,
-) (read-expression-at t) read-expression.Post
-read-expression-operator-at-requires t c κs = search needs
-
-read-expression-same-length : (t : ℕ) → read-expression-lts.Need-same-length (
-  read-operand-below t,
-  read-operand.Post,
-  operator-at-reads.Asked,
-  operator-at-reads.Learnt,
-  close-reads.Asked,
-  close-reads.Learnt,
-) (read-expression-at t) read-expression.Post
-read-expression-same-length t c = search needs
-
-read-expression-returns : (t : ℕ) → read-expression-lts.Need-returns (
-  read-operand-below t,
-  read-operand.Post,
-  operator-at-reads.Asked,
-  operator-at-reads.Learnt,
-  close-reads.Asked,
-  close-reads.Learnt,
-) (read-expression-at t) read-expression.Post
+read-expression-returns : (t : ℕ) → read-expression-lts.Need-returns (expression-claims t) (read-expression-at t) read-expression.Post
 read-expression-returns t c =
     let at-operator = c .before in
     let at-x = at-operator .before .before in
@@ -128,15 +103,8 @@ read-expression-returns t c =
     operator-refused (a .text .now) (a .p) (a .levels) (a .out .now) (first .last .1 .1 .1 .0) (first .ensures) (at-x .x .given .1)
     (at-operator .operator-at .ensures) (c .if1 .taken)
 
-read-expression-read-operand-requires-2 :
-    (t : ℕ) → read-expression-lts.Need-read-operand-requires-2 (
-      read-operand-below t,
-      read-operand.Post,
-      operator-at-reads.Asked,
-      operator-at-reads.Learnt,
-      close-reads.Asked,
-      close-reads.Learnt,
-    ) (read-expression-at t) read-expression.Post
+read-expression-read-operand-requires-2 : (t : ℕ)
+    → read-expression-lts.Need-read-operand-requires-2 (expression-claims t) (read-expression-at t) read-expression.Post
 read-expression-read-operand-requires-2 t c κs =
     let at-if1 = c .before in
     let at-operator = at-if1 .before in
@@ -149,34 +117,7 @@ read-expression-read-operand-requires-2 t c κs =
     let o = at-operator .operator-at .ensures .some (at-if1 .if1 .left) in
     (omega (arith, i .on, i .within, o .on, o .within), moved-room _ (tokens-room (at-start .pre .1) (i .tokens)))
 
-read-expression-enum-told-2 : (t : ℕ) → read-expression-lts.Need-enum-told-2 (
-  read-operand-below t,
-  read-operand.Post,
-  operator-at-reads.Asked,
-  operator-at-reads.Learnt,
-  close-reads.Asked,
-  close-reads.Learnt,
-) (read-expression-at t) read-expression.Post
-read-expression-enum-told-2 t c = search needs
-
-read-expression-enum-known-y : (t : ℕ) → read-expression-lts.Need-enum-known-y (
-  read-operand-below t,
-  read-operand.Post,
-  operator-at-reads.Asked,
-  operator-at-reads.Learnt,
-  close-reads.Asked,
-  close-reads.Learnt,
-) (read-expression-at t) read-expression.Post
-read-expression-enum-known-y t c = search needs
-
-read-expression-close-requires : (t : ℕ) → read-expression-lts.Need-close-requires (
-  read-operand-below t,
-  read-operand.Post,
-  operator-at-reads.Asked,
-  operator-at-reads.Learnt,
-  close-reads.Asked,
-  close-reads.Learnt,
-) (read-expression-at t) read-expression.Post
+read-expression-close-requires : (t : ℕ) → read-expression-lts.Need-close-requires (expression-claims t) (read-expression-at t) read-expression.Post
 read-expression-close-requires t c κs =
     let at-y = c .before .before in
     let at-second = at-y .before .before .before .before in
@@ -193,48 +134,14 @@ read-expression-close-requires t c κs =
     (second .last .1 .1 .1 .0) (at-y .y .given .1) (second .ensures) in
     tokens-room (moved-room _ (tokens-room (at-start .pre .1) (i .tokens))) (j .tokens)
 
-read-expression-same-length-2 : (t : ℕ) → read-expression-lts.Need-same-length-2 (
-  read-operand-below t,
-  read-operand.Post,
-  operator-at-reads.Asked,
-  operator-at-reads.Learnt,
-  close-reads.Asked,
-  close-reads.Learnt,
-) (read-expression-at t) read-expression.Post
-read-expression-same-length-2 t c = search needs
-
-read-expression-returns-2 : (t : ℕ) → read-expression-lts.Need-returns-2 (
-  read-operand-below t,
-  read-operand.Post,
-  operator-at-reads.Asked,
-  operator-at-reads.Learnt,
-  close-reads.Asked,
-  close-reads.Learnt,
-) (read-expression-at t) read-expression.Post
+read-expression-returns-2 : (t : ℕ) → read-expression-lts.Need-returns-2 (expression-claims t) (read-expression-at t) read-expression.Post
 read-expression-returns-2 t c =
     let at-first = c .before .before .before .before in
     let a = at-first .before .before .before .before .args in
     let first = at-first .read-operand in
     first-refused (a .text .now) (a .p) (a .levels) (a .out .now) (first .last .1 .1 .1 .0) (first .ensures) (c .enum-told .given .1)
 
-read-expression-same-length-3 : (t : ℕ) → read-expression-lts.Need-same-length-3 (
-  read-operand-below t,
-  read-operand.Post,
-  operator-at-reads.Asked,
-  operator-at-reads.Learnt,
-  close-reads.Asked,
-  close-reads.Learnt,
-) (read-expression-at t) read-expression.Post
-read-expression-same-length-3 t c = search needs
-
-read-expression-returns-3 : (t : ℕ) → read-expression-lts.Need-returns-3 (
-  read-operand-below t,
-  read-operand.Post,
-  operator-at-reads.Asked,
-  operator-at-reads.Learnt,
-  close-reads.Asked,
-  close-reads.Learnt,
-) (read-expression-at t) read-expression.Post
+read-expression-returns-3 : (t : ℕ) → read-expression-lts.Need-returns-3 (expression-claims t) (read-expression-at t) read-expression.Post
 read-expression-returns-3 t c =
     let at-second = c .before .before .before .before in
     let at-if1 = at-second .before .before in
@@ -247,24 +154,7 @@ read-expression-returns-3 t c =
     second-refused (a .text .now) (a .p) (a .levels) (a .out .now) (first .last .1 .1 .1 .0) (first .ensures) (at-x .x .given .1)
     (at-operator .operator-at .ensures) (at-if1 .if1 .left) (second .last .1 .1 .1 .0) (second .ensures) (c .enum-told2 .given .1)
 
-read-expression-same-length-4 : (t : ℕ) → read-expression-lts.Need-same-length-4 (
-  read-operand-below t,
-  read-operand.Post,
-  operator-at-reads.Asked,
-  operator-at-reads.Learnt,
-  close-reads.Asked,
-  close-reads.Learnt,
-) (read-expression-at t) read-expression.Post
-read-expression-same-length-4 t c = search needs
-
-read-expression-returns-4 : (t : ℕ) → read-expression-lts.Need-returns-4 (
-  read-operand-below t,
-  read-operand.Post,
-  operator-at-reads.Asked,
-  operator-at-reads.Learnt,
-  close-reads.Asked,
-  close-reads.Learnt,
-) (read-expression-at t) read-expression.Post
+read-expression-returns-4 : (t : ℕ) → read-expression-lts.Need-returns-4 (expression-claims t) (read-expression-at t) read-expression.Post
 read-expression-returns-4 t c =
     let at-close = c .before .before in
     let at-y = at-close .before .before .before in
@@ -280,70 +170,13 @@ read-expression-returns-4 t c =
     (at-operator .operator-at .ensures) (at-if1 .if1 .left) (second .last .1 .1 .1 .0) (second .ensures) (at-y .y .given .1)
     (at-close .close .last .1 .1 .1 .0) (at-close .close .result) (at-close .close .ensures)
 
-read-operand-returns : (t : ℕ) → read-operand-lts.Need-returns (
-  part-at-reads.Asked,
-  part-at-reads.Learnt,
-  sign-named-reads.Asked,
-  sign-named-reads.Learnt,
-  read-simple-reads.Asked,
-  read-simple-reads.Learnt,
-  read-operand-below t,
-  read-operand.Post,
-  put-token-reads.Asked,
-  put-token-reads.Learnt,
-  read-expression-below t,
-  read-expression.Post,
-) (read-operand-at t) read-operand.Post
+-- ---- `read_operand`
+read-operand-returns : (t : ℕ) → read-operand-lts.Need-returns (operand-claims t) (read-operand-at t) read-operand.Post
 read-operand-returns t c =
     let a = c .before .before .before .args in
     levels-unread (a .text .now) (a .p) (a .levels) (c .if1 .taken)
 
-read-operand-part-at-requires : (t : ℕ) → read-operand-lts.Need-part-at-requires (
-  part-at-reads.Asked,
-  part-at-reads.Learnt,
-  sign-named-reads.Asked,
-  sign-named-reads.Learnt,
-  read-simple-reads.Asked,
-  read-simple-reads.Learnt,
-  read-operand-below t,
-  read-operand.Post,
-  put-token-reads.Asked,
-  put-token-reads.Learnt,
-  read-expression-below t,
-  read-expression.Post,
-) (read-operand-at t) read-operand.Post
-read-operand-part-at-requires t c κs = search needs
-
-read-operand-enum-known-start : (t : ℕ) → read-operand-lts.Need-enum-known-start (
-  part-at-reads.Asked,
-  part-at-reads.Learnt,
-  sign-named-reads.Asked,
-  sign-named-reads.Learnt,
-  read-simple-reads.Asked,
-  read-simple-reads.Learnt,
-  read-operand-below t,
-  read-operand.Post,
-  put-token-reads.Asked,
-  put-token-reads.Learnt,
-  read-expression-below t,
-  read-expression.Post,
-) (read-operand-at t) read-operand.Post
-read-operand-enum-known-start t c = search needs
-
-read-operand-sign-named-requires : (t : ℕ) → read-operand-lts.Need-sign-named-requires (
-  part-at-reads.Asked,
-  part-at-reads.Learnt,
-  sign-named-reads.Asked,
-  sign-named-reads.Learnt,
-  read-simple-reads.Asked,
-  read-simple-reads.Learnt,
-  read-operand-below t,
-  read-operand.Post,
-  put-token-reads.Asked,
-  put-token-reads.Learnt,
-  read-expression-below t,
-  read-expression.Post,
-) (read-operand-at t) read-operand.Post
+read-operand-sign-named-requires : (t : ℕ) → read-operand-lts.Need-sign-named-requires (operand-claims t) (read-operand-at t) read-operand.Post
 read-operand-sign-named-requires t c κs =
     let at-start = c .before in
     let at-part = at-start .before .before in
@@ -353,20 +186,7 @@ read-operand-sign-named-requires t c κs =
     let n = name-place (a .text .now) (a .p) (a .levels) (at-if1 .if1 .left) (at-start .start .given .1) (at-part .part-at .ensures) in
     (omega (arith, n .long), n .within)
 
-read-operand-read-simple-requires : (t : ℕ) → read-operand-lts.Need-read-simple-requires (
-  part-at-reads.Asked,
-  part-at-reads.Learnt,
-  sign-named-reads.Asked,
-  sign-named-reads.Learnt,
-  read-simple-reads.Asked,
-  read-simple-reads.Learnt,
-  read-operand-below t,
-  read-operand.Post,
-  put-token-reads.Asked,
-  put-token-reads.Learnt,
-  read-expression-below t,
-  read-expression.Post,
-) (read-operand-at t) read-operand.Post
+read-operand-read-simple-requires : (t : ℕ) → read-operand-lts.Need-read-simple-requires (operand-claims t) (read-operand-at t) read-operand.Post
 read-operand-read-simple-requires t c κs =
     let at-start = c .before .before .before .before in
     let at-part = at-start .before .before in
@@ -375,36 +195,7 @@ read-operand-read-simple-requires t c κs =
     let a = at-entry .args in
     (name-place (a .text .now) (a .p) (a .levels) (at-if1 .if1 .left) (at-start .start .given .1) (at-part .part-at .ensures), at-entry .pre .1)
 
-read-operand-same-length : (t : ℕ) → read-operand-lts.Need-same-length (
-  part-at-reads.Asked,
-  part-at-reads.Learnt,
-  sign-named-reads.Asked,
-  sign-named-reads.Learnt,
-  read-simple-reads.Asked,
-  read-simple-reads.Learnt,
-  read-operand-below t,
-  read-operand.Post,
-  put-token-reads.Asked,
-  put-token-reads.Learnt,
-  read-expression-below t,
-  read-expression.Post,
-) (read-operand-at t) read-operand.Post
-read-operand-same-length t c = search needs
-
-read-operand-returns-2 : (t : ℕ) → read-operand-lts.Need-returns-2 (
-  part-at-reads.Asked,
-  part-at-reads.Learnt,
-  sign-named-reads.Asked,
-  sign-named-reads.Learnt,
-  read-simple-reads.Asked,
-  read-simple-reads.Learnt,
-  read-operand-below t,
-  read-operand.Post,
-  put-token-reads.Asked,
-  put-token-reads.Learnt,
-  read-expression-below t,
-  read-expression.Post,
-) (read-operand-at t) read-operand.Post
+read-operand-returns-2 : (t : ℕ) → read-operand-lts.Need-returns-2 (operand-claims t) (read-operand-at t) read-operand.Post
 read-operand-returns-2 t c =
     let at-simple = c .before .before in
     let at-if2 = at-simple .before .before in
@@ -418,36 +209,7 @@ read-operand-returns-2 t c =
     (at-sign .sign-named .ensures) (at-if2 .if2 .taken) (a .out .now) (at-simple .read-simple .last .1 .1 .1 .1 .0) (at-simple .read-simple .result)
     (at-simple .read-simple .ensures)
 
-read-operand-sub-read-operand : (t : ℕ) → read-operand-lts.Need-sub-read-operand (
-  part-at-reads.Asked,
-  part-at-reads.Learnt,
-  sign-named-reads.Asked,
-  sign-named-reads.Learnt,
-  read-simple-reads.Asked,
-  read-simple-reads.Learnt,
-  read-operand-below t,
-  read-operand.Post,
-  put-token-reads.Asked,
-  put-token-reads.Learnt,
-  read-expression-below t,
-  read-expression.Post,
-) (read-operand-at t) read-operand.Post
-read-operand-sub-read-operand t c = search needs
-
-read-operand-read-operand-requires : (t : ℕ) → read-operand-lts.Need-read-operand-requires (
-  part-at-reads.Asked,
-  part-at-reads.Learnt,
-  sign-named-reads.Asked,
-  sign-named-reads.Learnt,
-  read-simple-reads.Asked,
-  read-simple-reads.Learnt,
-  read-operand-below t,
-  read-operand.Post,
-  put-token-reads.Asked,
-  put-token-reads.Learnt,
-  read-expression-below t,
-  read-expression.Post,
-) (read-operand-at t) read-operand.Post
+read-operand-read-operand-requires : (t : ℕ) → read-operand-lts.Need-read-operand-requires (operand-claims t) (read-operand-at t) read-operand.Post
 read-operand-read-operand-requires t c κs =
     let at-start = c .before .before .before .before in
     let at-part = at-start .before .before in
@@ -457,36 +219,7 @@ read-operand-read-operand-requires t c κs =
     let n = name-place (a .text .now) (a .p) (a .levels) (at-if1 .if1 .left) (at-start .start .given .1) (at-part .part-at .ensures) in
     (omega (arith, n .after, n .long, n .within), moved-room _ (at-entry .pre .1))
 
-read-operand-enum-known-x : (t : ℕ) → read-operand-lts.Need-enum-known-x (
-  part-at-reads.Asked,
-  part-at-reads.Learnt,
-  sign-named-reads.Asked,
-  sign-named-reads.Learnt,
-  read-simple-reads.Asked,
-  read-simple-reads.Learnt,
-  read-operand-below t,
-  read-operand.Post,
-  put-token-reads.Asked,
-  put-token-reads.Learnt,
-  read-expression-below t,
-  read-expression.Post,
-) (read-operand-at t) read-operand.Post
-read-operand-enum-known-x t c = search needs
-
-read-operand-put-token-requires : (t : ℕ) → read-operand-lts.Need-put-token-requires (
-  part-at-reads.Asked,
-  part-at-reads.Learnt,
-  sign-named-reads.Asked,
-  sign-named-reads.Learnt,
-  read-simple-reads.Asked,
-  read-simple-reads.Learnt,
-  read-operand-below t,
-  read-operand.Post,
-  put-token-reads.Asked,
-  put-token-reads.Learnt,
-  read-expression-below t,
-  read-expression.Post,
-) (read-operand-at t) read-operand.Post
+read-operand-put-token-requires : (t : ℕ) → read-operand-lts.Need-put-token-requires (operand-claims t) (read-operand-at t) read-operand.Post
 read-operand-put-token-requires t c κs =
     let at-x = c .before .before in
     let at-inner = at-x .before .before .before .before in
@@ -500,68 +233,7 @@ read-operand-put-token-requires t c κs =
     let i = brought-of (a .text .now) _ after-sign (a .out .now) (inner .last .1 .1 .1 .0) (at-x .x .given .1) (inner .ensures) in
     tokens-room (moved-room _ (at-entry .pre .1)) (i .tokens)
 
-read-operand-enum-told : (t : ℕ) → read-operand-lts.Need-enum-told (
-  part-at-reads.Asked,
-  part-at-reads.Learnt,
-  sign-named-reads.Asked,
-  sign-named-reads.Learnt,
-  read-simple-reads.Asked,
-  read-simple-reads.Learnt,
-  read-operand-below t,
-  read-operand.Post,
-  put-token-reads.Asked,
-  put-token-reads.Learnt,
-  read-expression-below t,
-  read-expression.Post,
-) (read-operand-at t) read-operand.Post
-read-operand-enum-told t c = search needs
-
-read-operand-enum-known-next : (t : ℕ) → read-operand-lts.Need-enum-known-next (
-  part-at-reads.Asked,
-  part-at-reads.Learnt,
-  sign-named-reads.Asked,
-  sign-named-reads.Learnt,
-  read-simple-reads.Asked,
-  read-simple-reads.Learnt,
-  read-operand-below t,
-  read-operand.Post,
-  put-token-reads.Asked,
-  put-token-reads.Learnt,
-  read-expression-below t,
-  read-expression.Post,
-) (read-operand-at t) read-operand.Post
-read-operand-enum-known-next t c = search needs
-
-read-operand-sub-read-expression : (t : ℕ) → read-operand-lts.Need-sub-read-expression (
-  part-at-reads.Asked,
-  part-at-reads.Learnt,
-  sign-named-reads.Asked,
-  sign-named-reads.Learnt,
-  read-simple-reads.Asked,
-  read-simple-reads.Learnt,
-  read-operand-below t,
-  read-operand.Post,
-  put-token-reads.Asked,
-  put-token-reads.Learnt,
-  read-expression-below t,
-  read-expression.Post,
-) (read-operand-at t) read-operand.Post
-read-operand-sub-read-expression t c = search needs
-
-read-operand-read-expression-requires : (t : ℕ) → read-operand-lts.Need-read-expression-requires (
-  part-at-reads.Asked,
-  part-at-reads.Learnt,
-  sign-named-reads.Asked,
-  sign-named-reads.Learnt,
-  read-simple-reads.Asked,
-  read-simple-reads.Learnt,
-  read-operand-below t,
-  read-operand.Post,
-  put-token-reads.Asked,
-  put-token-reads.Learnt,
-  read-expression-below t,
-  read-expression.Post,
-) (read-operand-at t) read-operand.Post
+read-operand-read-expression-requires : (t : ℕ) → read-operand-lts.Need-read-expression-requires (operand-claims t) (read-operand-at t) read-operand.Post
 read-operand-read-expression-requires t c κs =
     let at-next = c .before .before in
     let at-part = at-next .before .before in
@@ -571,84 +243,7 @@ read-operand-read-expression-requires t c κs =
     let told = told-of (a .text .now) (a .p .at) (at-next .next .given .1) (at-part .part-at .ensures) in
     (omega (arith, told .0, told .1), moved-room _ (at-entry .pre .1))
 
-read-operand-enum-told-2 : (t : ℕ) → read-operand-lts.Need-enum-told-2 (
-  part-at-reads.Asked,
-  part-at-reads.Learnt,
-  sign-named-reads.Asked,
-  sign-named-reads.Learnt,
-  read-simple-reads.Asked,
-  read-simple-reads.Learnt,
-  read-operand-below t,
-  read-operand.Post,
-  put-token-reads.Asked,
-  put-token-reads.Learnt,
-  read-expression-below t,
-  read-expression.Post,
-) (read-operand-at t) read-operand.Post
-read-operand-enum-told-2 t c = search needs
-
-read-operand-enum-told-3 : (t : ℕ) → read-operand-lts.Need-enum-told-3 (
-  part-at-reads.Asked,
-  part-at-reads.Learnt,
-  sign-named-reads.Asked,
-  sign-named-reads.Learnt,
-  read-simple-reads.Asked,
-  read-simple-reads.Learnt,
-  read-operand-below t,
-  read-operand.Post,
-  put-token-reads.Asked,
-  put-token-reads.Learnt,
-  read-expression-below t,
-  read-expression.Post,
-) (read-operand-at t) read-operand.Post
-read-operand-enum-told-3 t c = search needs
-
-read-operand-enum-told-4 : (t : ℕ) → read-operand-lts.Need-enum-told-4 (
-  part-at-reads.Asked,
-  part-at-reads.Learnt,
-  sign-named-reads.Asked,
-  sign-named-reads.Learnt,
-  read-simple-reads.Asked,
-  read-simple-reads.Learnt,
-  read-operand-below t,
-  read-operand.Post,
-  put-token-reads.Asked,
-  put-token-reads.Learnt,
-  read-expression-below t,
-  read-expression.Post,
-) (read-operand-at t) read-operand.Post
-read-operand-enum-told-4 t c = search needs
-
-read-operand-same-length-2 : (t : ℕ) → read-operand-lts.Need-same-length-2 (
-  part-at-reads.Asked,
-  part-at-reads.Learnt,
-  sign-named-reads.Asked,
-  sign-named-reads.Learnt,
-  read-simple-reads.Asked,
-  read-simple-reads.Learnt,
-  read-operand-below t,
-  read-operand.Post,
-  put-token-reads.Asked,
-  put-token-reads.Learnt,
-  read-expression-below t,
-  read-expression.Post,
-) (read-operand-at t) read-operand.Post
-read-operand-same-length-2 t c = search needs
-
-read-operand-returns-3 : (t : ℕ) → read-operand-lts.Need-returns-3 (
-  part-at-reads.Asked,
-  part-at-reads.Learnt,
-  sign-named-reads.Asked,
-  sign-named-reads.Learnt,
-  read-simple-reads.Asked,
-  read-simple-reads.Learnt,
-  read-operand-below t,
-  read-operand.Post,
-  put-token-reads.Asked,
-  put-token-reads.Learnt,
-  read-expression-below t,
-  read-expression.Post,
-) (read-operand-at t) read-operand.Post
+read-operand-returns-3 : (t : ℕ) → read-operand-lts.Need-returns-3 (operand-claims t) (read-operand-at t) read-operand.Post
 read-operand-returns-3 t c =
     let at-token = c .before .before in
     let at-x = at-token .before .before .before in
@@ -665,36 +260,7 @@ read-operand-returns-3 t c =
     (at-sign .sign-named .ensures) (at-if2 .if2 .left) (a .out .now) (inner .last .1 .1 .1 .0) (inner .ensures) (at-x .x .given .1)
     (at-token .put-token .last .1 .1 .1 .1 .0) (at-token .put-token .result) (at-token .put-token .ensures)
 
-read-operand-same-length-3 : (t : ℕ) → read-operand-lts.Need-same-length-3 (
-  part-at-reads.Asked,
-  part-at-reads.Learnt,
-  sign-named-reads.Asked,
-  sign-named-reads.Learnt,
-  read-simple-reads.Asked,
-  read-simple-reads.Learnt,
-  read-operand-below t,
-  read-operand.Post,
-  put-token-reads.Asked,
-  put-token-reads.Learnt,
-  read-expression-below t,
-  read-expression.Post,
-) (read-operand-at t) read-operand.Post
-read-operand-same-length-3 t c = search needs
-
-read-operand-returns-4 : (t : ℕ) → read-operand-lts.Need-returns-4 (
-  part-at-reads.Asked,
-  part-at-reads.Learnt,
-  sign-named-reads.Asked,
-  sign-named-reads.Learnt,
-  read-simple-reads.Asked,
-  read-simple-reads.Learnt,
-  read-operand-below t,
-  read-operand.Post,
-  put-token-reads.Asked,
-  put-token-reads.Learnt,
-  read-expression-below t,
-  read-expression.Post,
-) (read-operand-at t) read-operand.Post
+read-operand-returns-4 : (t : ℕ) → read-operand-lts.Need-returns-4 (operand-claims t) (read-operand-at t) read-operand.Post
 read-operand-returns-4 t c =
     let at-inner = c .before .before .before .before in
     let at-if2 = at-inner .before .before in
@@ -708,36 +274,7 @@ read-operand-returns-4 t c =
     sign-refused (a .text .now) (a .p) (a .levels) (at-if1 .if1 .left) (at-start .start .given .1) (at-part .part-at .ensures)
     (at-sign .sign-named .ensures) (at-if2 .if2 .left) (a .out .now) (inner .last .1 .1 .1 .0) (inner .ensures) (c .enum-told .given .1)
 
-read-operand-same-length-4 : (t : ℕ) → read-operand-lts.Need-same-length-4 (
-  part-at-reads.Asked,
-  part-at-reads.Learnt,
-  sign-named-reads.Asked,
-  sign-named-reads.Learnt,
-  read-simple-reads.Asked,
-  read-simple-reads.Learnt,
-  read-operand-below t,
-  read-operand.Post,
-  put-token-reads.Asked,
-  put-token-reads.Learnt,
-  read-expression-below t,
-  read-expression.Post,
-) (read-operand-at t) read-operand.Post
-read-operand-same-length-4 t c = search needs
-
-read-operand-returns-5 : (t : ℕ) → read-operand-lts.Need-returns-5 (
-  part-at-reads.Asked,
-  part-at-reads.Learnt,
-  sign-named-reads.Asked,
-  sign-named-reads.Learnt,
-  read-simple-reads.Asked,
-  read-simple-reads.Learnt,
-  read-operand-below t,
-  read-operand.Post,
-  put-token-reads.Asked,
-  put-token-reads.Learnt,
-  read-expression-below t,
-  read-expression.Post,
-) (read-operand-at t) read-operand.Post
+read-operand-returns-5 : (t : ℕ) → read-operand-lts.Need-returns-5 (operand-claims t) (read-operand-at t) read-operand.Post
 read-operand-returns-5 t c =
     let at-inner = c .before .before in
     let at-next = at-inner .before .before .before in
@@ -748,60 +285,21 @@ read-operand-returns-5 t c =
     opening-told (a .text .now) (a .p) (a .levels) (at-if1 .if1 .left) (at-next .next .given .1) (at-part .part-at .ensures)
     (a .out .now) (inner .last .1 .1 .1 .0) (inner .result) (inner .ensures)
 
-read-operand-returns-6 : (t : ℕ) → read-operand-lts.Need-returns-6 (
-  part-at-reads.Asked,
-  part-at-reads.Learnt,
-  sign-named-reads.Asked,
-  sign-named-reads.Learnt,
-  read-simple-reads.Asked,
-  read-simple-reads.Learnt,
-  read-operand-below t,
-  read-operand.Post,
-  put-token-reads.Asked,
-  put-token-reads.Learnt,
-  read-expression-below t,
-  read-expression.Post,
-) (read-operand-at t) read-operand.Post
+read-operand-returns-6 : (t : ℕ) → read-operand-lts.Need-returns-6 (operand-claims t) (read-operand-at t) read-operand.Post
 read-operand-returns-6 t c =
     let at-part = c .before .before in
     let at-if1 = at-part .before in
     let a = at-if1 .before .before .before .args in
     closing-unread (a .text .now) (a .p) (a .levels) (at-if1 .if1 .left) (c .enum-told2 .given .1) (at-part .part-at .ensures)
 
-read-operand-returns-7 : (t : ℕ) → read-operand-lts.Need-returns-7 (
-  part-at-reads.Asked,
-  part-at-reads.Learnt,
-  sign-named-reads.Asked,
-  sign-named-reads.Learnt,
-  read-simple-reads.Asked,
-  read-simple-reads.Learnt,
-  read-operand-below t,
-  read-operand.Post,
-  put-token-reads.Asked,
-  put-token-reads.Learnt,
-  read-expression-below t,
-  read-expression.Post,
-) (read-operand-at t) read-operand.Post
+read-operand-returns-7 : (t : ℕ) → read-operand-lts.Need-returns-7 (operand-claims t) (read-operand-at t) read-operand.Post
 read-operand-returns-7 t c =
     let at-part = c .before .before in
     let at-if1 = at-part .before in
     let a = at-if1 .before .before .before .args in
     other-unread (a .text .now) (a .p) (a .levels) (at-if1 .if1 .left) (c .enum-told3 .given .1) (at-part .part-at .ensures)
 
-read-operand-returns-8 : (t : ℕ) → read-operand-lts.Need-returns-8 (
-  part-at-reads.Asked,
-  part-at-reads.Learnt,
-  sign-named-reads.Asked,
-  sign-named-reads.Learnt,
-  read-simple-reads.Asked,
-  read-simple-reads.Learnt,
-  read-operand-below t,
-  read-operand.Post,
-  put-token-reads.Asked,
-  put-token-reads.Learnt,
-  read-expression-below t,
-  read-expression.Post,
-) (read-operand-at t) read-operand.Post
+read-operand-returns-8 : (t : ℕ) → read-operand-lts.Need-returns-8 (operand-claims t) (read-operand-at t) read-operand.Post
 read-operand-returns-8 t c =
     let at-part = c .before .before in
     let at-if1 = at-part .before in
@@ -810,71 +308,51 @@ read-operand-returns-8 t c =
 
 pub +read-expression+read-operand-spec : {M : Type 1} → statement M
 +read-expression+read-operand-spec =
-    close μ-read-expression μ-read-operand (λ t. read-expression-lts.spec (
-      read-operand-below t,
-      read-operand.Post,
-      operator-at-reads.Asked,
-      operator-at-reads.Learnt,
-      close-reads.Asked,
-      close-reads.Learnt,
-    )
+    close μ-read-expression μ-read-operand (λ t. read-expression-lts.spec (expression-claims t)
     (read-expression-at t)
     read-expression.Post
     (read-expression-read-operand-requires t)
-    (read-expression-enum-told t)
-    (read-expression-enum-known-x t)
-    (read-expression-operator-at-requires t)
-    (read-expression-same-length t)
+    (λ c. search needs)
+    (λ c. search needs)
+    (λ c κs. search needs)
+    (λ c. search needs)
     (read-expression-returns t)
     (read-expression-read-operand-requires-2 t)
-    (read-expression-enum-told-2 t)
-    (read-expression-enum-known-y t)
+    (λ c. search needs)
+    (λ c. search needs)
     (read-expression-close-requires t)
-    (read-expression-same-length-2 t)
+    (λ c. search needs)
     (read-expression-returns-2 t)
-    (read-expression-same-length-3 t)
+    (λ c. search needs)
     (read-expression-returns-3 t)
-    (read-expression-same-length-4 t)
+    (λ c. search needs)
     (read-expression-returns-4 t))
-    λ t. read-operand-lts.spec (
-      part-at-reads.Asked,
-      part-at-reads.Learnt,
-      sign-named-reads.Asked,
-      sign-named-reads.Learnt,
-      read-simple-reads.Asked,
-      read-simple-reads.Learnt,
-      read-operand-below t,
-      read-operand.Post,
-      put-token-reads.Asked,
-      put-token-reads.Learnt,
-      read-expression-below t,
-      read-expression.Post,
-    )
+    λ t. read-operand-lts.spec (operand-claims t)
     (read-operand-at t)
     read-operand.Post
     (read-operand-returns t)
-    (read-operand-part-at-requires t)
-    (read-operand-enum-known-start t)
+    (λ c κs. search needs)
+    (λ c. search needs)
     (read-operand-sign-named-requires t)
     (read-operand-read-simple-requires t)
-    (read-operand-same-length t)
+    (λ c. search needs)
     (read-operand-returns-2 t)
-    (read-operand-sub-read-operand t)
+    (λ c. search needs)
     (read-operand-read-operand-requires t)
-    (read-operand-enum-known-x t)
+    (λ c. search needs)
     (read-operand-put-token-requires t)
-    (read-operand-enum-told t)
-    (read-operand-enum-known-next t)
-    (read-operand-sub-read-expression t)
+    (λ c. search needs)
+    (λ c. search needs)
+    (λ c. search needs)
     (read-operand-read-expression-requires t)
-    (read-operand-enum-told-2 t)
-    (read-operand-enum-told-3 t)
-    (read-operand-enum-told-4 t)
-    (read-operand-same-length-2 t)
+    (λ c. search needs)
+    (λ c. search needs)
+    (λ c. search needs)
+    (λ c. search needs)
     (read-operand-returns-3 t)
-    (read-operand-same-length-3 t)
+    (λ c. search needs)
     (read-operand-returns-4 t)
-    (read-operand-same-length-4 t)
+    (λ c. search needs)
     (read-operand-returns-5 t)
     (read-operand-returns-6 t)
     (read-operand-returns-7 t)
