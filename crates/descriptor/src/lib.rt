@@ -182,7 +182,7 @@ fn extra_at(p: &[u8], at: usize) -> u64
     ensures { λ r. ⌜ (r ≡ extraAt (now (p .entry)) at) × (r ≤ offsets) ⌝ }
 {
     match p[at] {
-        5 => token::number(p, at + 2, 2),
+        5 => token::two_bytes(p, at + 2),
         6 => token::expression_end(p, at + 2) as u64,
         _ => 0,
     }

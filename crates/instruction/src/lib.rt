@@ -51,7 +51,7 @@ fn read_label(p: &[u8], at: usize) -> LabelRead
     if p.len() - at < 2 {
         return LabelRead::Refused(Refusal::Encoding);
     }
-    let label = Label::new(token::number(p, at, 2) as usize);
+    let label = Label::new(token::two_bytes(p, at) as usize);
     let next = at + 2;
     LabelRead::Found(label, next)
 }

@@ -1,12 +1,11 @@
--- How the loops over bytes and over tokens meet the rules' readers.
+-- How sums of bytes and the loops over tokens meet the rules' readers.
 -- Assumes nothing.
 use mathlib.Core.Path.{_≡_, refl, ap}
 use mathlib.Core.List.{List, [], _∷_}
-use Prim.Native.Nat.{ℕ, suc, _+_, _*_, _^_, _<_, _≤_}
-use native.Mathlib.Numerals.{add-one}
+use Prim.Native.Nat.{ℕ, zero, suc, _+_, _*_, _^_, _<_, _≤_}
+use native.Mathlib.Nat.{pow-suc, mul-assoc, mul-comm}
 use native.Mathlib.Omega.{arith}
 use lib.ListN.{length, getD}
-use lib.Pow.{pow-add}
 use borrow.Author.Tests.{le-leb}
 use Rattle.rules.specs.declared.Refusal.{Refusal}
 use Rattle.rules.specs.Rules.Expressions.{Token, Expr, takes, after, held}
@@ -16,16 +15,20 @@ use Rattle.token.specs.declared.Scan.the-variants as scan
 use Rattle.token.specs.Bytes.{byte-got}
 use Rattle.token.specs.Meaning.{scanOf}
 
--- ---- numbers: one more byte, below those read
-pub little-step : (p : List ℕ) (at at′ d d′ x b : ℕ) → at + 1 ≡ at′ → d′ ≡ d + 1 → x ≡ little p at′ d → b ≡ getD p at 0
-    → 256 * x + b ≡ little p at d′
+-- ---- numbers: those of the first j bytes and of the k after them
+pub little-join : (p : List ℕ) (at j k : ℕ) → little p at j + 256 ^ j * little p (at + j) k ≡ little p at (j + k)
 unfolding little
-little-step p at at′ d d′ x b e f g h = rw (f, add-one, e, ← g, ← h) (omega arith)
-
-pub below-step : (d d′ x b : ℕ) → d′ ≡ d + 1 → x < 2 ^ (8 * d) → b < 256 → 256 * x + b < 2 ^ (8 * d′)
-below-step d d′ x b e h g =
-    let w : 8 * d′ ≡ 8 + 8 * d = omega arith in
-    rw (w, pow-add 2 8 (8 * d)) (omega arith)
+little-join p at zero k =
+    let here : at + 0 ≡ at = omega arith in
+    let all : 0 + k ≡ k = omega arith in
+    rw (here, all) (omega arith)
+little-join p at (suc j) k =
+    let next : at + 1 + j ≡ at + suc j = omega arith in
+    let count : suc j + k ≡ suc (j + k) = omega arith in
+    let rest = rw next at (little-join p (at + 1) j k) in
+    let high = little p (at + suc j) k in
+    let weight : 256 ^ suc j * high ≡ 256 * (256 ^ j * high) = rw (pow-suc 256 j, mul-comm (256 ^ j) 256) (mul-assoc 256 (256 ^ j) high) in
+    rw count (omega arith)
 
 -- ---- tokens: the scan of one more token
 cons : (R : Read Expr) (t : Token) (d : ℕ) → scanOf d (andThen R (λ ts q. got (t ∷ ts) q)) ≡ scanOf (after d (takes t)) R

@@ -3,7 +3,7 @@
 use rules::Refusal;
 ghost use mathlib.Core.Path.{_≡_};
 ghost use mathlib.Core.Bool.{true};
-ghost use Prim.Native.Nat.{_+_, _*_, _^_, _<_, _≤_};
+ghost use Prim.Native.Nat.{_+_, _^_, _<_, _≤_};
 ghost use lib.ListN.{length};
 ghost use Rattle.rules.specs.Rules.Expressions.{takes, after};
 ghost use Rattle.rules.specs.Rules.JobFile.{got, little, token, tokens, expr};
@@ -16,26 +16,29 @@ fn wide(b: u8) -> u64
     b as u64
 }
 
-// The number in k bytes at an offset, the lowest byte first.
-pub fn number(s: &[u8], at: usize, k: usize) -> u64
-    requires { ⌜ (k ≤ 8) × (at + k ≤ length (now s)) ⌝ }
-    ensures { λ r. ⌜ (r ≡ little (now (s .entry)) at k) × (r < 2 ^ (8 * k)) ⌝ }
+// The number in two bytes at an offset, the lowest first. A sum of two reads is one load to the compiler, whatever uses the number; what a
+// loop over the bytes gives is one only while no use needs a single byte.
+pub fn two_bytes(s: &[u8], at: usize) -> u64
+    requires { ⌜ at + 2 ≤ length (now s) ⌝ }
+    ensures { λ r. ⌜ (r ≡ little (now (s .entry)) at 2) × (r < 2 ^ 16) ⌝ }
 {
-    let mut x: u64 = 0;
-    let mut i = k;
-    while 0 < i {
-        i -= 1;
-        x = 256 * x + wide(s[at + i]);
-    }
-    x
+    wide(s[at]) + 256 * wide(s[at + 1])
 }
 
-// The number in eight bytes at an offset. As the number of bytes is told, the compiler makes this one load.
+// The number in four bytes.
+pub fn four_bytes(s: &[u8], at: usize) -> u64
+    requires { ⌜ at + 4 ≤ length (now s) ⌝ }
+    ensures { λ r. ⌜ (r ≡ little (now (s .entry)) at 4) × (r < 2 ^ 32) ⌝ }
+{
+    two_bytes(s, at) + 65536 * two_bytes(s, at + 2)
+}
+
+// The number in the eight bytes of a word.
 pub fn word(s: &[u8], at: usize) -> u64
     requires { ⌜ at + 8 ≤ length (now s) ⌝ }
     ensures { λ r. ⌜ r ≡ little (now (s .entry)) at 8 ⌝ }
 {
-    number(s, at, 8)
+    four_bytes(s, at) + 4294967296 * four_bytes(s, at + 4)
 }
 
 // A token: a register, a constant, or an operator of one or of two operands by its place in the rules' table of them.

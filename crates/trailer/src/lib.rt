@@ -16,11 +16,12 @@ ghost use Rattle.rules.specs.Rules.JobFile.{little, trailerAt, limits, offsets}
 // The bytes after the state: the public list and the trailer.
 const TAIL: usize = LIST_SIZE + TRAILER_SIZE;
 
-fn field(s: &[u8], at: usize, k: usize) -> usize
-    requires { ⌜ (k ≤ 8) × (at + k ≤ length (now s)) ⌝ }
-    ensures { λ r. ⌜ r ≡ little (now (s .entry)) at k ⌝ }
+// A number of two bytes.
+fn field(s: &[u8], at: usize) -> usize
+    requires { ⌜ at + 2 ≤ length (now s) ⌝ }
+    ensures { λ r. ⌜ r ≡ little (now (s .entry)) at 2 ⌝ }
 {
-    token::number(s, at, k) as usize
+    token::two_bytes(s, at) as usize
 }
 
 // The numbers of the trailer, in the 16 bytes at an offset.
@@ -28,13 +29,13 @@ pub fn trailer_at(s: &[u8], at: usize) -> Trailer
     requires { ⌜ at + trailerSize ≤ length (now s) ⌝ }
     ensures { λ r. ⌜ r ≡ trailerAt (now (s .entry)) at ⌝ }
 {
-    let state = field(s, at, 2);
-    let list = field(s, at + 2, 2);
-    let count = field(s, at + 4, 2);
-    let cells = field(s, at + 6, 2);
-    let window = field(s, at + 8, 2);
-    let zero = field(s, at + 10, 2);
-    let budget = field(s, at + 12, 4);
+    let state = field(s, at);
+    let list = field(s, at + 2);
+    let count = field(s, at + 4);
+    let cells = field(s, at + 6);
+    let window = field(s, at + 8);
+    let zero = field(s, at + 10);
+    let budget = token::four_bytes(s, at + 12) as usize;
     Trailer {
         state,
         list,

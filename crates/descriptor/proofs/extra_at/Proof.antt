@@ -13,14 +13,14 @@ use Rattle.descriptor.proofs.extra_at.Tie as tie
 shared-slice-read-match : tie.Need-shared-slice-read-match
 shared-slice-read-match c = let start = c .before .before in instr-read (start .args .p .now) (start .args .at) (start .pre .0)
 
-add-number : tie.Need-add-number
-add-number c =
+add-two-bytes : tie.Need-add-two-bytes
+add-two-bytes c =
     let start = c .before .before .before in
     let h = branch-next (start .args .p .now) (start .args .at) (start .pre .0) (c .match .keys1) .0 in
     search needs
 
-number-requires : tie.Need-number-requires
-number-requires c κs =
+two-bytes-requires : tie.Need-two-bytes-requires
+two-bytes-requires c κs =
     let start = c .before .before .before in
     let h = branch-next (start .args .p .now) (start .args .at) (start .pre .0) (c .match .keys1) .0 in
     search needs
@@ -40,8 +40,8 @@ returns : tie.Need-returns
 returns c =
     let at-match = c .before in
     let start = at-match .before .before .before in
-    let n = c .number .ensures .1 in
-    (c .number .ensures .0 ∙ label-extra (start .args .p .now) (start .args .at) (at-match .match .keys1), omega arith)
+    let n = c .two-bytes .ensures .1 in
+    (c .two-bytes .ensures .0 ∙ label-extra (start .args .p .now) (start .args .at) (at-match .match .keys1), omega arith)
 
 returns-2 : tie.Need-returns-2
 returns-2 c =
@@ -63,8 +63,8 @@ extra-at-spec =
     tie.close
     (tie.spec
     shared-slice-read-match
-    add-number
-    number-requires
+    add-two-bytes
+    two-bytes-requires
     add-expression-end
     expression-end-requires
     returns

@@ -21,10 +21,10 @@ returns-2 c =
 returns-3 : tie.Need-returns-3
 unfolding wordOf
 returns-3 c =
-    let at-number = c .before in
-    let at-start = at-number .before .before .before .before in
+    let at-bytes = c .before in
+    let at-start = at-bytes .before .before .before .before in
     let a = at-start .args in
-    simp (le-leb (a .at + 2) (length (a .p .now)) (omega arith), c .new .ensures, at-number .number .ensures .0)
+    simp (le-leb (a .at + 2) (length (a .p .now)) (omega arith), c .new .ensures, at-bytes .two-bytes .ensures .0)
 
 pub read-label-spec : {M : Type 1} → statement M
 read-label-spec =

@@ -15,7 +15,7 @@ returns c =
       f .field4 .ensures,
       c .before .before .field5 .ensures,
       c .before .field6 .ensures,
-      c .field7 .ensures,
+      c .four-bytes .ensures .0,
     )
 
 pub trailer-at-spec : {M : Type 1} → statement M
