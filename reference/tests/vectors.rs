@@ -232,11 +232,17 @@ fn parse(block: &str) -> Vector {
 }
 
 fn vector_files() -> Vec<PathBuf> {
-    let folder = PathBuf::from(env!("CARGO_MANIFEST_DIR")).join("../vectors");
-    match std::env::var_os("VECTORS") {
-        Some(path) => vec![PathBuf::from(path)],
-        None => ["document-01.txt", "F-01.txt"].map(|name| folder.join(name)).to_vec(),
+    if let Some(path) = std::env::var_os("VECTORS") {
+        return vec![PathBuf::from(path)];
     }
+    let folder = PathBuf::from(env!("CARGO_MANIFEST_DIR")).join("../vectors");
+    let entries = std::fs::read_dir(&folder).expect("the folder of the vectors");
+    let paths = entries.map(|entry| entry.expect("an entry of the folder").path());
+    let mut files: Vec<PathBuf> =
+        paths.filter(|path| path.extension().is_some_and(|end| end == "txt")).collect();
+    assert!(!files.is_empty(), "no vector file in {}", folder.display());
+    files.sort();
+    files
 }
 
 /// Runs the vectors of a file; the names of those that disagree.
