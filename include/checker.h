@@ -74,9 +74,10 @@
  *   19 add, 20 sub, 21 mul, 22 and, 23 or, 24 xor, 25 shl, 26 shr, 27 eq,
  *   28 ult (unsigned less)
  *
- * All words are unsigned and wrap modulo 2^64. A shift by 64 or more gives 0.
- * eq and ult give 1 or 0. A load outside memory reads 0, a store there changes
- * nothing; both are observed.
+ * All words are unsigned and wrap modulo 2^64. A shift uses its count, the
+ * right operand, modulo 64: a shift by 64 gives the left operand. eq and ult
+ * give 1 or 0. A load outside memory reads 0, a store there changes nothing;
+ * both are observed.
  *
  * A location is a register or a memory cell: register r is location r, memory
  * cell a is location 16 + a. There are 16 + m of them, at most 256.

@@ -3,7 +3,7 @@
 use checker_tests::examples;
 use checker_tests::job_file::{
     assign, beqz, conditional, jmp, load, skip, spbarr, store, Instruction, Parts, Token, ADD, AND,
-    MUL, NOT, SUB, XOR,
+    MUL, NOT, SHL, SHR, SUB, XOR,
 };
 
 /// Jobs that are run one after the other, so many times in one round. Rounds are short, so that some
@@ -50,6 +50,7 @@ fn by_kind() -> Vec<(&'static str, Parts)> {
             "conditional assignment, condition of 5 tokens",
             conditionals(&[r(1), r(2), ADD, r(3), MUL], &[r(1), r(1), SUB, r(0), AND]),
         ),
+        ("shifts by 1 to 106", spent_job(shifts())),
         ("jump of a register", zero_first(vec![jmp(&[r(0)])])),
         ("jump of a constant", spent_job(vec![jmp(&[c(0)])])),
         ("skip", spent_job(skips())),
@@ -174,6 +175,18 @@ fn conditionals(taken: &[Token], not_taken: &[Token]) -> Parts {
         conditional(7, not_taken, &[r(4)]),
         jmp(&[c(0)]),
     ])
+}
+
+/// Counts on both sides of 64, in a register and as a constant.
+fn shifts() -> Vec<Instruction> {
+    vec![
+        assign(2, &[r(3), r(4), SHL]),
+        assign(5, &[r(3), r(15), SHL]),
+        assign(6, &[r(3), r(4), SHR]),
+        assign(7, &[r(3), c(65), SHR]),
+        assign(8, &[r(3), c(1), SHL]),
+        jmp(&[c(0)]),
+    ]
 }
 
 /// With 0 in r0.

@@ -1,4 +1,4 @@
-//! A second implementation of document 01 and of request F-1 of document 02,
+//! A second implementation of document 01 and of requests F-1 and F-2 of document 02,
 //! written from the documents alone.
 //! It prefers clarity to speed: every branch saves a copy of the whole state.
 

@@ -118,20 +118,9 @@ impl BinaryOperator {
             BinaryOperator::And => left & right,
             BinaryOperator::Or => left | right,
             BinaryOperator::Xor => left ^ right,
-            BinaryOperator::Shl => {
-                if right < 64 {
-                    left << right
-                } else {
-                    0
-                }
-            }
-            BinaryOperator::Shr => {
-                if right < 64 {
-                    left >> right
-                } else {
-                    0
-                }
-            }
+            // "uses the shift count modulo 64": a shift by 64 gives the left operand.
+            BinaryOperator::Shl => left << (right % 64),
+            BinaryOperator::Shr => left >> (right % 64),
             BinaryOperator::Eq => u64::from(left == right),
             BinaryOperator::Ult => u64::from(left < right),
         }

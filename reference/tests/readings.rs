@@ -7,6 +7,21 @@ use common::T::{C, R};
 use common::*;
 
 const MAX: u64 = u64::MAX;
+const TOP: u64 = 0x8000_0000_0000_0000;
+
+/// The left operands that `SHIFTS` is about.
+const SHIFTED: [u64; 4] = [1, MAX, TOP, 0x8A5C_31F1_FB2E_94D7];
+
+/// Request F-2: counts that are equal modulo 64, then the results of shl and of shr for `SHIFTED`.
+const SHIFTS: [(&[u64], [u64; 4], [u64; 4]); 3] = [
+    (&[0, 64, 128, 0x1_0000_0000, TOP], SHIFTED, SHIFTED),
+    (
+        &[1, 65],
+        [2, 0xFFFF_FFFF_FFFF_FFFE, 0, 0x14B8_63E3_F65D_29AE],
+        [0, 0x7FFF_FFFF_FFFF_FFFF, 0x4000_0000_0000_0000, 0x452E_18F8_FD97_4A6B],
+    ),
+    (&[63, 127, MAX], [TOP, TOP, 0, TOP], [0, 1, 1, 1]),
+];
 
 fn listing_of(parts: &JobParts) -> String {
     String::from_utf8(listing(&parts.bytes())).unwrap()
@@ -34,12 +49,56 @@ fn operators() {
     assert_eq!((binary(ULT, 1, MAX), binary(ULT, MAX, 1), binary(ULT, 1, 1)), (1, 0, 0));
     assert_eq!((binary(SHL, 3, 1), binary(SHL, 1, 63), binary(SHL, 3, 63)), (6, 1 << 63, 1 << 63));
     assert_eq!((binary(SHR, 6, 1), binary(SHR, MAX, 63)), (3, 1));
-    for amount in [64, 65, 128, 1 << 32, MAX] {
-        assert_eq!((binary(SHL, MAX, amount), binary(SHR, MAX, amount)), (0, 0));
+    for (counts, to_left, to_right) in SHIFTS {
+        for &count in counts {
+            assert_eq!(SHIFTED.map(|left| binary(SHL, left, count)), to_left, "shl by {count}");
+            assert_eq!(SHIFTED.map(|left| binary(SHR, left, count)), to_right, "shr by {count}");
+        }
     }
     // The left operand comes first: (r1 - r2) - r3.
     assert_eq!(value_of(&[R(1), R(2), SUB, R(3), SUB], [10, 3, 2]), 5);
     assert_eq!(value_of(&[R(1), R(2), R(3), SUB, SUB], [10, 3, 2]), 9);
+}
+
+/// A count that leaves the left operand as it is still joins its set, as any other count does.
+#[test]
+fn shift_sets_whatever_the_count() {
+    for &count in SHIFTS.iter().flat_map(|(counts, ..)| *counts) {
+        for operator in [SHL, SHR] {
+            let depends = |left: &[T], right: &[T]| {
+                let address = [left, right, &[operator]].concat();
+                let mut parts = job(vec![assign(5, &address), load(6, &[R(5)])], 0);
+                parts.registers[1..5].copy_from_slice(&[9, count, 6, 0]);
+                locations(run_of(&parts).answer.depends)
+            };
+            assert_eq!(depends(&[R(1), R(3), XOR], &[R(2), R(4), OR]), [1, 2, 3, 4]);
+            assert_eq!(depends(&[R(1)], &[C(count)]), [1]);
+            assert_eq!(depends(&[C(9)], &[R(2)]), [2]);
+        }
+    }
+}
+
+/// Shifts by 64 and 65 decide the addresses, and the branch through the cell that is loaded.
+#[test]
+fn shift_by_64_gives_an_observed_address() {
+    let program = vec![
+        load(2, &[R(0), R(1), SHL]),
+        beqz(2, 3),
+        store(0, &[R(2), R(1), SHR]),
+        load(4, &[R(0), C(65), SHL]),
+    ];
+    let mut parts = job(program, 4);
+    parts.registers[..2].copy_from_slice(&[3, 64]);
+    parts.cells[3] = 2;
+    let (ran, plain) = (run_of(&parts), plain_of(&parts));
+    let trace = observed("load 3, start 0, pc 3, load 6, rollback 0, pc 2, store 2, load 6");
+    assert_eq!((ran.trace, ran.answer.stop, ran.answer.steps), (trace, Stop::Finished, 6));
+    assert_eq!(plain.trace, observed("load 3, pc 2, store 2, load 6"));
+    assert_eq!((plain.answer.stop, plain.answer.steps), (Stop::Finished, 4));
+    assert_eq!(locations(ran.answer.depends), [0, 1, 19]);
+    assert_eq!(locations(plain.answer.plain), [0, 1, 19]);
+    assert_eq!((&ran.end[..5], &ran.end[16..]), (&[3, 64, 2, 0, 0][..], &[0, 0, 3, 2][..]));
+    assert_eq!(plain.end, ran.end);
 }
 
 #[test]

@@ -16,8 +16,8 @@ pub struct Pool {
 }
 
 /// Constants at which operators change what they do.
-const EDGES: [u64; 12] =
-    [0, 1, 2, 62, 63, 64, 65, 1 << 32, 1 << 63, (1 << 63) - 1, u64::MAX - 1, u64::MAX];
+const EDGES: [u64; 14] =
+    [0, 1, 2, 62, 63, 64, 65, 127, 128, 1 << 32, 1 << 63, (1 << 63) - 1, u64::MAX - 1, u64::MAX];
 
 impl Pool {
     pub fn register(&self, random: &mut Random) -> u8 {

@@ -18,7 +18,7 @@ pub fn add(cases: &mut Cases) {
     a_million_steps(cases);
 }
 
-const EDGES: [u64; 10] = [0, 1, 2, 3, 63, 64, 65, 1 << 63, (1 << 32) + 1, u64::MAX];
+const EDGES: [u64; 12] = [0, 1, 2, 3, 63, 64, 65, 127, 128, 1 << 63, (1 << 32) + 1, u64::MAX];
 
 /// The operands stand in r0 and r1, the result in r2.
 fn operators(cases: &mut Cases) {

@@ -24,6 +24,8 @@ pub const SUB: Token = Token::Operator(20);
 pub const MUL: Token = Token::Operator(21);
 pub const AND: Token = Token::Operator(22);
 pub const XOR: Token = Token::Operator(24);
+pub const SHL: Token = Token::Operator(25);
+pub const SHR: Token = Token::Operator(26);
 pub const EQ: Token = Token::Operator(27);
 pub const ULT: Token = Token::Operator(28);
 

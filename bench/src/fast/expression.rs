@@ -43,18 +43,12 @@ impl Operator {
             Operator::And => left & right,
             Operator::Or => left | right,
             Operator::Xor => left ^ right,
-            Operator::Shl => (left << (right & 63)) & within_64(right),
-            Operator::Shr => (left >> (right & 63)) & within_64(right),
+            Operator::Shl => left << (right & 63),
+            Operator::Shr => left >> (right & 63),
             Operator::Eq => u64::from(left == right),
             Operator::Ult => u64::from(left < right),
         }
     }
-}
-
-/// All ones for a shift under 64, else 0.
-#[inline(always)]
-fn within_64(shift: u64) -> u64 {
-    u64::from(shift < 64).wrapping_neg()
 }
 
 /// A step of a longer expression. A right operand that is a register or a constant stands in the

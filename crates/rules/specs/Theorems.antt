@@ -1,4 +1,5 @@
 -- What is proved of the definitions. Nothing here has to be believed.
+pub mod Shifts
 pub mod LoopLaws
 pub mod RunLaws
 pub mod StepLaws

@@ -5,7 +5,7 @@ ghost use Rattle.rules.specs.Rules.Operators.{apply1, neg, inv, apply2, add, su
 // 2^32, which splits a word into two halves.
 const HALF: u64 = 4294967296;
 
-// The bits of a word.
+// The bits of a word; a shift's count is taken modulo this.
 const BITS: u64 = 64;
 
 pub fn neg(x: u64) -> u64
@@ -66,13 +66,13 @@ pub fn xor(x: u64, y: u64) -> u64
 pub fn shl(x: u64, k: u64) -> u64
     ensures { λ r. ⌜ r ≡ apply2 shl x k ⌝ }
 {
-    if k < BITS { x << k } else { 0 }
+    x << (k % BITS)
 }
 
 pub fn shr(x: u64, k: u64) -> u64
     ensures { λ r. ⌜ r ≡ apply2 shr x k ⌝ }
 {
-    if k < BITS { x >> k } else { 0 }
+    x >> (k % BITS)
 }
 
 pub fn eq(x: u64, y: u64) -> u64

@@ -58,6 +58,10 @@ unfoldable pub operations : List ℕ → List ℕ
 operations [] = []
 operations (op ∷ ops) = 2 ∷ 2 ∷ 3 ∷ 0 ∷ 1 ∷ op ∷ operations ops
 
+-- no cell, 5 in r0 and a count in r1
+unfoldable pub shiftBy : ℕ → List ℕ
+shiftBy k = set (set (zeros 16) 0 5) 1 k
+
 -- beqz r0 7; assign r1 r3; store r1 r1; conditional assign r1, if r1, r1; jmp 5; load r2 r3; load r2 r4
 unfoldable pub costing : List ℕ
 costing =
@@ -173,6 +177,15 @@ details =
     1024 (3 ∷ 32 ∷ 3 ∷ 26 ∷ 3 ∷ 87 ∷ 3 ∷ 1 ∷ 3 ∷ 31 ∷ 3 ∷ 30 ∷ 3 ∷ 232 ∷ 3 ∷ 3 ∷ 3 ∷ 0 ∷ 3 ∷ 0 ∷ 3 ∷ 1 ∷ []) (ran Finished 11 11 0 r01 r01 Plain)
     ∷ holds (secretJob (1 ∷ 1 ∷ 2 ∷ 0 ∷ 17 ∷ []) 1 (set zero17 0 1) 10) 1 (tagged 18446744073709551615 (setOf (0 ∷ [])))
     ∷ holds (secretJob (1 ∷ 1 ∷ 2 ∷ 0 ∷ 18 ∷ []) 1 (set zero17 0 1) 10) 1 (tagged 18446744073709551614 (setOf (0 ∷ [])))
+    -- "a shift by 64 now gives the left operand": load r2, r0 shl r1 and load r2, r0 shr r1, with both operands' sets; the plain run likewise
+    ∷ run (secretJob (operations (25 ∷ 26 ∷ [])) 2 (shiftBy 64) 10) 1024 (3 ∷ 5 ∷ 3 ∷ 5 ∷ []) (ran Finished 2 2 0 r01 r01 Plain)
+    ∷ plain (secretJob (operations (25 ∷ 26 ∷ [])) 2 (shiftBy 64) 10) 1024 (3 ∷ 5 ∷ 3 ∷ 5 ∷ []) (plainRan Finished 2 2 r01)
+    -- by 66 as by 2: assign r2, r0 shl r1 and assign r2, r0 shr r1
+    ∷ holds (secretJob (1 ∷ 2 ∷ 3 ∷ 0 ∷ 1 ∷ 25 ∷ []) 1 (shiftBy 66) 10) 2 (tagged 20 (setOf r01))
+    ∷ holds (secretJob (1 ∷ 2 ∷ 3 ∷ 0 ∷ 1 ∷ 26 ∷ []) 1 (shiftBy 66) 10) 2 (tagged 1 (setOf r01))
+    -- a pair whose counts are 64 and 128: equal traces, though r1 is in D
+    ∷ pair (secretJob (operations (25 ∷ [])) 1 (shiftBy 64) 10) (wordBytes (shiftBy 128)) 2 (3 ∷ 5 ∷ []) (3 ∷ 5 ∷ [])
+    (answers.Compared pairs.Equal (counted Finished 1 1 0) (counted Finished 1 1 0))
     -- a constant: its bytes, the lowest first, and the empty set
     ∷ holds (secretJob (1 ∷ 1 ∷ 1 ∷ 16 ∷ 1 ∷ 2 ∷ 3 ∷ 4 ∷ 5 ∷ 6 ∷ 7 ∷ 8 ∷ []) 1 zero17 10) 1 (tagged 578437695752307201 (setOf []))
     -- addresses near 2^64 are outside, also where 16 + address would wrap; the full address of a store is seen, and its set gathered

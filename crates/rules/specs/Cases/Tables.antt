@@ -17,7 +17,8 @@ use Rattle.rules.specs.Rules.Listing.{digits, decimal, line, numberLine,
 use Rattle.rules.specs.Rules.Encoding.{bytesOf}
 use Rattle.rules.specs.Cases.Files.{wordBytes, trailerBytes, file, lines, setOf, ran, plainRan, areas, pairAreas, front, lastAt, given, wanted, allGiven, allWanted}
 use Rattle.rules.specs.Cases.Document01.{printedProgram, barrierProgram, nestedProgram, state, public, job, wholeTrace, r01, r01m1, listing01, document01}
-use Rattle.rules.specs.Cases.Readings.{secretJob, zero17, deep, inner, restoring, conditionally, twice, mixed, ending, operations, costing, filled, readings, details, areasLeft, listings}
+use Rattle.rules.specs.Cases.Readings.{secretJob, zero17, deep, inner, restoring, conditionally, twice, mixed, ending, operations, shiftBy}
+use Rattle.rules.specs.Cases.Readings.{costing, filled, readings, details, areasLeft, listings}
 use Rattle.rules.specs.Cases.Refusals as refusal
 use Rattle.rules.specs.Cases.Refusals.{reads, numberOf, readNumbers, wantedNumbers, skips, offsetsAt, listBit, refusals}
 use Rattle.rules.specs.Cases.Operators.{computed, expected, high, all, boundaries}
@@ -54,7 +55,7 @@ unfolding bit has none only either inside empty single union subset member after
     observationLine traceLines locationText members setLine summary answerLines listingOf listing bytesOf wordBytes trailerBytes
     file lines setOf ran plainRan areas pairAreas front lastAt given wanted allGiven allWanted printedProgram barrierProgram
     nestedProgram state public job wholeTrace r01 r01m1 listing01 document01 secretJob zero17 deep inner restoring conditionally
-    twice mixed ending operations costing filled readings details areasLeft listings reads numberOf readNumbers wantedNumbers
+    twice mixed ending operations shiftBy costing filled readings details areasLeft listings reads numberOf readNumbers wantedNumbers
     skips offsetsAt listBit refusals refusal.program
 computing = Unit {0}
 

@@ -18,21 +18,12 @@ abbrev pub flag : Bool → ℕ
 flag true = 1
 flag false = 0
 
--- "A shift by 64 or more gives 0." The test comes first, so that no power of a large count is computed.
-abbrev pub shiftLeft : Bool → ℕ → ℕ → ℕ
-shiftLeft true a k = a * 2 ^ k % 2 ^ 64
-shiftLeft false a k = 0
-
-abbrev pub shiftRight : Bool → ℕ → ℕ → ℕ
-shiftRight true a k = a / 2 ^ k
-shiftRight false a k = 0
-
 -- "In expressions add, sub, mul and neg wrap modulo 2^64."
 abbrev pub apply1 : Op1 → ℕ → ℕ
 apply1 neg a = (2 ^ 64 - a) % 2 ^ 64
 apply1 inv a = 2 ^ 64 - 1 - a
 
--- "The left operand comes first."
+-- "The left operand comes first." A shift's count is the right one: "uses the shift count modulo 64" (document 02, F-2).
 abbrev pub apply2 : Op2 → ℕ → ℕ → ℕ
 apply2 add a b = (a + b) % 2 ^ 64
 apply2 sub a b = (a + (2 ^ 64 - b)) % 2 ^ 64
@@ -40,7 +31,7 @@ apply2 mul a b = a * b % 2 ^ 64
 apply2 and a b = bitAnd a b
 apply2 or a b = bitOr a b
 apply2 xor a b = bitXor a b
-apply2 shl a b = shiftLeft (ltb b 64) a b
-apply2 shr a b = shiftRight (ltb b 64) a b
+apply2 shl a b = a * 2 ^ (b % 64) % 2 ^ 64
+apply2 shr a b = a / 2 ^ (b % 64)
 apply2 eq a b = flag (eqb a b)
 apply2 ult a b = flag (ltb a b)
