@@ -7,11 +7,12 @@
  * could be observed, the registers and cells that these depend on, and a
  * verdict.
  *
- * Link with libchecker_c.a. There are five functions:
+ * Link with libchecker_c.a. There are six functions:
  *
  *   checker_run         the mispredicting run of a job, with its verdict
  *   checker_plain_run   the same routine without any misprediction
  *   checker_compare     the mispredicting runs of a job with two states
+ *   checker_test_load   the same with a state that is made from a seed
  *   checker_read_text   a routine as text, read to the bytes of its program
  *   checker_print_text  the program of a job, printed as text
  *
@@ -22,7 +23,7 @@
  * one: its result depends on its arguments alone.
  *
  * A function returns 0 if it carried out the call, or else the number of the
- * refusal, 1 to 12. After a refusal every area, and the answer too, is exactly
+ * refusal, 1 to 13. After a refusal every area, and the answer too, is exactly
  * as it was before the call.
  *
  * Any bytes may be given as a job or as a text, and areas of any length may be
@@ -100,6 +101,10 @@
  *        that nothing of the job stays behind there. Further words keep their
  *        contents.
  *
+ * state  At least 128 + 8m bytes. Where checker_test_load makes a new state,
+ *        it is written from the front, laid out as in a job. Further bytes
+ *        keep their contents.
+ *
  * out    Bytes of any length. A text or a program is written from the front if
  *        all of it fits, and is refused otherwise. Further bytes keep their
  *        contents.
@@ -147,10 +152,15 @@ extern "C" {
 /* Words of an end area that is long enough for every job: 16 + 240. */
 #define CHECKER_END_WORDS_MAX 256
 
+/* Bytes of an area that is long enough for the new state of every job:
+ * 8 * (16 + 240). */
+#define CHECKER_STATE_BYTES_MAX 2048
+
 /* Words of the answers of the functions. */
 #define CHECKER_RUN_ANSWER_WORDS 13
 #define CHECKER_PLAIN_ANSWER_WORDS 7
 #define CHECKER_COMPARE_ANSWER_WORDS 9
+#define CHECKER_TEST_LOAD_ANSWER_WORDS 10
 #define CHECKER_READ_ANSWER_WORDS 2
 #define CHECKER_PRINT_ANSWER_WORDS 1
 
@@ -164,7 +174,8 @@ extern "C" {
 
 /* Why a call was refused; 0 is no refusal. The tests are made in this order and
  * the first that fails gives the number, except that 4, 5 and 6 are all tried
- * on one instruction before the next instruction is read. */
+ * on one instruction before the next instruction is read, and that 13 is tested
+ * before 12. */
 enum checker_refusal {
     CHECKER_DONE = 0,
     /* The job is shorter than 16 bytes or longer than 16,384. */
@@ -188,16 +199,19 @@ enum checker_refusal {
     /* The second state is not 128 + 8m bytes long (checker_compare only). */
     CHECKER_REFUSED_SECOND_STATE = 9,
     /* The working area is shorter than 4,096 words, the end area is shorter
-     * than 16 + m words, or the trace areas of checker_compare have different
-     * lengths. */
+     * than 16 + m words, or the two trace areas of checker_compare or
+     * checker_test_load have different lengths. */
     CHECKER_REFUSED_AREAS = 10,
     /* The text is no routine: a line is outside the grammar above, a constant
      * is 2^64 or more, there is no instruction or more than 512, an expression has
      * more than 16 tokens or holds more than 8 values, or the label of a beqz
      * is over n or is the next one (checker_read_text only). */
     CHECKER_REFUSED_TEXT = 11,
-    /* The output area is too short; tested last. */
-    CHECKER_REFUSED_OUTPUT = 12
+    /* The output area is too short, or fewer than 128 + 8m bytes are lent for
+     * the new state; tested last. */
+    CHECKER_REFUSED_OUTPUT = 12,
+    /* The seed is 0; tested after 10 and before 12 (checker_test_load only). */
+    CHECKER_REFUSED_SEED = 13
 };
 
 /* Why a run stopped. Finished is tested first, then spent, then trace full. */
@@ -225,7 +239,8 @@ enum checker_verdict {
     CHECKER_VERDICT_PLAIN = 3
 };
 
-/* The result of checker_compare: the first of these that fits. */
+/* The result of checker_compare: the first of these that fits.
+ * checker_test_load gives 1, 3 or 4 alone. */
 enum checker_pair_word {
     /* The two states differ at a public location. */
     CHECKER_PAIR_NOT_COMPARABLE = 0,
@@ -283,6 +298,21 @@ enum checker_compare_answer {
     CHECKER_COMPARE_SECOND_OBSERVATIONS = 6,
     CHECKER_COMPARE_SECOND_STEPS = 7,
     CHECKER_COMPARE_SECOND_ROLLBACKS = 8
+};
+
+/* Which word of checker_test_load's answer is what. */
+enum checker_test_load_answer {
+    CHECKER_TEST_LOAD_WORD = 0,                /* enum checker_pair_word */
+    CHECKER_TEST_LOAD_OWN_STOP = 1,            /* the run of the job's state: */
+    CHECKER_TEST_LOAD_OWN_OBSERVATIONS = 2,    /* as in checker_run's answer */
+    CHECKER_TEST_LOAD_OWN_STEPS = 3,
+    CHECKER_TEST_LOAD_OWN_ROLLBACKS = 4,
+    CHECKER_TEST_LOAD_SECOND_STOP = 5,         /* the run of the new state: */
+    CHECKER_TEST_LOAD_SECOND_OBSERVATIONS = 6, /* all 0 where none was made */
+    CHECKER_TEST_LOAD_SECOND_STEPS = 7,
+    CHECKER_TEST_LOAD_SECOND_ROLLBACKS = 8,
+    CHECKER_TEST_LOAD_MADE = 9                 /* 1 if a new state was made and
+                                                * run, else 0 */
 };
 
 /* Which word of checker_read_text's answer is what. */
@@ -365,6 +395,54 @@ uint32_t checker_compare(const uint8_t *job, size_t job_len,
                          uint64_t *trace2, size_t trace2_len,
                          uint64_t *work, size_t work_len,
                          uint64_t answer[9]);
+
+/*
+ * A test load that can be repeated: the mispredicting runs of a job with its own
+ * state and with one that is made from a seed.
+ *
+ * job, job_len         the job, in bytes
+ * seed                 any number but 0; the same seed makes the same state
+ * trace1, trace1_len   the trace area of the run with the job's state
+ * trace2, trace2_len   the trace area of the run with the new state; as many
+ *                      words as trace1
+ * work, work_len       the working area, in words, at least 4,096
+ * state, state_len     the area for the new state, in bytes, at least 128 + 8m
+ * answer               10 words: the pair word; stop, observations, steps and
+ *                      rollbacks of the job's own run; the same of the second
+ *                      run; 1 if a new state was made and run, else 0
+ *
+ * If the job's own run finishes, the new state is made: each location that is
+ * neither public nor in the plain set of that run takes the next word, lowest
+ * location first, and all others keep the job's. The next word is x after
+ *
+ *   x ^= x << 13; x ^= x >> 7; x ^= x << 17;
+ *
+ * where x is at first the seed. The new state then stands at the front of its
+ * area, and the rest is checker_compare with it. It has the same plain trace as
+ * the job, so that the word is never "not comparable" or "plain differs": a leak
+ * that is shown is one of a wrongly guessed path.
+ *
+ * If the job's own run does not finish, no new state is made: the word is
+ * "undecided", the answer holds that run's counts and then zeros, its trace is
+ * written, and trace2 and state are left as they were. "Undecided" with a 1 at
+ * the end of the answer means that the run of the new state did not finish; the
+ * state and both traces are then written.
+ *
+ * A word that was made is never 0. So the last one of a state, that of its
+ * highest location that is neither public nor in the plain set, can be the next
+ * seed and goes on with the same sequence; or take seeds of your own, such as
+ * 1, 2, 3. A job without such a location has its own state from every seed.
+ * examples/batch.c runs 1,000 seeds.
+ *
+ * Returns 0 or a refusal number (1 to 8, 10, 12 or 13).
+ */
+uint32_t checker_test_load(const uint8_t *job, size_t job_len,
+                           uint64_t seed,
+                           uint64_t *trace1, size_t trace1_len,
+                           uint64_t *trace2, size_t trace2_len,
+                           uint64_t *work, size_t work_len,
+                           uint8_t *state, size_t state_len,
+                           uint64_t answer[10]);
 
 /*
  * Reads a routine as text.

@@ -11,8 +11,11 @@ use Rattle.rules.specs.declared.RunAnswer.{RunAnswer}
 use Rattle.rules.specs.declared.PlainOutcome.the-variants as plains
 use Rattle.rules.specs.declared.PlainAnswer.{PlainAnswer}
 use Rattle.rules.specs.declared.PairWord.{PairWord}
+use Rattle.rules.specs.declared.PairWord.the-variants as words
 use Rattle.rules.specs.declared.PairAnswer.{PairAnswer}
 use Rattle.rules.specs.declared.PairAnswer.the-variants as pairs
+use Rattle.rules.specs.declared.TestLoadAnswer.{TestLoadAnswer}
+use Rattle.rules.specs.declared.TestLoadAnswer.the-variants as tests
 use Rattle.rules.specs.declared.ReadAnswer.{ReadAnswer}
 use Rattle.rules.specs.declared.ReadAnswer.the-variants as reads
 use Rattle.rules.specs.declared.PrintAnswer.{PrintAnswer}
@@ -36,6 +39,14 @@ plainWords c plain = (stopNumber (c .stop) ∷ c .observations ∷ c .steps ∷ 
 abbrev pub pairWords : PairWord → Counts → Counts → List ℕ
 pairWords w c d = pairNumber w ∷ countWords c ++ countWords d
 
+-- a test load, where the own run has not finished and where the new state was run: the word, what each run counts (0 for one that was not
+-- made), and whether a new state was made and run
+abbrev pub unfinishedWords : Counts → List ℕ
+unfinishedWords c = pairNumber words.Undecided ∷ countWords c ++ (0 ∷ 0 ∷ 0 ∷ 0 ∷ 0 ∷ [])
+
+abbrev pub testLoadWords : PairWord → Counts → Counts → List ℕ
+testLoadWords w c d = pairNumber w ∷ countWords c ++ countWords d ++ (1 ∷ [])
+
 -- the bytes and the instructions of a program that was read; the bytes of a text that was printed
 abbrev pub readWords : ℕ → ℕ → List ℕ
 readWords bytes instructions = bytes ∷ instructions ∷ []
@@ -53,6 +64,11 @@ plainAnswerWords r = elim (r .outcome) [ plains.Refused n ↦ [] | plains.Ran c 
 abbrev pub pairAnswerWords : PairAnswer → List ℕ
 pairAnswerWords (pairs.Refused n) = []
 pairAnswerWords (pairs.Compared w c d) = pairWords w c d
+
+abbrev pub testLoadAnswerWords : TestLoadAnswer → List ℕ
+testLoadAnswerWords (tests.Refused n) = []
+testLoadAnswerWords (tests.Undecided c) = unfinishedWords c
+testLoadAnswerWords (tests.Compared w c d) = testLoadWords w c d
 
 abbrev pub readAnswerWords : ReadAnswer → List ℕ
 readAnswerWords (reads.Refused n) = []

@@ -8,9 +8,11 @@ use rules::Refusal;
 use rules::Stop;
 use rules::Verdict;
 ghost use mathlib.Core.Path.{_≡_};
+ghost use Prim.Native.Nat.{_+_, _≤_};
+ghost use lib.ListN.{length};
 ghost use lib.Seq.{sets};
 ghost use Rattle.rules.specs.Rules.Answers.{stopNumber, verdictNumber, pairNumber, refusalNumber};
-ghost use Rattle.answer_words.specs.Words.{runWords, plainWords, pairWords, readWords, printWords};
+ghost use Rattle.answer_words.specs.Words.{countWords, runWords, plainWords, pairWords, unfinishedWords, testLoadWords, readWords, printWords};
 
 fn stop_number(s: Stop) -> u64
     ensures { λ r. ⌜ r ≡ stopNumber s ⌝ }
@@ -45,7 +47,7 @@ fn pair_number(w: PairWord) -> u64
     }
 }
 
-// Document 01's number of a refusal.
+// The documents' number of a refusal.
 pub fn refusal_number(n: Refusal) -> u32
     ensures { λ r. ⌜ r ≡ refusalNumber n ⌝ }
 {
@@ -62,7 +64,20 @@ pub fn refusal_number(n: Refusal) -> u32
         Refusal::Areas => 10,
         Refusal::Text => 11,
         Refusal::Output => 12,
+        Refusal::Seed => 13,
     }
+}
+
+// Stop, observations, steps and rollbacks, from a place on.
+fn write_counts(c: Counts, answer: &mut [u64], at: usize)
+    requires { ⌜ at + 4 ≤ length (now answer) ⌝ }
+    ensures { λ _. ⌜ now (answer .exit) ≡ sets (now (answer .entry)) at (countWords c) ⌝ }
+{
+    let stop = c.stop;
+    answer[at] = stop_number(stop);
+    answer[at + 1] = c.observations as u64;
+    answer[at + 2] = c.steps as u64;
+    answer[at + 3] = c.rollbacks as u64;
 }
 
 // Stop, observations, steps, rollbacks, four words of D, four of the plain set, verdict.
@@ -77,11 +92,7 @@ pub fn write_run(
 {
     let d = full.words;
     let p = plain.words;
-    let stop = c.stop;
-    answer[0] = stop_number(stop);
-    answer[1] = c.observations as u64;
-    answer[2] = c.steps as u64;
-    answer[3] = c.rollbacks as u64;
+    write_counts(c, &mut answer[..], 0);
     answer[4] = d[0];
     answer[5] = d[1];
     answer[6] = d[2];
@@ -112,17 +123,32 @@ pub fn write_plain(c: PlainCounts, plain: LocationSet, answer: &mut [u64; 7])
 pub fn write_pair(w: PairWord, c: Counts, d: Counts, answer: &mut [u64; 9])
     ensures { λ _. ⌜ now (answer .exit) ≡ sets (now (answer .entry)) 0 (pairWords w c d) ⌝ }
 {
-    let first = c.stop;
-    let second = d.stop;
     answer[0] = pair_number(w);
-    answer[1] = stop_number(first);
-    answer[2] = c.observations as u64;
-    answer[3] = c.steps as u64;
-    answer[4] = c.rollbacks as u64;
-    answer[5] = stop_number(second);
-    answer[6] = d.observations as u64;
-    answer[7] = d.steps as u64;
-    answer[8] = d.rollbacks as u64;
+    write_counts(c, &mut answer[..], 1);
+    write_counts(d, &mut answer[..], 5);
+}
+
+// A test load of which the job's own run has not finished: the word, what that run counts, and 0 for all of the second run.
+pub fn write_unfinished(own: Counts, answer: &mut [u64; 10])
+    ensures { λ _. ⌜ now (answer .exit) ≡ sets (now (answer .entry)) 0 (unfinishedWords own) ⌝ }
+{
+    answer[0] = pair_number(PairWord::Undecided);
+    write_counts(own, &mut answer[..], 1);
+    answer[5] = 0;
+    answer[6] = 0;
+    answer[7] = 0;
+    answer[8] = 0;
+    answer[9] = 0;
+}
+
+// A test load whose new state was run: the word, what each run counts, and 1.
+pub fn write_test_load(w: PairWord, first: Counts, second: Counts, answer: &mut [u64; 10])
+    ensures { λ _. ⌜ now (answer .exit) ≡ sets (now (answer .entry)) 0 (testLoadWords w first second) ⌝ }
+{
+    answer[0] = pair_number(w);
+    write_counts(first, &mut answer[..], 1);
+    write_counts(second, &mut answer[..], 5);
+    answer[9] = 1;
 }
 
 // The bytes and the instructions of a program that was read from a text.

@@ -33,8 +33,3 @@ number-next (suc k) rest h =
 pub number-over : (rest : ℕ) → bytesOf 0 rest ≡ []
 unfolding bytesOf
 number-over rest = refl
-
-pub number-length : (k n : ℕ) → length (bytesOf k n) ≡ k
-unfolding bytesOf
-number-length zero n = refl
-number-length (suc k) n = ap suc (number-length k (n / 256))

@@ -6,8 +6,8 @@ use Prim.Native.Nat.{ℕ, zero, suc, _/_, _%_, _<_}
 use native.Mathlib.Omega.{arith}
 use lib.ListN.{length, take, drop}
 use lib.Seq.{take-length}
-use Rattle.rules.specs.Rules.Encoding.{bytesOf}
-use Rattle.rules.specs.Cases.Files.{wordBytes, zeros, trailerBytes, file}
+use Rattle.rules.specs.Rules.Encoding.{bytesOf, wordBytes}
+use Rattle.rules.specs.Cases.Files.{zeros, trailerBytes, file}
 use Rattle.rules.specs.Cases.Document01.{printedProgram, barrierProgram, state, public, job}
 use Rattle.cases.specs.Jobs.{stores, laidOut, nestedWith, manyCells}
 

@@ -15,10 +15,12 @@ use Rattle.rules.specs.declared.Refusal.the-variants as refusals
 use Rattle.rules.specs.declared.RunAnswer.{RunAnswer}
 use Rattle.rules.specs.declared.PlainAnswer.{PlainAnswer}
 use Rattle.rules.specs.declared.PairAnswer.the-variants as pairs
+use Rattle.rules.specs.declared.TestLoadAnswer.the-variants as tests
 use Rattle.rules.specs.Rules.Runs.{mispredictingRun, plainRun}
 use Rattle.rules.specs.Rules.JobFile.{rejected, parse, locations, publicOf}
 use Rattle.rules.specs.Rules.Calls.{Areas, Called, lent, workingWords, room, longEnough, areasAfter, runReport, runRefused, runParsed, runCall, plainReport, plainRefused, plainParsed, plainCall}
 use Rattle.rules.specs.Rules.Pairs.{PairAreas, pairRefused, pairParsed, pairCall}
+use Rattle.rules.specs.Rules.TestLoads.{TestLoadAreas, testLoadRefused, testLoadParsed, testLoadCall}
 use Rattle.rules.specs.Rules.Demands.{Exact}
 use Rattle.job.specs.Answers.{Accepts}
 use Rattle.execution.specs.declared.Mode.the-variants as modes
@@ -87,3 +89,8 @@ pub pair-rejected : (bs second : List ℕ) (n : Refusal) → parse bs ≡ reject
     → Exact (pairCall bs second a) (pairs.Refused n) a
 unfolding pairCall pairParsed pairRefused
 pair-rejected bs second n p a = rw (p, pairParsed) (record { answer = refl; areas = refl })
+
+pub test-load-rejected : (bs : List ℕ) (seed : ℕ) (n : Refusal) → parse bs ≡ rejected n → (a : TestLoadAreas)
+    → Exact (testLoadCall bs seed a) (tests.Refused n) a
+unfolding testLoadCall testLoadParsed testLoadRefused
+test-load-rejected bs seed n p a = rw (p, testLoadParsed) (record { answer = refl; areas = refl })

@@ -2,7 +2,8 @@
 //
 // What each call promises, for every input, is one record of crates/rules/specs/Rules/Promises.antt, which says each field:
 //   exact (demands 1 and 2), unaltered (demand 1), and for `run` plainly (demand 2) and secret (demand 3); for `compare` meaning,
-//   what the words on a pair say.
+//   what the words on a pair say. `test_load` has TestLoadPromises.antt: compared (the plain trace of the new state is the job's, and the
+//   pair is checked) and unfinished.
 use execution::Mode;
 use execution::Ran;
 use job::JobOutcome;
@@ -14,12 +15,14 @@ use rules::PlainOutcome;
 use rules::Refusal;
 use rules::RunAnswer;
 use rules::RunOutcome;
+use rules::TestLoadAnswer;
 use rules::Trailer;
 ghost use mathlib.Core.Path.{_≡_};
 ghost use Rattle.rules.specs.Rules.JobFile.{publicOf};
 ghost use Rattle.rules.specs.Rules.Calls.{runRefused, plainRefused, runCall, plainCall};
 ghost use Rattle.rules.specs.Rules.Demands.{Exact};
 ghost use Rattle.rules.specs.Rules.Promises.{RunPromise, PlainPromise, PairPromise, areasAtEntry, areasAtExit, pairAtEntry, pairAtExit};
+ghost use Rattle.rules.specs.Rules.TestLoadPromises.{TestLoadPromise, testLoadAtEntry, testLoadAtExit};
 ghost use Rattle.job.specs.Answers.{Accepts};
 ghost use Rattle.checker.specs.Reports.{answerOf, plainAnswerOf};
 
@@ -163,5 +166,35 @@ pub fn compare(
             &mut work[..],
         ),
         JobOutcome::Refused(n) => PairAnswer::Refused(n),
+    }
+}
+
+// A test load: where the job's own run finishes, a new state is made from the seed and the pair of the two is checked.
+pub fn test_load(
+    job: &[u8],
+    seed: u64,
+    first_trace: &mut [u64],
+    second_trace: &mut [u64],
+    work: &mut [u64],
+    state: &mut [u8],
+) -> TestLoadAnswer
+    ensures { λ r. ⌜ TestLoadPromise (now (job .entry)) seed (testLoadAtEntry «first_trace» «second_trace» work state) r
+        (testLoadAtExit «first_trace» «second_trace» work state) ⌝ }
+{
+    let read = job::read_job(job);
+    let outcome = read.outcome;
+    let public = read.public;
+    match outcome {
+        JobOutcome::Accepted(t) => test_load::test_accepted(
+            job,
+            t,
+            public,
+            seed,
+            first_trace,
+            second_trace,
+            work,
+            state,
+        ),
+        JobOutcome::Refused(n) => TestLoadAnswer::Refused(n),
     }
 }

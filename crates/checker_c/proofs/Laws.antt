@@ -16,17 +16,21 @@ use Rattle.rules.specs.declared.PlainAnswer.{PlainAnswer}
 use Rattle.rules.specs.declared.PairWord.{PairWord}
 use Rattle.rules.specs.declared.PairAnswer.{PairAnswer}
 use Rattle.rules.specs.declared.PairAnswer.the-variants as pairs
+use Rattle.rules.specs.declared.TestLoadAnswer.{TestLoadAnswer}
+use Rattle.rules.specs.declared.TestLoadAnswer.the-variants as tests
 use Rattle.rules.specs.declared.ReadAnswer.{ReadAnswer}
 use Rattle.rules.specs.declared.ReadAnswer.the-variants as reads
 use Rattle.rules.specs.declared.PrintAnswer.{PrintAnswer}
 use Rattle.rules.specs.declared.PrintAnswer.the-variants as prints
-use Rattle.rules.specs.Rules.Answers.{refusalNumber, runRefusal, plainRefusal, pairRefusal, readRefusal, printRefusal}
+use Rattle.rules.specs.Rules.Answers.{refusalNumber, runRefusal, plainRefusal, pairRefusal, testLoadRefusal, readRefusal, printRefusal}
 use Rattle.rules.specs.Rules.Calls.{Areas}
 use Rattle.rules.specs.Rules.Pairs.{PairAreas}
 use Rattle.rules.specs.Rules.Promises.{RunPromise, PlainPromise, PairPromise}
 use Rattle.rules.specs.Rules.TextPromises.{ReadPromise, PrintPromise}
+use Rattle.rules.specs.Rules.TestLoads.{TestLoadAreas}
+use Rattle.rules.specs.Rules.TestLoadPromises.{TestLoadPromise}
 use Rattle.answer_words.specs.Words.{runWords, plainWords, pairWords, readWords, printWords, runAnswerWords, plainAnswerWords, pairAnswerWords}
-use Rattle.answer_words.specs.Words.{readAnswerWords, printAnswerWords}
+use Rattle.answer_words.specs.Words.{unfinishedWords, testLoadWords, testLoadAnswerWords, readAnswerWords, printAnswerWords}
 use Rattle.checker_c.specs.Calls.{Returns}
 
 -- ---- any call, with an answer a for which its promise holds: it was carried out, or refused
@@ -79,6 +83,20 @@ module _ {f second : List ℕ} {lent left : PairAreas} {a : PairAnswer} (h : Pai
       → after ≡ sets before 0 (pairWords w c d)
       → Returns pairRefusal pairAnswerWords before 0 after (λ x. PairPromise f second lent x left)
   pair-returned e ew = carried-out a h (rw e) (rw e ew)
+
+module _ {f : List ℕ} {seed : ℕ} {lent left : TestLoadAreas} {a : TestLoadAnswer} (h : TestLoadPromise f seed lent a left) {before : List ℕ} where
+  pub test-load-refused : {n : Refusal} {r : ℕ} → a ≡ tests.Refused n → r ≡ refusalNumber n
+      → Returns testLoadRefusal testLoadAnswerWords before r before (λ x. TestLoadPromise f seed lent x left)
+  test-load-refused e = refused a h (rw e) (rw e)
+
+  pub unfinished-returned : {c : Counts} {after : List ℕ} → a ≡ tests.Undecided c → after ≡ sets before 0 (unfinishedWords c)
+      → Returns testLoadRefusal testLoadAnswerWords before 0 after (λ x. TestLoadPromise f seed lent x left)
+  unfinished-returned e ew = carried-out a h (rw e) (rw e ew)
+
+  pub test-load-returned : {w : PairWord} {c d : Counts} {after : List ℕ} → a ≡ tests.Compared w c d
+      → after ≡ sets before 0 (testLoadWords w c d)
+      → Returns testLoadRefusal testLoadAnswerWords before 0 after (λ x. TestLoadPromise f seed lent x left)
+  test-load-returned e ew = carried-out a h (rw e) (rw e ew)
 
 module _ {text lent left : List ℕ} {a : ReadAnswer} (h : ReadPromise text lent a left) {before : List ℕ} where
   pub read-refused : {n : Refusal} {r : ℕ} → a ≡ reads.Refused n → r ≡ refusalNumber n

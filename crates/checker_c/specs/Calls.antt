@@ -8,11 +8,12 @@ use denote.Ref.{now}
 use Rattle.rules.specs.declared.RunAnswer.{RunAnswer}
 use Rattle.rules.specs.declared.PlainAnswer.{PlainAnswer}
 use Rattle.rules.specs.declared.PairAnswer.{PairAnswer}
+use Rattle.rules.specs.declared.TestLoadAnswer.{TestLoadAnswer}
 use Rattle.rules.specs.declared.ReadAnswer.{ReadAnswer}
 use Rattle.rules.specs.declared.PrintAnswer.{PrintAnswer}
-use Rattle.rules.specs.Rules.Answers.{runRefusal, plainRefusal, pairRefusal, readRefusal, printRefusal}
+use Rattle.rules.specs.Rules.Answers.{runRefusal, plainRefusal, pairRefusal, testLoadRefusal, readRefusal, printRefusal}
 use Rattle.rules.specs.Rules.Promises.{LentArea}
-use Rattle.answer_words.specs.Words.{runAnswerWords, plainAnswerWords, pairAnswerWords, readAnswerWords, printAnswerWords}
+use Rattle.answer_words.specs.Words.{runAnswerWords, plainAnswerWords, pairAnswerWords, testLoadAnswerWords, readAnswerWords, printAnswerWords}
 
 -- The number r is the refusal number of an answer for which the promise holds, and that answer's words stand from the first word on;
 -- a refusal leaves every word as it was. `before` and `after` are the words of the answer's area.
@@ -32,6 +33,9 @@ PlainReturns answer r Promise = Returns plainRefusal plainAnswerWords (now (answ
 
 abbrev pub PairReturns : LentArea → ℕ → (PairAnswer → Type 0) → Type 0
 PairReturns answer r Promise = Returns pairRefusal pairAnswerWords (now (answer .entry)) r (now (answer .exit)) Promise
+
+abbrev pub TestLoadReturns : LentArea → ℕ → (TestLoadAnswer → Type 0) → Type 0
+TestLoadReturns answer r Promise = Returns testLoadRefusal testLoadAnswerWords (now (answer .entry)) r (now (answer .exit)) Promise
 
 abbrev pub ReadReturns : LentArea → ℕ → (ReadAnswer → Type 0) → Type 0
 ReadReturns answer r Promise = Returns readRefusal readAnswerWords (now (answer .entry)) r (now (answer .exit)) Promise

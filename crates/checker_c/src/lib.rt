@@ -1,16 +1,18 @@
 // The calls for C and Rust: include/checker.h says what each takes and returns. A slice is a pointer and a length.
 //
 // The number and the words that each call returns are those of an answer for which the promise of the call that it makes holds, for
-// every input: demands 1 to 3, the meaning of the words on a pair, and that a printed text restores its program. A refusal leaves the
-// answer's words as they were.
+// every input: demands 1 to 3, the meaning of the words on a pair, what a test load claims of its new state, and that a printed text
+// restores its program. A refusal leaves the answer's words as they were.
 use rules::PairAnswer;
 use rules::PlainOutcome;
 use rules::PrintAnswer;
 use rules::ReadAnswer;
 use rules::RunOutcome;
+use rules::TestLoadAnswer;
 ghost use Rattle.rules.specs.Rules.Promises.{RunPromise, PlainPromise, PairPromise, areasAtEntry, areasAtExit, pairAtEntry, pairAtExit};
 ghost use Rattle.rules.specs.Rules.TextPromises.{ReadPromise, PrintPromise};
-ghost use Rattle.checker_c.specs.Calls.{RunReturns, PlainReturns, PairReturns, ReadReturns, PrintReturns};
+ghost use Rattle.rules.specs.Rules.TestLoadPromises.{TestLoadPromise, testLoadAtEntry, testLoadAtExit};
+ghost use Rattle.checker_c.specs.Calls.{RunReturns, PlainReturns, PairReturns, TestLoadReturns, ReadReturns, PrintReturns};
 
 #[no_mangle]
 pub extern "C" fn checker_run(
@@ -82,6 +84,40 @@ pub extern "C" fn checker_compare(
         PairAnswer::Refused(n) => answer_words::refusal_number(n),
         PairAnswer::Compared(w, c, d) => {
             answer_words::write_pair(w, c, d, answer);
+            0
+        }
+    }
+}
+
+#[no_mangle]
+pub extern "C" fn checker_test_load(
+    job: &[u8],
+    seed: u64,
+    first_trace: &mut [u64],
+    second_trace: &mut [u64],
+    work: &mut [u64],
+    state: &mut [u8],
+    answer: &mut [u64; 10],
+) -> u32
+    ensures { λ r. ⌜ TestLoadReturns answer r
+        (λ x. TestLoadPromise (now (job .entry)) seed (testLoadAtEntry «first_trace» «second_trace» work state) x
+        (testLoadAtExit «first_trace» «second_trace» work state)) ⌝ }
+{
+    match checker::test_load(
+        job,
+        seed,
+        &mut first_trace[..],
+        &mut second_trace[..],
+        &mut work[..],
+        &mut state[..],
+    ) {
+        TestLoadAnswer::Refused(n) => answer_words::refusal_number(n),
+        TestLoadAnswer::Undecided(c) => {
+            answer_words::write_unfinished(c, answer);
+            0
+        }
+        TestLoadAnswer::Compared(w, c, d) => {
+            answer_words::write_test_load(w, c, d, answer);
             0
         }
     }

@@ -8,7 +8,8 @@ ghost use mathlib.Core.Path.{_≡_};
 ghost use Rattle.rules.specs.Rules.Runs.{isFinished, judge};
 ghost use Rattle.judgement.specs.Words.{pairWordOf};
 
-fn finished(stop: Stop) -> bool
+// Whether a run has finished: it is at END with nothing open, neither spent nor trace full.
+pub fn finished(stop: Stop) -> bool
     ensures { λ r. ⌜ r ≡ isFinished stop ⌝ }
 {
     match stop {

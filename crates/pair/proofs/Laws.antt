@@ -6,22 +6,24 @@ use mathlib.Core.List.{List}
 use Prim.{⊥}
 use Prim.Native.Nat.{ℕ, _-_, _*_, _/_, _<_, _≤_}
 use native.Mathlib.Omega.{arith}
-use borrow.Author.Tests.{eq-eqb, ne-eqb, le-leb, lt-leb}
+use borrow.Author.Tests.{eq-eqb, ne-eqb, eqb-true, le-leb, lt-leb, leb-true}
+use lib.Dec.{eqb, leb}
 use lib.ListN.{length, take, drop, replicate}
 use lib.Seq.{take-at}
 use Rattle.location.specs.declared.LocationSet.{LocationSet}
+use Rattle.location.specs.SetLaws.{and-left, and-right}
 use Rattle.rules.specs.declared.Trailer.{Trailer}
 use Rattle.rules.specs.declared.Counts.{Counts}
 use Rattle.rules.specs.declared.Refusal.{Refusal}
 use Rattle.rules.specs.declared.Refusal.the-variants as refusals
 use Rattle.rules.specs.declared.PairWord.{PairWord}
-use Rattle.rules.specs.declared.PairAnswer.{PairAnswer}
 use Rattle.rules.specs.declared.PairAnswer.the-variants as answers
 use Rattle.rules.specs.Rules.Instructions.{Observation}
-use Rattle.rules.specs.Rules.Runs.{Job, Result, mispredictingRun}
-use Rattle.rules.specs.Rules.JobFile.{locations, wordsAt}
+use Rattle.rules.specs.Rules.Runs.{Job, mispredictingRun}
+use Rattle.rules.specs.Rules.JobFile.{accepted, parse, locations, publicOf, wordsAt}
 use Rattle.rules.specs.Rules.Calls.{traceWords, written, workingWords, room, counts}
-use Rattle.rules.specs.Rules.Pairs.{withState, alikeFrom, PairAreas, pairLent, pairAfter, pairRefused, secondFits, pairFits, pairAccepted, pairParsed, pairCall}
+use Rattle.rules.specs.Rules.Pairs.{withState, alikeFrom, pairWord, PairAreas, pairLent, pairAfter, pairRefused, secondFits, pairFits, pairAccepted}
+use Rattle.rules.specs.Rules.Pairs.{pairParsed, pairCall}
 use Rattle.rules.specs.Rules.Demands.{Exact}
 use Rattle.rules.specs.Theorems.RunLaws.{mispredicting-trace}
 use Rattle.rules.specs.Theorems.CallLaws.{length-traceWords}
@@ -35,7 +37,35 @@ use Rattle.job_run.specs.Accepted.{accepted-size, accepted-public, accepted-ini
 use Rattle.job_run.specs.JobRuns.{RunOf}
 use Rattle.job_run.proofs.Laws.{same-part, cleared-same, own-run}
 use Rattle.judgement.specs.Words.{pairWordOf, word-same}
-use Rattle.pair.specs.Runs.{comparedOf, Comparable}
+use Rattle.pair.specs.declared.SecondRun.{SecondRun}
+use Rattle.pair.specs.Runs.{wordOn, Ready, Comparable, LeftBy, OwnRan, SecondOf, SecondRan}
+
+-- ---- the areas
+module _ (a b w : List ℕ) where
+  pub work-short : length w < workingWords → false ≡ pairFits (pairLent a b w)
+  unfolding pairFits
+  work-short h = sym (rw (lt-leb workingWords (length w) h))
+
+  pub traces-decide : workingWords ≤ length w → eqb (length a) (length b) ≡ pairFits (pairLent a b w)
+  unfolding pairFits
+  traces-decide h = sym (rw (le-leb workingWords (length w) h))
+
+  pub areas-enough : workingWords ≤ length w → length a ≡ length b → pairFits (pairLent a b w) ≡ true
+  unfolding pairFits
+  areas-enough h e = rw (le-leb workingWords (length w) h, eq-eqb (length a) (length b) e)
+
+  fit-work : pairFits (pairLent a b w) ≡ true → workingWords ≤ length w
+  unfolding pairFits
+  fit-work h = leb-true workingWords (length w) (and-left (leb workingWords (length w)) (eqb (length a) (length b)) h)
+
+  fit-traces : pairFits (pairLent a b w) ≡ true → length a ≡ length b
+  unfolding pairFits
+  fit-traces h = eqb-true (length a) (length b) (and-right (leb workingWords (length w)) (eqb (length a) (length b)) h)
+
+-- an accepted job, in areas that fit
+pub ready-by : {bs : List ℕ} {t : Trailer} {public : LocationSet} → Accepts bs t → public ≡ publicOf t bs → (a b w : List ℕ)
+    → pairFits (pairLent a b w) ≡ true → Ready bs t public a b w
+ready-by k e a b w fit = record { accepts = k; listed = e; work = fit-work a b w fit; traces = fit-traces a b w fit }
 
 -- ---- a run that has ended: what it wrote fits, and stands from the front
 module _ {t : Trailer} {a w a′ : List ℕ} {r : Ran} (job : Job) (e : EndsAs t a w a′ r (mispredictingRun job (room a))) where
@@ -63,93 +93,143 @@ module _ {t : Trailer} {a w a′ : List ℕ} {r : Ran} (job : Job) (e : EndsAs t
       ap (λ (n : ℕ). take (2 * n) a′) counted ∙ ap (take (2 * length trace)) (e .trace)
       ∙ take-at (traceWords trace) _ (2 * length trace) (length-traceWords trace)
 
--- ---- the answer on two runs, of what the code has found
-pub compared-same : (bs : List ℕ) (t : Trailer) (public : LocationSet) (second a b : List ℕ) (n n′ : Counts) {word : PairWord} {alike : Bool}
+  pub same-room : room a′ ≡ room a
+  unfolding room
+  same-room = ap (λ (n : ℕ). n / 2) same-length
+
+  left-there : LeftBy (mispredictingRun job (room a′)) (r .counts) a′
+  left-there = rw same-room (record { counts = e .reports .counts; trace = observed-words })
+
+-- the job's own run, as its code has made it
+pub own-ran : {bs : List ℕ} {t : Trailer} {w w′ a a′ : List ℕ} {r : Ran} → Accepts bs t
+    → RunOf bs t modes.Mispredicting bs (t .state) w w′ a a′ r → OwnRan bs (r .counts) a′
+own-ran k o = record { left = λ job p. left-there job (own-run k modes.Mispredicting o job p) }
+
+-- after it the areas fit still
+pub ready-again : {bs : List ℕ} {t : Trailer} {public : LocationSet} {a b w w′ a′ : List ℕ} {r : Ran} → Ready bs t public a b w
+    → RunOf bs t modes.Mispredicting bs (t .state) w w′ a a′ r → Ready bs t public a′ b w′
+ready-again q o = record {
+  accepts = q .accepts;
+  listed = q .listed;
+  work = let z = o .size in let h = q .work in omega arith;
+  traces = same-length (q .accepts .job) (own-run (q .accepts) modes.Mispredicting o (q .accepts .job) (q .accepts .parsed)) ∙ q .traces;
+}
+
+-- ---- the word on two runs, of what the code has found
+pub word-found : (bs : List ℕ) (t : Trailer) (public : LocationSet) (second a b : List ℕ) (n n′ : Counts) {word : PairWord} {alike : Bool}
     → alike ≡ alikeFrom public 0 (wordsAt (locations t) bs (t .state)) (wordsAt (locations t) second 0)
     → word ≡ pairWordOf alike (n .stop) (n′ .stop) (take (2 * n .observations - 0) (drop 0 a)) (take (2 * n′ .observations - 0) (drop 0 b))
-    → answers.Compared word n n′ ≡ comparedOf bs t public second n n′ a b
-compared-same bs t public second a b n n′ ea ew =
+    → word ≡ wordOn bs t public second n n′ a b
+word-found bs t public second a b n n′ ea ew =
     rw (ew, ea, same-part (2 * n .observations) a, same-part (2 * n′ .observations) b)
 
--- ---- both runs
-module _ {bs : List ℕ} {t : Trailer} {public : LocationSet} {second a b w w₁ w₂ a′ b′ : List ℕ} {r r′ : Ran}
-    (q : Comparable bs t public second a b w) (o : RunOf bs t modes.Mispredicting bs (t .state) w w₁ a a′ r)
-    (o′ : RunOf bs t modes.Mispredicting second 0 w₁ w₂ b b′ r′) where
-  abbrev job : Job
-  job = q .accepts .job
-
+-- ---- the second run
+module _ {bs : List ℕ} {t : Trailer} {public : LocationSet} {second a b w w₁ b′ : List ℕ} {c : Counts} {r : Ran}
+    (q : Comparable bs t public second a b w) (own : OwnRan bs c a) (o : RunOf bs t modes.Mispredicting second 0 w w₁ b b′ r) where
   -- the words of the second state
   abbrev vs : List ℕ
-  vs = wordsAt (length (job .init)) second 0
+  vs = wordsAt (locations t) second 0
+
+  rooms : room b ≡ room a
+  unfolding room
+  rooms = ap (λ (n : ℕ). n / 2) (sym (q .ready .traces))
+
+  module _ (job : Job) (p : parse bs ≡ accepted job) where
+    abbrev known : Accepts bs t
+    known = record { job = job; parsed = p; trailer = q .ready .accepts .trailer }
+
+    abbrev other : Job
+    other = withState job vs
+
+    second-ends : EndsAs t b w₁ b′ r (mispredictingRun other (room b))
+    second-ends = o .ran job p
+
+    -- with the room of the first area
+    second-counts : r .counts ≡ counts (mispredictingRun other (room a))
+    second-counts = second-ends .reports .counts ∙ ap (λ (k : ℕ). counts (mispredictingRun other k)) rooms
+
+    second-trace : take (2 * r .counts .observations) b′ ≡ traceWords (mispredictingRun other (room a) .gathered .trace)
+    second-trace = observed-words other second-ends ∙ ap (λ (k : ℕ). traceWords (mispredictingRun other k .gathered .trace)) rooms
+
+    -- the word is that of the rules' two runs
+    same-word : wordOn bs t public second c (r .counts) a b′ ≡ pairWord job vs (room a)
+    unfolding counts
+    same-word =
+        let l = own .left job p in
+        let n = second-counts in
+        (λ i. pairWordOf (alikeFrom ((q .ready .listed ∙ accepted-public known) i) 0 (accepted-init known i) vs) (l .counts i .stop) (n i .stop)
+        (l .trace i) (second-trace i))
+        ∙ word-same job vs (room a)
+
+    second-of : {word : PairWord} → word ≡ wordOn bs t public second c (r .counts) a b′
+        → SecondOf job vs (room a) b b′ (record { word = word; counts = r .counts })
+    second-of er = record {
+      word = er ∙ same-word;
+      counts = second-counts;
+      trace = second-ends .trace ∙ ap (λ (k : ℕ). written (traceWords (mispredictingRun other k .gathered .trace)) b) rooms;
+    }
+
+  pub first-fits : 2 * c .observations ≤ length a
+  unfolding room counts
+  first-fits =
+      let job = q .ready .accepts .job in
+      let l = own .left job (q .ready .accepts .parsed) in
+      let n : c .observations ≡ length (mispredictingRun job (room a) .gathered .trace) = ap (λ (x : Counts). x .observations) (l .counts) in
+      let m = mispredicting-trace job (room a) in omega arith
+
+  pub second-fits : 2 * r .counts .observations ≤ length b′
+  second-fits =
+      let k = q .ready .accepts in
+      observed-fits (other (k .job) (k .parsed)) (second-ends (k .job) (k .parsed))
+
+  pub second-ran : {w₂ : List ℕ} {word : PairWord} → w₂ ≡ written (replicate workingWords 0) w₁
+      → word ≡ wordOn bs t public second c (r .counts) a b′
+      → SecondRan bs t second (room a) b w b′ w₂ (record { word = word; counts = r .counts })
+  second-ran ew er = record {
+    ran = λ job p. second-of job p er;
+    work = ew ∙ cleared-same workingWords w₁ w (o .past);
+  }
+
+-- ---- both runs
+module _ {bs : List ℕ} {t : Trailer} {public : LocationSet} {second a b w w₁ w₂ a′ b′ : List ℕ} {r : Ran} {s : SecondRun}
+    (q : Comparable bs t public second a b w) (o : RunOf bs t modes.Mispredicting bs (t .state) w w₁ a a′ r)
+    (x : SecondRan bs t second (room a′) b w₁ b′ w₂ s) where
+  abbrev accepts : Accepts bs t
+  accepts = q .ready .accepts
+
+  abbrev job : Job
+  job = accepts .job
 
   abbrev areas : PairAreas
   areas = pairLent a b w
 
   compares : Pairs bs second areas
-  unfolding secondFits pairFits
+  unfolding secondFits
   compares = record {
     job = job;
-    parsed = q .accepts .parsed;
-    sized = eq-eqb (length second) (8 * length (job .init)) (let z = accepted-size (q .accepts) in let s = q .sized in omega arith);
-    enough = rw (le-leb workingWords (length w) (q .work), eq-eqb (length a) (length b) (q .traces));
+    parsed = accepts .parsed;
+    sized = eq-eqb (length second) (8 * length (job .init)) (let z = accepted-size accepts in let s = q .sized in omega arith);
+    enough = areas-enough a b w (q .ready .work) (q .ready .traces);
   }
 
-  first-ran : EndsAs t a w₁ a′ r (mispredictingRun job (room a))
-  first-ran = own-run (q .accepts) modes.Mispredicting o job (q .accepts .parsed)
+  first-ends : EndsAs t a w₁ a′ r (mispredictingRun job (room a))
+  first-ends = own-run accepts modes.Mispredicting o job (accepts .parsed)
 
-  second-words : wordsAt (locations t) second 0 ≡ vs
-  second-words = ap (λ (n : ℕ). wordsAt n second 0) (sym (accepted-size (q .accepts)))
+  -- the words of the second state
+  abbrev words : List ℕ
+  words = wordsAt (length (job .init)) second 0
 
-  second-ran : EndsAs t b w₂ b′ r′ (mispredictingRun (withState job vs) (room b))
-  second-ran = rw second-words at (o′ .ran job (q .accepts .parsed))
+  second-there : SecondOf job words (room a) b b′ s
+  second-there = rw (← accepted-size accepts, same-room job first-ends) at (x .ran job (accepts .parsed))
 
-  same-room : room b ≡ room a
-  unfolding room
-  same-room = ap (λ (n : ℕ). n / 2) (sym (q .traces))
-
-  pub first-fits : 2 * r .counts .observations ≤ length a′
-  first-fits = observed-fits job first-ran
-
-  pub second-fits : 2 * r′ .counts .observations ≤ length b′
-  second-fits = observed-fits (withState job vs) second-ran
-
-  abbrev run₁ : Result
-  run₁ = mispredictingRun job (room a)
-
-  abbrev run₂ : Result
-  run₂ = mispredictingRun (withState job vs) (room b)
-
-  -- the answer is that of the rules' two runs
-  answer-same : comparedOf bs t public second (r .counts) (r′ .counts) a′ b′
-      ≡ answers.Compared
-      (pairWordOf (alikeFrom (job .public) 0 (job .init) vs) (run₁ .stop) (run₂ .stop) (traceWords (run₁ .gathered .trace))
-      (traceWords (run₂ .gathered .trace)))
-      (counts run₁) (counts run₂)
-  unfolding counts
-  answer-same =
-      let p = q .listed ∙ accepted-public (q .accepts) in
-      let n = first-ran .reports .counts in
-      let n′ = second-ran .reports .counts in
-      λ i. answers.Compared
-      (pairWordOf (alikeFrom (p i) 0 (accepted-init (q .accepts) i) (second-words i)) (n i .stop) (n′ i .stop)
-      (observed-words job first-ran i) (observed-words (withState job vs) second-ran i))
-      (n i) (n′ i)
-
-  pub exact-compared : {x : PairAnswer} {w₃ : List ℕ} → w₃ ≡ written (replicate workingWords 0) w₂
-      → x ≡ comparedOf bs t public second (r .counts) (r′ .counts) a′ b′
-      → Exact (pairCall bs second (pairLent a b w)) x (pairLent a′ b′ w₃)
+  pub exact-compared : Exact (pairCall bs second (pairLent a b w)) (answers.Compared (s .word) (r .counts) (s .counts)) (pairLent a′ b′ w₂)
   unfolding pairAccepted pairAfter compares
-  exact-compared ew er =
+  exact-compared =
+      let y = second-there in
       rw (pair-runs compares)
       (record {
-        answer = er ∙ rw same-room at answer-same
-            ∙ ap (λ (word : PairWord). answers.Compared word (counts run₁) (counts (mispredictingRun (withState job vs) (room a))))
-            (word-same job vs (room a));
-        areas = λ i. record {
-          first = first-ran .trace i;
-          second = (rw same-room at (second-ran .trace)) i;
-          work = (ew ∙ cleared-same workingWords w₂ w (o′ .past ∙ o .past)) i;
-        };
+        answer = λ i. answers.Compared (y .word i) (first-ends .reports .counts i) (y .counts i);
+        areas = λ i. pairLent (first-ends .trace i) (y .trace i) ((x .work ∙ cleared-same workingWords w₁ w (o .past)) i);
       })
 
 -- ---- refusals
@@ -168,22 +248,10 @@ module _ {bs : List ℕ} {t : Trailer} (k : Accepts bs t) (second a b w : List �
   unfolding pairCall pairParsed
   other-size h = refused refusals.SecondState (rw (k .parsed, unsized h, pairParsed))
 
-  module _ (s : length second ≡ 8 * locations t) where
-    sized : secondFits (k .job) second ≡ true
-    unfolding secondFits
-    sized = eq-eqb (length second) (8 * length (k .job .init)) (let z = accepted-size k in omega arith)
-
-    unfit : pairFits (pairLent a b w) ≡ false
-        → Exact (pairCall bs second (pairLent a b w)) (answers.Refused refusals.Areas) (pairLent a b w)
-    unfolding pairCall pairParsed
-    unfit h = refused refusals.Areas (rw (k .parsed, sized, h, pairParsed))
-
-    pub short-work : length w < workingWords
-        → Exact (pairCall bs second (pairLent a b w)) (answers.Refused refusals.Areas) (pairLent a b w)
-    unfolding pairFits
-    short-work h = unfit (rw (lt-leb workingWords (length w) h))
-
-    pub unequal-traces : workingWords ≤ length w → (length a ≡ length b → ⊥)
-        → Exact (pairCall bs second (pairLent a b w)) (answers.Refused refusals.Areas) (pairLent a b w)
-    unfolding pairFits
-    unequal-traces h u = unfit (rw (le-leb workingWords (length w) h, ne-eqb (length a) (length b) u))
+  pub unfit : length second ≡ 8 * locations t → pairFits (pairLent a b w) ≡ false
+      → Exact (pairCall bs second (pairLent a b w)) (answers.Refused refusals.Areas) (pairLent a b w)
+  unfolding pairCall pairParsed secondFits
+  unfit s h =
+      let z = accepted-size k in
+      let e : secondFits (k .job) second ≡ true = eq-eqb (length second) (8 * length (k .job .init)) (omega arith) in
+      refused refusals.Areas (rw (k .parsed, e, h, pairParsed))

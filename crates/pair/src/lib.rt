@@ -1,20 +1,29 @@
-// The pair of states: both runs of an accepted job, and the answer on them.
+// The pair of states: both runs of an accepted job, and the answer on them. The second run is a function of its own, as a test load
+// makes the second state once it has seen the first run.
 use execution::Mode;
 use location::LocationSet;
 use rules::Counts;
 use rules::PairAnswer;
+use rules::PairWord;
 use rules::Refusal;
 use rules::Trailer;
 ghost use mathlib.Core.Path.{_≡_};
 ghost use Rattle.rules.specs.Rules.JobFile.{publicOf};
-ghost use Rattle.rules.specs.Rules.Pairs.{pairCall};
+ghost use Rattle.rules.specs.Rules.Calls.{room};
+ghost use Rattle.rules.specs.Rules.Pairs.{pairLent, pairFits, pairCall};
 ghost use Rattle.rules.specs.Rules.Demands.{Exact};
 ghost use Rattle.rules.specs.Rules.Promises.{pairAtEntry, pairAtExit};
 ghost use Rattle.job.specs.Answers.{Accepts};
-ghost use Rattle.pair.specs.Runs.{BothRan, comparedOf, Comparable};
+ghost use Rattle.pair.specs.Runs.{BothRan, wordOn, Comparable, OwnRan, SecondRan};
 
-// The answer on two runs that have been made, by the traces that they have written.
-fn compared(
+// The second run of a pair: the word on the pair, and what the run counts.
+pub struct SecondRun {
+    pub word: PairWord,
+    pub counts: Counts,
+}
+
+// The word on two runs that have been made, by the traces that they have written.
+fn word_on(
     job: &[u8],
     t: Trailer,
     public: LocationSet,
@@ -23,9 +32,9 @@ fn compared(
     d: Counts,
     first_trace: &[u64],
     second_trace: &[u64],
-) -> PairAnswer
+) -> PairWord
     requires { ⌜ BothRan (now job) t (now second) c d (now «first_trace») (now «second_trace») ⌝ }
-    ensures { λ x. ⌜ x ≡ comparedOf (now (job .entry)) t public (now (second .entry)) c d
+    ensures { λ x. ⌜ x ≡ wordOn (now (job .entry)) t public (now (second .entry)) c d
         (now («first_trace» .entry)) (now («second_trace» .entry)) ⌝ }
 {
     let n = t.locations();
@@ -34,14 +43,38 @@ fn compared(
     let second_stop = d.stop;
     let k = 2 * c.observations;
     let l = 2 * d.observations;
-    let word = judgement::pair_word(
+    judgement::pair_word(
         alike,
         first_stop,
         second_stop,
         &first_trace[0..k],
         &second_trace[0..l],
-    );
-    PairAnswer::Compared(word, c, d)
+    )
+}
+
+// The run with a second state, once the job's own has been made: c are its counts, and its trace stands in the first area. The working
+// words are cleared.
+pub fn run_second(
+    job: &[u8],
+    t: Trailer,
+    public: LocationSet,
+    second: &[u8],
+    c: Counts,
+    first_trace: &[u64],
+    second_trace: &mut [u64],
+    work: &mut [u64],
+) -> SecondRun
+    requires { ⌜ Comparable (now job) t public (now second) (now «first_trace») (now «second_trace») (now work)
+        × OwnRan (now job) c (now «first_trace») ⌝ }
+    ensures { λ r. ⌜ SecondRan (now (job .entry)) t (now (second .entry)) (room (now («first_trace» .entry)))
+        (now («second_trace» .entry)) (now (work .entry)) (now («second_trace» .exit)) (now (work .exit)) r ⌝ }
+{
+    let m = Mode::Mispredicting;
+    let s = job_run::run_state(job, t, m, second, 0, &mut work[..], &mut second_trace[..]);
+    work::clear(&mut work[..]);
+    let d = s.counts;
+    let word = word_on(job, t, public, second, c, d, first_trace, &second_trace[..]);
+    SecondRun { word, counts: d }
 }
 
 // Both runs are made, and both traces written, whatever the word is.
@@ -60,18 +93,30 @@ fn compare_runs(
 {
     let m = Mode::Mispredicting;
     let r = job_run::run_state(job, t, m, job, t.state, &mut work[..], &mut first_trace[..]);
-    let s = job_run::run_state(job, t, m, second, 0, &mut work[..], &mut second_trace[..]);
-    work::clear(&mut work[..]);
-    compared(
+    let c = r.counts;
+    let s = run_second(
         job,
         t,
         public,
         second,
-        r.counts,
-        s.counts,
+        c,
         &first_trace[..],
-        &second_trace[..],
-    )
+        &mut second_trace[..],
+        &mut work[..],
+    );
+    let word = s.word;
+    let d = s.counts;
+    PairAnswer::Compared(word, c, d)
+}
+
+// Whether the working area is long enough and both trace areas have one length.
+pub fn areas_fit(first_trace: &[u64], second_trace: &[u64], work: &[u64]) -> bool
+    ensures { λ r. ⌜ r ≡ pairFits (pairLent (now («first_trace» .entry)) (now («second_trace» .entry)) (now (work .entry))) ⌝ }
+{
+    if work.len() < work::WORDS {
+        return false;
+    }
+    first_trace.len() == second_trace.len()
 }
 
 // The pair of an accepted job: too short or unequal areas and a second state of another size are refused before anything is written.
@@ -89,13 +134,10 @@ pub fn compare_accepted(
         (pairAtExit «first_trace» «second_trace» work) ⌝ }
 {
     let n = t.locations();
-    if second.len() != 8 * n {
+    if second.len() != transfer::WORD_BYTES * n {
         return PairAnswer::Refused(Refusal::SecondState);
     }
-    if work.len() < work::WORDS {
-        return PairAnswer::Refused(Refusal::Areas);
-    }
-    if first_trace.len() != second_trace.len() {
+    if !areas_fit(&first_trace[..], &second_trace[..], &work[..]) {
         return PairAnswer::Refused(Refusal::Areas);
     }
     compare_runs(

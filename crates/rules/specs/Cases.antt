@@ -3,6 +3,7 @@ pub mod Files
 pub mod Document01
 pub mod Readings
 pub mod Refusals
+pub mod TestLoads
 pub mod Operators
 pub mod Texts
 pub mod Tables

@@ -22,3 +22,5 @@ pub mod TextReading
 pub mod TextPrinting
 pub mod TextCalls
 pub mod TextPromises
+pub mod TestLoads
+pub mod TestLoadPromises

@@ -9,6 +9,7 @@ pub mod Sizes
 pub mod Alike
 pub mod AlikeSteps
 pub mod Secrecy
+pub mod PlainSecrecy
 pub mod Readers
 pub mod JobLaws
 pub mod FileBounds
@@ -33,3 +34,6 @@ pub mod Decoded
 pub mod TextFits
 pub mod TextAccepted
 pub mod TextPromises
+pub mod EncodedWords
+pub mod NewStates
+pub mod TestLoads

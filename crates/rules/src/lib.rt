@@ -39,7 +39,7 @@ pub enum PairWord {
     Equal,
 }
 
-// The causes of refusal, in the order in which they are tested.
+// The causes of refusal, in the order of their numbers.
 pub enum Refusal {
     Length,
     Trailer,
@@ -53,6 +53,7 @@ pub enum Refusal {
     Areas,
     Text,
     Output,
+    Seed,
 }
 
 // The numbers of a job file's trailer: the offsets of the state and of the public list, the counts of instructions and
@@ -118,6 +119,14 @@ pub struct PlainAnswer {
 // The answer on a pair: its word and what each of the two runs counts.
 pub enum PairAnswer {
     Refused(Refusal),
+    Compared(PairWord, Counts, Counts),
+}
+
+// The answer of a test load. Undecided where the job's own run has not finished: what it counts, and no state was made. Else the word on the
+// pair of the job's state and the new one, and what each of the two runs counts.
+pub enum TestLoadAnswer {
+    Refused(Refusal),
+    Undecided(Counts),
     Compared(PairWord, Counts, Counts),
 }
 

@@ -16,10 +16,10 @@ ghost use Rattle.work.specs.Machines.{stateIn};
 ghost use Rattle.transfer.specs.Loads.{StateLoaded};
 
 // The bytes of a word in a state.
-const WORD_BYTES: usize = 8;
+pub const WORD_BYTES: usize = 8;
 
 // Word number l of those that stand at an offset of the bytes.
-fn word_at(bytes: &[u8], at: usize, l: usize) -> u64
+pub fn word_at(bytes: &[u8], at: usize, l: usize) -> u64
     requires { ⌜ at + 8 * l + 8 ≤ length (now bytes) ⌝ }
     ensures { λ r. ⌜ r ≡ little (now (bytes .entry)) (at + 8 * l) 8 ⌝ }
 {

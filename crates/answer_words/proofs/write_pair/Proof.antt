@@ -6,12 +6,10 @@ use Rattle.answer_words.proofs.write_pair.Tie as tie
 
 returns : tie.Need-returns
 returns c =
-    let at-stop-number = c .before in
-    let at-pair-number = at-stop-number .before in
-    let at-start = at-pair-number .before in
-    let a = at-start .args in
-    pair-written (a .answer .now) (a .w) (a .c) (a .d) (at-pair-number .pair-number .ensures) (at-stop-number .stop-number .ensures)
-    (c .stop-number2 .ensures)
+    let at-first = c .before .before in
+    let at-number = at-first .before .before in
+    let a = at-number .before .args in
+    pair-written (a .answer .now) (a .w) (a .c) (a .d) (at-number .pair-number .ensures) (at-first .write-counts .ensures) (c .write-counts2 .ensures)
 
 pub write-pair-spec : {M : Type 1} → statement M
 write-pair-spec =
@@ -20,13 +18,5 @@ write-pair-spec =
     (λ c κs. search needs)
     (λ c. search needs)
     (λ c κs. search needs)
-    (λ c. search needs)
-    (λ c. search needs)
-    (λ c. search needs)
-    (λ c. search needs)
     (λ c κs. search needs)
-    (λ c. search needs)
-    (λ c. search needs)
-    (λ c. search needs)
-    (λ c. search needs)
     returns)

@@ -6,10 +6,10 @@ use Rattle.answer_words.proofs.write_run.Tie as tie
 
 returns : tie.Need-returns
 returns c =
-    let at-stop-number = c .before in
-    let at-start = at-stop-number .before .before .before in
+    let at-counts = c .before in
+    let at-start = at-counts .before .before .before .before in
     let a = at-start .args in
-    run-written (a .answer .now) (a .c) (a .full) (a .plain) (a .v) (search needs) (search needs) (at-stop-number .stop-number .ensures)
+    run-written (a .answer .now) (a .c) (a .full) (a .plain) (a .v) (search needs) (search needs) (at-counts .write-counts .ensures)
     (c .verdict-number .ensures)
 
 pub write-run-spec : {M : Type 1} → statement M
@@ -17,10 +17,6 @@ write-run-spec =
     tie.close
     (tie.spec
     (λ c κs. search needs)
-    (λ c. search needs)
-    (λ c. search needs)
-    (λ c. search needs)
-    (λ c. search needs)
     (λ c. search needs)
     (λ c. search needs)
     (λ c. search needs)

@@ -4,8 +4,9 @@ use mathlib.Core.List.{[], _∷_}
 use Prim.Native.Nat.{_-_, _/_, _%_, _^_}
 use native.Mathlib.Omega.{arith}
 use Rattle.rules.specs.Rules.Encoding.{bytesOf}
+use Rattle.rules.specs.Theorems.EncodedFields.{length-bytesOf}
 use Rattle.byte_writer.specs.Texts.{Left, left-done, left-length, left-room, left-next}
-use Rattle.byte_writer.proofs.Laws.{number-next, number-over, number-length}
+use Rattle.byte_writer.proofs.Laws.{number-next, number-over}
 use Rattle.byte_writer.proofs.put_number.Statement.{statement}
 use Rattle.byte_writer.proofs.put_number.Tie as tie
 
@@ -28,7 +29,7 @@ put-byte-requires c κs =
     let v = at-loop .loop in
     let a = at-start .args in
     left-room ((v .rest % 256) ∷ []) (bytesOf (v .left - 1) (v .rest / 256)) (v .inv)
-    (number-next (v .left) (v .rest) (omega arith)) (2 ^ 64) (omega (arith, number-length (a .k) (a .n)))
+    (number-next (v .left) (v .rest) (omega arith)) (2 ^ 64) (omega (arith, length-bytesOf (a .k) (a .n)))
 
 sub-left : tie.Need-sub-left Inv-loop μ-loop
 sub-left c = omega arith

@@ -1,8 +1,7 @@
 -- `second_state` meets its contract, by computing. Assumes nothing.
 use mathlib.Core.Path.{refl}
 use borrow.Author.Needs.{needs}
-use Rattle.rules.specs.Rules.Encoding.{bytesOf}
-use Rattle.rules.specs.Cases.Files.{wordBytes}
+use Rattle.rules.specs.Rules.Encoding.{bytesOf, wordBytes}
 use Rattle.rules.specs.Cases.Document01.{state}
 use Rattle.cases.proofs.second_state.Statement.{statement}
 use Rattle.cases.proofs.second_state.Tie as tie

@@ -1,7 +1,9 @@
 -- `pair::compare_accepted` meets its contract: the refusals in their order, before anything is written. Assumes nothing.
+use mathlib.Core.Path.{sym, _∙_}
 use native.Mathlib.Omega.{arith}
+use borrow.Author.Tests.{not-true, not-false}
 use Rattle.job_run.specs.Accepted.{accepted-limits}
-use Rattle.pair.proofs.Laws.{other-size, short-work, unequal-traces}
+use Rattle.pair.proofs.Laws.{ready-by, other-size, unfit}
 use borrow.Author.Needs.{needs}
 use Rattle.pair.proofs.compare_accepted.Statement.{statement}
 use Rattle.pair.proofs.compare_accepted.Tie as tie
@@ -25,20 +27,26 @@ returns c =
 
 returns-2 : tie.Need-returns-2
 returns-2 c =
-    let at-if1 = c .before in
+    let at-fit = c .before in
+    let at-if1 = at-fit .before .before .before .before in
     let at-locations = at-if1 .before in
     let at-start = at-locations .before .before .before .before .before .before in
-    let a = at-start .args in short-work (at-start .pre .0) (a .second .now) (a .first-trace .now) (a .second-trace .now) (a .work .now)
-    (rw (at-locations .locations .ensures) at (at-if1 .if1 .left)) (c .if2 .taken)
+    let a = at-start .args in unfit (at-start .pre .0) (a .second .now) (a .first-trace .now) (a .second-trace .now) (a .work .now)
+    (rw (at-locations .locations .ensures) at (at-if1 .if1 .left)) (sym (at-fit .areas-fit .ensures) ∙ not-true _ (c .if2 .taken))
 
-returns-3 : tie.Need-returns-3
-returns-3 c =
-    let at-if2 = c .before in
-    let at-if1 = at-if2 .before in
+compare-runs-requires : tie.Need-compare-runs-requires
+compare-runs-requires c κs =
+    let at-if2 = c .before .before .before in
+    let at-fit = at-if2 .before in
+    let at-if1 = at-fit .before .before .before .before in
     let at-locations = at-if1 .before in
     let at-start = at-locations .before .before .before .before .before .before in
-    let a = at-start .args in unequal-traces (at-start .pre .0) (a .second .now) (a .first-trace .now) (a .second-trace .now) (a .work .now)
-    (rw (at-locations .locations .ensures) at (at-if1 .if1 .left)) (at-if2 .if2 .left) (c .if3 .taken)
+    let a = at-start .args in
+    let fit = sym (at-fit .areas-fit .ensures) ∙ not-false _ (at-if2 .if2 .left) in
+    record {
+      ready = ready-by (at-start .pre .0) (at-start .pre .1) (a .first-trace .now) (a .second-trace .now) (a .work .now) fit;
+      sized = rw (at-locations .locations .ensures) at (at-if1 .if1 .left);
+    }
 
 pub compare-accepted-spec : {M : Type 1} → statement M
 compare-accepted-spec =
@@ -47,9 +55,12 @@ compare-accepted-spec =
     locations-requires
     mul-if1
     returns
-    returns-2
-    returns-3
     (λ c κs. search needs)
+    (λ c. search needs)
+    (λ c. search needs)
+    (λ c. search needs)
+    returns-2
+    compare-runs-requires
     (λ c. search needs)
     (λ c. search needs)
     (λ c. search needs)

@@ -6,7 +6,8 @@ use Rattle.rules.specs.declared.Stop.the-variants.{Finished, Spent, Trac
 use Rattle.rules.specs.declared.Verdict.the-variants.{Undecided, Clean, Speculative, Plain}
 use Rattle.rules.specs.declared.PairWord.the-variants as pairs
 use Rattle.rules.specs.declared.PairAnswer.the-variants as answers
-use Rattle.rules.specs.Cases.Files.{wordBytes, zeros, file, lines, counted, ran, Row, run, pair, prints}
+use Rattle.rules.specs.Rules.Encoding.{wordBytes}
+use Rattle.rules.specs.Cases.Files.{zeros, file, lines, counted, ran, Row, run, pair, prints}
 
 -- 0 assign r2, r0 ult r1; 1 beqz r2, 4; 2 load r3, r0; 3 load r4, r3 add 2
 unfoldable pub printedProgram : List ℕ

@@ -1,5 +1,6 @@
 -- Job files for the tables, laid out byte by byte, and the rows of the tables.
 -- Assumes nothing.
+use mathlib.Core.Bool.{Bool}
 use mathlib.Core.List.{List, [], _∷_, _++_}
 use Prim.Native.Nat.{ℕ, _+_, _-_, _*_}
 use lib.ListN.{length, replicate}
@@ -11,6 +12,7 @@ use Rattle.rules.specs.declared.Counts.{Counts}
 use Rattle.rules.specs.declared.RunOutcome.the-variants as runs
 use Rattle.rules.specs.declared.RunAnswer.{RunAnswer}
 use Rattle.rules.specs.declared.PairAnswer.{PairAnswer}
+use Rattle.rules.specs.declared.TestLoadAnswer.{TestLoadAnswer}
 use Rattle.rules.specs.declared.PlainOutcome.the-variants as plains
 use Rattle.rules.specs.declared.PlainAnswer.{PlainAnswer}
 use Rattle.rules.specs.declared.Tagged.{Tagged}
@@ -18,18 +20,15 @@ use Prim.Native.String.{String}
 use Rattle.rules.specs.Rules.Answers.{text}
 use Rattle.rules.specs.Rules.Expressions.{tagged}
 use Rattle.rules.specs.Rules.Plain.{at}
-use Rattle.rules.specs.Rules.Runs.{mispredictingRun}
+use Rattle.rules.specs.Rules.Runs.{mispredictingRun, plainRun}
 use Rattle.rules.specs.Rules.JobFile.{Parsed, accepted, rejected, parse}
-use Rattle.rules.specs.Rules.Calls.{Areas, runCall, plainCall}
-use Rattle.rules.specs.Rules.Pairs.{PairAreas, pairCall}
+use Rattle.rules.specs.Rules.Calls.{Areas, Called, runCall, plainCall}
+use Rattle.rules.specs.Rules.Pairs.{withState, sameTrace, PairAreas, pairCall}
+use Rattle.rules.specs.Rules.TestLoads.{newWords, newState, TestLoadAreas, testLoadCall}
 use Rattle.rules.specs.Rules.Listing.{listing}
-use Rattle.rules.specs.Rules.Encoding.{bytesOf}
+use Rattle.rules.specs.Rules.Encoding.{bytesOf, wordBytes}
 
 -- ---- files
-unfoldable pub wordBytes : List ℕ → List ℕ
-wordBytes [] = []
-wordBytes (v ∷ vs) = bytesOf 8 v ++ wordBytes vs
-
 abbrev pub zeros : ℕ → List ℕ
 zeros n = replicate n 0
 
@@ -74,30 +73,41 @@ plainRan stop observations steps rests = record {
 }
 
 -- ---- rows
--- A run: the job, the words of the trace area, the words written to its front, the answer. A pair: the job, the second state,
--- the words of each trace area, the words written to each, the answer. A listing: the job and the printed bytes. A plain run:
--- as a run. All areas before a run, a plain run or a pair, its answer, and all areas after it. The word with its set at a location
--- after a run.
 pub data Row : Type 0 where
+  -- a run and a plain run: the job, the words of the trace area, the words written to its front, the answer
   run : List ℕ → ℕ → List ℕ → RunAnswer → Row
-  pair : List ℕ → List ℕ → ℕ → List ℕ → List ℕ → PairAnswer → Row
-  prints : List ℕ → List ℕ → Row
   plain : List ℕ → ℕ → List ℕ → PlainAnswer → Row
+  -- a pair: the job, the second state, the words of each trace area, the words written to each, the answer
+  pair : List ℕ → List ℕ → ℕ → List ℕ → List ℕ → PairAnswer → Row
+  -- a listing: the job and the printed bytes
+  prints : List ℕ → List ℕ → Row
+  -- all areas before a run, a plain run, a pair or a test load with its seed, the answer, and all areas after it
   leaves : List ℕ → Areas → RunAnswer → Areas → Row
   plainLeaves : List ℕ → Areas → PlainAnswer → Areas → Row
   pairLeaves : List ℕ → List ℕ → PairAreas → PairAnswer → PairAreas → Row
+  testLeaves : List ℕ → ℕ → TestLoadAreas → TestLoadAnswer → TestLoadAreas → Row
+  -- the word with its set at a location after a run
   holds : List ℕ → ℕ → Tagged → Row
+  -- the words that are made from a seed
+  makes : ℕ → List ℕ → Row
+  -- the job, a seed, the stop of the job's own run, and whether the plain trace of the new state is the job's
+  plainly : List ℕ → ℕ → Stop → Bool → Row
 
--- what is compared: an answer with the whole trace areas after the call, or bytes
+-- What is compared: an answer with trace areas, a listing, an answer with all areas, a word with its set, words that are made, a stop with
+-- whether two traces are the same; or that the job is refused.
 pub data Seen : Type 0 where
   ranTo : RunAnswer → List ℕ → Seen
+  plainTo : PlainAnswer → List ℕ → Seen
   pairedTo : PairAnswer → List ℕ → List ℕ → Seen
   printed : List ℕ → Seen
-  plainTo : PlainAnswer → List ℕ → Seen
   left : RunAnswer → Areas → Seen
   plainLeft : PlainAnswer → Areas → Seen
   pairLeft : PairAnswer → PairAreas → Seen
+  testLeft : Called TestLoadAnswer TestLoadAreas → Seen
   word : Tagged → Seen
+  made : List ℕ → Seen
+  compared : Stop → Bool → Seen
+  refused : Seen
 
 -- the lent areas hold 7 before the call
 unfoldable pub areas : ℕ → Areas
@@ -115,6 +125,14 @@ unfoldable pub lastAt : Parsed → ℕ → Tagged
 lastAt (accepted job) l = at (mispredictingRun job 512 .last .state) l
 lastAt (rejected r) l = tagged 0 empty
 
+-- what becomes of the plain trace under the rule for a new state, also where the job's own run has not finished
+unfoldable pub plainTraces : Parsed → ℕ → Seen
+plainTraces (rejected r) seed = refused
+plainTraces (accepted job) seed =
+    let own = mispredictingRun job 512 in
+    let new = withState job (newState job own seed) in
+    compared (own .stop) (sameTrace (plainRun job 512 .gathered .trace) (plainRun new 512 .gathered .trace))
+
 unfoldable pub given : Row → Seen
 given (run job n trace answer) = ranTo (runCall job (areas n) .answer) (runCall job (areas n) .areas .trace)
 given (pair job second n trace trace′ answer) =
@@ -126,6 +144,9 @@ given (leaves job before answer after) = left (runCall job before .answer) (runC
 given (plainLeaves job before answer after) = plainLeft (plainCall job before .answer) (plainCall job before .areas)
 given (pairLeaves job second before answer after) = pairLeft (pairCall job second before .answer) (pairCall job second before .areas)
 given (holds job l t) = word (lastAt (parse job) l)
+given (testLeaves job seed before answer after) = testLeft (testLoadCall job seed before)
+given (makes seed ws) = made (newWords empty 0 seed (zeros (length ws)))
+given (plainly job seed stop same) = plainTraces (parse job) seed
 
 unfoldable pub wanted : Row → Seen
 wanted (run job n trace answer) = ranTo answer (front n trace)
@@ -136,6 +157,9 @@ wanted (leaves job before answer after) = left answer after
 wanted (plainLeaves job before answer after) = plainLeft answer after
 wanted (pairLeaves job second before answer after) = pairLeft answer after
 wanted (holds job l t) = word t
+wanted (testLeaves job seed before answer after) = testLeft (record { answer = answer; areas = after })
+wanted (makes seed ws) = made ws
+wanted (plainly job seed stop same) = compared stop same
 
 unfoldable pub allGiven : List Row → List Seen
 allGiven [] = []

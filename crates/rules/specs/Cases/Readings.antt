@@ -12,7 +12,9 @@ use Rattle.rules.specs.declared.Refusal.the-variants as refusals
 use Rattle.rules.specs.Rules.Expressions.{tagged}
 use Rattle.rules.specs.Rules.Calls.{Areas, lent, runRefused, plainRefused}
 use Rattle.rules.specs.Rules.Pairs.{pairLent}
-use Rattle.rules.specs.Cases.Files.{wordBytes, zeros, file, setOf, counted, ran, plainRan, Row, run, pair, prints, plain, leaves, plainLeaves, pairLeaves, holds, lines}
+use Rattle.rules.specs.Rules.Encoding.{wordBytes}
+use Rattle.rules.specs.Cases.Files.{zeros, file, setOf, counted, ran, plainRan, Row, run, pair, prints, plain, leaves, plainLeaves, pairLeaves}
+use Rattle.rules.specs.Cases.Files.{holds, lines}
 use Rattle.rules.specs.Cases.Document01.{job, state, wholeTrace, r01, nestedProgram, public}
 
 -- a program of n instructions with nothing public

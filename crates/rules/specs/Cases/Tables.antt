@@ -13,12 +13,17 @@ use Rattle.rules.specs.Rules.Answers.{text}
 use Rattle.rules.specs.Rules.JobFile.{little, wordOf, byte, register, unary, binary, constant, tokenOf, token, tokens, expr, withRegister, jump, branch, conditional, fields, instr, instruction, nothingLeft, program, trailerAt, trailer, sized, limits, offsets, wordsAt, stateOf, publicOf, noneFrom, listed, jobOf, programOf, finish, parse}
 use Rattle.rules.specs.Rules.Calls.{traceWords, room, longEnough, written, areasAfter, counts, runReport, runRefused, runParsed, runCall, plainReport, plainRefused, plainParsed, plainCall}
 use Rattle.rules.specs.Rules.Pairs.{withState, alikeFrom, sameWords, sameTrace, pairWord, pairAfter, pairRefused, secondFits, pairFits, pairAccepted, pairParsed, pairCall}
+use Rattle.rules.specs.Rules.TestLoads.{nextWord, newWords, newState, ownRunAlone, newStateRun, testLoadAccepted, testLoadRefused, stateFits}
+use Rattle.rules.specs.Rules.TestLoads.{testLoadParsed, testLoadCall}
 use Rattle.rules.specs.Rules.Listing.{digits, decimal, line, numberLine, kindWord, valueText, observationLine, traceLines, locationText, members, setLine, summary, answerLines, listingOf, listing}
-use Rattle.rules.specs.Rules.Encoding.{bytesOf}
-use Rattle.rules.specs.Cases.Files.{wordBytes, trailerBytes, file, lines, setOf, ran, plainRan, areas, pairAreas, front, lastAt, given, wanted, allGiven, allWanted}
+use Rattle.rules.specs.Rules.Encoding.{bytesOf, wordBytes}
+use Rattle.rules.specs.Cases.Files.{trailerBytes, file, lines, setOf, ran, plainRan, areas, pairAreas, front, lastAt, plainTraces, given}
+use Rattle.rules.specs.Cases.Files.{wanted, allGiven, allWanted}
 use Rattle.rules.specs.Cases.Document01.{printedProgram, barrierProgram, nestedProgram, state, public, job, wholeTrace, r01, r01m1, listing01, document01}
 use Rattle.rules.specs.Cases.Readings.{secretJob, zero17, deep, inner, restoring, conditionally, twice, mixed, ending, operations, shiftBy}
 use Rattle.rules.specs.Cases.Readings.{costing, filled, readings, details, areasLeft, listings}
+use Rattle.rules.specs.Cases.TestLoads.{highest, fromOne, fromHighest, xorshift, chosenState, leaking, leaked, longer, plainFirst, newStates}
+use Rattle.rules.specs.Cases.TestLoads.{unfinished, turnedAway}
 use Rattle.rules.specs.Cases.Refusals as refusal
 use Rattle.rules.specs.Cases.Refusals.{reads, numberOf, readNumbers, wantedNumbers, skips, offsetsAt, listBit, refusals}
 use Rattle.rules.specs.Cases.Operators.{computed, expected, high, all, boundaries}
@@ -40,6 +45,10 @@ pub record TablesHold : Type 0 where
   pub cases-of-details : allGiven details ≡ allWanted details
   pub cases-of-areas : allGiven areasLeft ≡ allWanted areasLeft
   pub cases-of-listings : allGiven listings ≡ allWanted listings
+  pub cases-of-xorshift : allGiven xorshift ≡ allWanted xorshift
+  pub cases-of-new-states : allGiven newStates ≡ allWanted newStates
+  pub cases-of-unfinished : allGiven unfinished ≡ allWanted unfinished
+  pub cases-of-turned-away : allGiven turnedAway ≡ allWanted turnedAway
   pub cases-of-refusals : readNumbers refusals ≡ wantedNumbers refusals
 
 -- every definition that the tables compute with: a proof that unfolds this unfolds them all
@@ -53,10 +62,12 @@ unfolding bit has none only either inside empty single union subset member after
     runRefused runParsed runCall plainReport plainRefused plainParsed plainCall withState alikeFrom sameWords sameTrace pairWord
     pairAfter pairRefused secondFits pairFits pairAccepted pairParsed pairCall digits decimal line numberLine kindWord valueText
     observationLine traceLines locationText members setLine summary answerLines listingOf listing bytesOf wordBytes trailerBytes
-    file lines setOf ran plainRan areas pairAreas front lastAt given wanted allGiven allWanted printedProgram barrierProgram
+    file lines setOf ran plainRan areas pairAreas front lastAt plainTraces given wanted allGiven allWanted printedProgram barrierProgram
     nestedProgram state public job wholeTrace r01 r01m1 listing01 document01 secretJob zero17 deep inner restoring conditionally
     twice mixed ending operations shiftBy costing filled readings details areasLeft listings reads numberOf readNumbers wantedNumbers
-    skips offsetsAt listBit refusals refusal.program
+    skips offsetsAt listBit refusals refusal.program nextWord newWords newState ownRunAlone newStateRun testLoadAccepted
+    testLoadRefused stateFits testLoadParsed testLoadCall highest fromOne fromHighest xorshift chosenState leaking leaked longer
+    plainFirst newStates unfinished turnedAway
 computing = Unit {0}
 
 document01-hold : allGiven document01 ≡ allWanted document01
@@ -79,6 +90,22 @@ listings-hold : allGiven listings ≡ allWanted listings
 unfolding computing
 listings-hold = refl
 
+xorshift-hold : allGiven xorshift ≡ allWanted xorshift
+unfolding computing
+xorshift-hold = refl
+
+new-states-hold : allGiven newStates ≡ allWanted newStates
+unfolding computing
+new-states-hold = refl
+
+unfinished-hold : allGiven unfinished ≡ allWanted unfinished
+unfolding computing
+unfinished-hold = refl
+
+turned-away-hold : allGiven turnedAway ≡ allWanted turnedAway
+unfolding computing
+turned-away-hold = refl
+
 refusals-hold : readNumbers refusals ≡ wantedNumbers refusals
 unfolding computing
 refusals-hold = refl
@@ -90,5 +117,9 @@ tables-hold = record {
   cases-of-details = details-hold;
   cases-of-areas = areas-left-hold;
   cases-of-listings = listings-hold;
+  cases-of-xorshift = xorshift-hold;
+  cases-of-new-states = new-states-hold;
+  cases-of-unfinished = unfinished-hold;
+  cases-of-turned-away = turned-away-hold;
   cases-of-refusals = refusals-hold;
 }

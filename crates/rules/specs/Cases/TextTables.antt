@@ -19,7 +19,8 @@ use Rattle.rules.specs.Rules.TextReading.{constantNamed, registerNamed, 
 use Rattle.rules.specs.Rules.TextReading.{lineOf, instructionsOf, allHold, programHolds, readText}
 use Rattle.rules.specs.Rules.TextPrinting.{registerText, signedText, bracketedText, textPushed, textOn, topText, exprText, instrText, programText}
 use Rattle.rules.specs.Rules.TextCalls.{output, readProgram, readCall, printParsed, printCall}
-use Rattle.rules.specs.Cases.Files.{wordBytes, trailerBytes, file, lines}
+use Rattle.rules.specs.Rules.Encoding.{wordBytes}
+use Rattle.rules.specs.Cases.Files.{trailerBytes, file, lines}
 use Rattle.rules.specs.Cases.Document01.{printedProgram, state, public, job}
 use Rattle.rules.specs.Cases.Readings.{filled}
 use Rattle.rules.specs.Cases.Refusals as refusal

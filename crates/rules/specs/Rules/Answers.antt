@@ -1,4 +1,4 @@
--- The number and word of each case of an answer. Refusals have document 01's numbers; stops, verdicts and the words on a pair are
+-- The number and word of each case of an answer. Refusals have the documents' numbers; stops, verdicts and the words on a pair are
 -- numbered from 0 in the order in which it names them (of a stop: finished first).
 -- Assumes nothing.
 use mathlib.Core.List.{List, [], _∷_}
@@ -19,6 +19,8 @@ use Rattle.rules.specs.declared.PlainOutcome.the-variants as plains
 use Rattle.rules.specs.declared.PlainAnswer.{PlainAnswer}
 use Rattle.rules.specs.declared.PairAnswer.{PairAnswer}
 use Rattle.rules.specs.declared.PairAnswer.the-variants as answers
+use Rattle.rules.specs.declared.TestLoadAnswer.{TestLoadAnswer}
+use Rattle.rules.specs.declared.TestLoadAnswer.the-variants as tests
 use Rattle.rules.specs.declared.ReadAnswer.{ReadAnswer}
 use Rattle.rules.specs.declared.ReadAnswer.the-variants as reads
 use Rattle.rules.specs.declared.PrintAnswer.{PrintAnswer}
@@ -72,6 +74,7 @@ refusalNumber refusals.SecondState = 9
 refusalNumber refusals.Areas = 10
 refusalNumber refusals.Text = 11
 refusalNumber refusals.Output = 12
+refusalNumber refusals.Seed = 13
 
 -- the refusal number of a call's answer: 0 where the call was carried out
 abbrev pub runRefusal : RunAnswer → ℕ
@@ -83,6 +86,11 @@ plainRefusal r = elim (r .outcome) [ plains.Refused n ↦ refusalNumber n | plai
 abbrev pub pairRefusal : PairAnswer → ℕ
 pairRefusal (answers.Refused n) = refusalNumber n
 pairRefusal (answers.Compared w c d) = 0
+
+abbrev pub testLoadRefusal : TestLoadAnswer → ℕ
+testLoadRefusal (tests.Refused n) = refusalNumber n
+testLoadRefusal (tests.Undecided c) = 0
+testLoadRefusal (tests.Compared w c d) = 0
 
 abbrev pub readRefusal : ReadAnswer → ℕ
 readRefusal (reads.Refused n) = refusalNumber n

@@ -130,7 +130,7 @@ pub record SecondJob (f second g : List ℕ) : Type 0 where
   pub same : SameButState f g
   pub state : stateOf (trailer f) g ≡ secondState f second
 
--- areas for a plain run of either job: as much room for the trace as the pair has, and no shortage
+-- areas for a run of either job: as much room for the trace as the pair has, and no shortage
 pub record RunAreas (f : List ℕ) (a : PairAreas) (p : Areas) : Type 0 where
   pub trace : length (p .trace) ≡ length (a .first)
   pub end : locations (trailer f) ≤ length (p .end)

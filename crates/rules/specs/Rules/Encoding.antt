@@ -1,4 +1,4 @@
--- The bytes of instructions and programs: what the readers of the job file take apart, put together. Theorems/Encoded proves that an
+-- The bytes of words, instructions and programs: what the readers of the job file take apart, put together. Theorems/Encoded proves that an
 -- accepted program's bytes are those of its instructions.
 -- Assumes nothing.
 use mathlib.Core.List.{List, [], _∷_, _++_}
@@ -12,6 +12,11 @@ use Rattle.rules.specs.Rules.Instructions.{Instr, skip, assign, load, st
 unfoldable pub bytesOf : ℕ → ℕ → List ℕ
 bytesOf zero v = []
 bytesOf (suc k) v = (v % 256) ∷ bytesOf k (v / 256)
+
+-- the words of a state: "16 registers and m cells, 8 bytes each"
+unfoldable pub wordBytes : List ℕ → List ℕ
+wordBytes [] = []
+wordBytes (v ∷ vs) = bytesOf 8 v ++ wordBytes vs
 
 -- "17 neg, 18 not"
 abbrev pub op1Byte : Op1 → ℕ

@@ -133,7 +133,7 @@ module _ (code : Code) {D : LocationSet} where
   same-gather P s (more b bs) = refl
 
   module _ {M N : Machine} (h : Same D M N) where
-    same-ordinary : (i : Instr) → Within (ordinary code M i .seen) D → SameStep D (ordinary code M i) (ordinary code N i)
+    pub same-ordinary : (i : Instr) → Within (ordinary code M i .seen) D → SameStep D (ordinary code M i) (ordinary code N i)
     unfolding ordinary
     same-ordinary i w =
         let x : SameEffect D (exec code (M .state) (M .place) i) (exec code (N .state) (N .place) i) =
@@ -167,7 +167,7 @@ module _ (code : Code) {D : LocationSet} where
     same-forward : (i : Instr) → Within (forward code M i .seen) D → SameStep D (forward code M i) (forward code N i)
     same-forward = forward-both code M N (λ s t. Within (s .seen) D → SameStep D s t) same-ordinary same-opening
 
-    count-ordinary : (i : Instr) → length (ordinary code M i .obs) ≡ length (ordinary code N i .obs)
+    pub count-ordinary : (i : Instr) → length (ordinary code M i .obs) ≡ length (ordinary code N i .obs)
     unfolding ordinary
     count-ordinary i = count-exec code (M .state) (N .state) (M .place) (N .place) i
 
@@ -189,7 +189,7 @@ module _ (code : Code) {D : LocationSet} where
     unfolding over
     same-over = same-overOn (h .place) (h .branches)
 
-    same-fetch : fetch code (M .place) ≡ fetch code (N .place)
+    pub same-fetch : fetch code (M .place) ≡ fetch code (N .place)
     same-fetch = ap (fetch code) (h .place)
 
     same-expired : {a b : Branch} → SameBranch D a b → expired code (M .place) a ≡ expired code (N .place) b

@@ -33,9 +33,9 @@ sound-least (t ∷ ts) h = omega arith
 
 module _ (p : List ℕ) where
   -- the bytes from an offset to the end
-  record Stands (at : ℕ) (bs : List ℕ) : Type 0 where
-    bytes : drop at p ≡ bs
-    within : at ≤ length p
+  pub record Stands (at : ℕ) (bs : List ℕ) : Type 0 where
+    pub bytes : drop at p ≡ bs
+    pub within : at ≤ length p
 
   -- what was read, and the bytes that are left after it
   record Gives {A : Type 0} (m : Read A) (a : A) (rest : List ℕ) : Type 0 where
@@ -97,7 +97,7 @@ module _ (p : List ℕ) where
       both (λ b q. cond (ltb b registers) (got b q) (refused refusals.Encoding)) (byte-given at r rest s)
       (λ q l. equal (ap (λ (t : Bool). cond t (got r q) (refused refusals.Encoding)) (lt-ltb r registers h)) (given r l))
 
-  little-given : (k v at : ℕ) (rest : List ℕ) → v < 256 ^ k → Stands at (bytesOf k v ++ rest) → (little p at k ≡ v) × Stands (at + k) rest
+  pub little-given : (k v at : ℕ) (rest : List ℕ) → v < 256 ^ k → Stands at (bytesOf k v ++ rest) → (little p at k ≡ v) × Stands (at + k) rest
   unfolding little bytesOf
   little-given zero v at rest h s = (omega arith, rw (add-zero at) s)
   little-given (suc k) v at rest h s =

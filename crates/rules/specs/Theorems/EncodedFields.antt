@@ -52,9 +52,14 @@ binary-byte (suc (suc (suc (suc (suc (suc (suc (suc zero)))))))) h = refl
 binary-byte (suc (suc (suc (suc (suc (suc (suc (suc (suc zero))))))))) h = refl
 binary-byte (suc (suc (suc (suc (suc (suc (suc (suc (suc (suc j)))))))))) h = absurd (omega arith)
 
+-- ---- numbers
+pub length-bytesOf : (k v : ℕ) → length (bytesOf k v) ≡ k
+unfolding bytesOf
+length-bytesOf zero v = refl
+length-bytesOf (suc k) v = ap suc (length-bytesOf k (v / 256))
+
 module _ (p : List ℕ) (all : Bytes p) where
-  -- ---- numbers
-  little-below : (k at : ℕ) → little p at k < 256 ^ k
+  pub little-below : (k at : ℕ) → little p at k < 256 ^ k
   unfolding little
   little-below zero at = omega arith
   little-below (suc k) at =

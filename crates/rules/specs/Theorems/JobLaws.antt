@@ -18,7 +18,9 @@ use Rattle.rules.specs.declared.Refusal.the-variants as refusals
 use Rattle.rules.specs.Rules.Limits.{maxInstructions, maxCells, maxWindow, maxBudget, registersSize, listSize, trailerSize}
 use Rattle.rules.specs.Rules.Instructions.{Instr, windowCosts}
 use Rattle.rules.specs.Rules.Runs.{Job}
-use Rattle.rules.specs.Rules.JobFile.{little, Read, got, refused, andThen, instruction, nothingLeft, program, trailerAt, trailer, sized, limits, offsets, wordsAt, stateOf, publicOf, listed, Parsed, accepted, rejected, jobOf, programOf, finish, parse}
+use Rattle.rules.specs.Rules.JobFile.{little, Read, got, refused, andThen, instruction, nothingLeft, program, trailerAt, trailer, sized, limits}
+use Rattle.rules.specs.Rules.JobFile.{offsets, locations, wordsAt, stateOf, publicOf, listed, Parsed, accepted, rejected, jobOf, programOf}
+use Rattle.rules.specs.Rules.JobFile.{finish, parse}
 use Rattle.rules.specs.Rules.Pairs.{withState}
 use Rattle.rules.specs.Rules.Demands.{SameButState}
 use Rattle.rules.specs.Theorems.Readers.{refused-got}
@@ -173,8 +175,11 @@ module _ {bs : List ℕ} {job : Job} (p : Passed bs job) where
   cells-most = rw job-cells (limits-hold (trailer bs) (p .limits) .cells)
 
   -- "16 registers and m cells"
+  pub init-locations : length (job .init) ≡ locations (trailer bs)
+  init-locations = ap length job-init ∙ length-stateOf (trailer bs) bs
+
   pub init-length : length (job .init) ≡ 16 + job .code .cells
-  init-length = ap length job-init ∙ length-stateOf (trailer bs) bs ∙ ap (λ (m : ℕ). 16 + m) (sym job-cells)
+  init-length = init-locations ∙ ap (λ (m : ℕ). 16 + m) (sym job-cells)
 
   pub init-most : length (job .init) ≤ 256
   init-most = rw init-length (let h = cells-most in omega arith)

@@ -28,7 +28,7 @@ use Rattle.rules.specs.Rules.JobFile.{Parsed, accepted, rejected, parse,
 use Rattle.rules.specs.Rules.Calls.{Areas, traceWords, room, workingWords, written, counts, longEnough}
 use Rattle.rules.specs.Rules.Pairs.{withState, alikeFrom, sameWords, sameTrace, firstThatFits, pairWord, PairAreas, pairAfter, pairRefused, secondFits, pairFits, pairAccepted, pairParsed, pairCall}
 use Rattle.rules.specs.Rules.Demands.{AlikeOn, plainTraceOf, Unaltered, secondState, AlikePublic, SecondJob, RunAreas, SamePlain, OtherPlain, BothFinished, SameTraces, Means, PairMeaning}
-use Rattle.rules.specs.Theorems.JobLaws.{passed, job-init, job-public, length-wordsAt, length-stateOf, parse-other}
+use Rattle.rules.specs.Theorems.JobLaws.{passed, job-init, job-public, init-locations, length-wordsAt, parse-other}
 use Rattle.rules.specs.Theorems.CallLaws.{length-traceWords, plain-trace-runs, carried-out, left-alone}
 
 -- ---- words compared
@@ -62,7 +62,7 @@ alike-tail public l x y xs ys h e = go (member public l) refl
     go false q = rw (q, e)
 
 -- states of one size that are alike at each public location are found alike
-found-alike : (public : LocationSet) (l : ℕ) (xs ys : List ℕ) → length xs ≡ length ys
+pub found-alike : (public : LocationSet) (l : ℕ) (xs ys : List ℕ) → length xs ≡ length ys
     → ((j : ℕ) → member public (l + j) ≡ true → getD xs j 0 ≡ getD ys j 0) → alikeFrom public l xs ys ≡ true
 unfolding alikeFrom
 found-alike public l [] ys s h = refl
@@ -88,19 +88,32 @@ alike-at public l (x ∷ xs) (y ∷ ys) s e (suc j) m =
     alike-at public (suc l) xs ys (omega arith) (and-right (not (member public l) || eqb x y) (alikeFrom public (suc l) xs ys) e) j (rw f m)
 
 -- ---- the tests of the word, in their order
-abbrev Chosen : PairWord → Bool → Bool → Bool → Bool → Type 0
+abbrev pub Chosen : PairWord → Bool → Bool → Bool → Bool → Type 0
 Chosen words.NotComparable c f p s = c ≡ false
 Chosen words.Undecided c f p s = (c ≡ true) × (f ≡ false)
 Chosen words.PlainDiffers c f p s = (c ≡ true) × (f ≡ true) × (p ≡ false)
 Chosen words.LeakShown c f p s = (c ≡ true) × (f ≡ true) × (p ≡ true) × (s ≡ false)
 Chosen words.Equal c f p s = (c ≡ true) × (f ≡ true) × (p ≡ true) × (s ≡ true)
 
-chosen-fits : (c f p s : Bool) → Chosen (firstThatFits c f p s) c f p s
+pub chosen-fits : (c f p s : Bool) → Chosen (firstThatFits c f p s) c f p s
 chosen-fits false f p s = refl
 chosen-fits true false p s = (refl, refl)
 chosen-fits true true false s = (refl, refl, refl)
 chosen-fits true true true false = (refl, refl, refl, refl)
 chosen-fits true true true true = (refl, refl, refl, refl)
+
+-- ---- areas for a run of an accepted job: no shortage, and the pair's room for the trace
+module _ {f : List ℕ} {a : PairAreas} {p : Areas} (h : RunAreas f a p) where
+  pub long-enough : (job : Job) → length (job .init) ≡ locations (trailer f) → longEnough job p ≡ true
+  unfolding longEnough
+  long-enough job e =
+      let w = h .work in
+      let n = h .end in
+      rw (le-leb workingWords (length (p .work)) w, le-leb (length (job .init)) (length (p .end)) (omega arith))
+
+  pub run-room : room (p .trace) ≡ room (a .first)
+  unfolding room
+  run-room = ap (λ (n : ℕ). n / 2) (h .trace)
 
 -- ---- a pair that was compared
 pub record Pairs (f second : List ℕ) (a : PairAreas) : Type 0 where
@@ -136,7 +149,7 @@ module _ {f second : List ℕ} {a : PairAreas} (r : Pairs f second a) where
   pair-runs = rw (r .parsed, r .sized, r .enough, pairParsed)
 
   init-size : length (r .job .init) ≡ locations (trailer f)
-  init-size = ap length (job-init (passed f (r .job) (r .parsed))) ∙ length-stateOf (trailer f) f
+  init-size = init-locations (passed f (r .job) (r .parsed))
 
   second-words : vs ≡ secondState f second
   unfolding secondState
@@ -178,30 +191,19 @@ module _ {f second : List ℕ} {a : PairAreas} (r : Pairs f second a) where
   abbrev plain₂ : List ℕ
   plain₂ = traceWords (plainRun other k .gathered .trace)
 
-  long-enough : (p : Areas) (job : Job) → length (job .init) ≡ length (r .job .init) → RunAreas f a p → longEnough job p ≡ true
-  unfolding longEnough
-  long-enough p job e h =
-      let w = h .work in
-      let n = h .end in
-      let z = init-size in
-      rw (le-leb workingWords (length (p .work)) w, le-leb (length (job .init)) (length (p .end)) (omega arith))
-
-  same-room : (p : Areas) → RunAreas f a p → room (p .trace) ≡ k
-  unfolding room
-  same-room p h = ap (λ (n : ℕ). n / 2) (h .trace)
-
   plain-first : (p : Areas) → RunAreas f a p → plainTraceOf f p ≡ plain₁
   plain-first p h =
-      plain-trace-runs (record { job = r .job; parsed = r .parsed; enough = long-enough p (r .job) refl h })
-      ∙ ap (λ (n : ℕ). traceWords (plainRun (r .job) n .gathered .trace)) (same-room p h)
+      plain-trace-runs (record { job = r .job; parsed = r .parsed; enough = long-enough h (r .job) init-size })
+      ∙ ap (λ (n : ℕ). traceWords (plainRun (r .job) n .gathered .trace)) (run-room h)
 
   plain-second : (g : List ℕ) (p : Areas) → SecondJob f second g → RunAreas f a p → plainTraceOf g p ≡ plain₂
   plain-second g p s h =
-      let q : parse g ≡ accepted other = parse-other (r .parsed) (s .same) ∙ ap (λ (ws : List ℕ). accepted (withState (r .job) ws)) (s .state ∙ sym second-words) in
-      plain-trace-runs (record { job = other; parsed = q; enough = long-enough p other (unfold withState in sym same-size) h })
-      ∙ ap (λ (n : ℕ). traceWords (plainRun other n .gathered .trace)) (same-room p h)
+      let q : parse g ≡ accepted other =
+      parse-other (r .parsed) (s .same) ∙ ap (λ (ws : List ℕ). accepted (withState (r .job) ws)) (s .state ∙ sym second-words) in
+      plain-trace-runs (record { job = other; parsed = q; enough = long-enough h other (unfold withState in sym same-size ∙ init-size) })
+      ∙ ap (λ (n : ℕ). traceWords (plainRun other n .gathered .trace)) (run-room h)
 
-  same-plain : sameWords plain₁ plain₂ ≡ true → SamePlain f second a
+  pub same-plain : sameWords plain₁ plain₂ ≡ true → SamePlain f second a
   same-plain e = record {
     same = λ g p p′ s h h′. plain-first p h ∙ same-words-equal plain₁ plain₂ e ∙ sym (plain-second g p′ s h′);
   }

@@ -140,7 +140,7 @@ clean-within public stop full plain = go (isFinished stop) (subset full public) 
 
 -- "The second state stands in a job that is the same but for the state's bytes": vs are its words.
 module _ (job : Job) (room : ℕ) (vs : List ℕ) (bound : length (job .init) ≤ 256) (size : length (job .init) ≡ length vs) where
-  same-first : (D : LocationSet) → AlikeOn D (job .init) vs → Same D (first job) (first (withState job vs))
+  pub same-first : (D : LocationSet) → AlikeOn D (job .init) vs → Same D (first job) (first (withState job vs))
   unfolding first withState
   same-first D h = record { state = own-alike D (job .init) vs bound size h; place = refl; branches = none; opened = refl }
 

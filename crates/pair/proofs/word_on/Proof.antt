@@ -1,10 +1,10 @@
--- `pair::compared` meets its contract. Assumes nothing.
+-- `pair::word_on` meets its contract. Assumes nothing.
 use native.Mathlib.Omega.{arith}
 use Rattle.job_run.specs.Accepted.{accepted-limits, accepted-list, accepted-length}
-use Rattle.pair.proofs.Laws.{compared-same}
+use Rattle.pair.proofs.Laws.{word-found}
 use borrow.Author.Needs.{needs}
-use Rattle.pair.proofs.compared.Statement.{statement}
-use Rattle.pair.proofs.compared.Tie as tie
+use Rattle.pair.proofs.word_on.Statement.{statement}
+use Rattle.pair.proofs.word_on.Tie as tie
 
 locations-requires : tie.Need-locations-requires
 locations-requires c κs =
@@ -46,11 +46,11 @@ returns c =
     let at-locations = at-alike-bytes .before in
     let at-start = at-locations .before .before .before .before .before in
     let a = at-start .args in
-    compared-same (a .job .now) (a .t) (a .public) (a .second .now) (a .first-trace .now) (a .second-trace .now) (a .c) (a .d)
+    word-found (a .job .now) (a .t) (a .public) (a .second .now) (a .first-trace .now) (a .second-trace .now) (a .c) (a .d)
     (rw (at-locations .locations .ensures) at (at-alike-bytes .alike-bytes .ensures)) (c .pair-word .ensures)
 
-pub compared-spec : {M : Type 1} → statement M
-compared-spec =
+pub word-on-spec : {M : Type 1} → statement M
+word-on-spec =
     tie.close
     (tie.spec
     locations-requires
