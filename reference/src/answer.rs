@@ -108,7 +108,7 @@ pub struct PlainAnswer {
     pub plain: [u64; 4],
 }
 
-/// What a pair reports of each of its two mispredicting runs.
+/// What a pair or a test load reports of each of its mispredicting runs.
 #[derive(Debug, Clone, PartialEq, Eq)]
 pub struct RunCounts {
     pub stop: Stop,
@@ -123,6 +123,14 @@ pub struct PairAnswer {
     pub word: PairWord,
     pub first: RunCounts,
     pub second: RunCounts,
+}
+
+/// The answer of a test load; there is a second run only if the job's own run, the first, finished.
+#[derive(Debug, Clone, PartialEq, Eq)]
+pub struct LoadAnswer {
+    pub word: PairWord,
+    pub first: RunCounts,
+    pub second: Option<RunCounts>,
 }
 
 /// The answer of reading a routine as text: the length of its program in bytes and instructions.

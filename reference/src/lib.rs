@@ -1,4 +1,4 @@
-//! A second implementation of document 01 and of requests F-1 and F-2 of document 02,
+//! A second implementation of document 01 and of requests F-1, F-2 and F-3 of document 02,
 //! written from the documents alone.
 //! It prefers clarity to speed: every branch saves a copy of the whole state.
 
@@ -13,17 +13,19 @@ mod pair;
 mod program_bytes;
 mod refusal;
 mod run;
+mod test_load;
 mod text;
 mod text_printing;
 mod text_reading;
 mod trace;
 
 pub use answer::{
-    PairAnswer, PairWord, PlainAnswer, RunAnswer, RunCounts, Stop, TextCounts, Verdict,
+    LoadAnswer, PairAnswer, PairWord, PlainAnswer, RunAnswer, RunCounts, Stop, TextCounts, Verdict,
 };
 pub use listing::{listing, listing_in};
 pub use pair::compare;
 pub use refusal::Refusal;
 pub use run::{plain_run, run};
+pub use test_load::test_load;
 pub use text::{print_text, read_text};
 pub use trace::strike_out;

@@ -17,8 +17,7 @@ pub fn compare(
 ) -> Result<PairAnswer, u32> {
     let first_job = read_job(job)?;
     let second_job = first_job.with_state(second)?;
-    let areas_fit = work.len() >= WORKING_WORDS && first_trace.len() == second_trace.len();
-    require(areas_fit, refusal::AREAS)?;
+    check_areas(first_trace, second_trace, work)?;
 
     let (first, _) = speculative_run(&first_job, first_trace);
     let (second, _) = speculative_run(&second_job, second_trace);
@@ -40,7 +39,14 @@ pub fn compare(
     Ok(PairAnswer { word, first: counts(&first), second: counts(&second) })
 }
 
-fn counts(answer: &RunAnswer) -> RunCounts {
+/// The area test of 10 with the areas of a pair.
+pub fn check_areas(first_trace: &[u64], second_trace: &[u64], work: &[u64]) -> Result<(), u32> {
+    let areas_fit = work.len() >= WORKING_WORDS && first_trace.len() == second_trace.len();
+    require(areas_fit, refusal::AREAS)
+}
+
+/// What is reported of a run that is one of two.
+pub fn counts(answer: &RunAnswer) -> RunCounts {
     RunCounts {
         stop: answer.stop,
         steps: answer.steps,

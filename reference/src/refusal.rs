@@ -1,4 +1,5 @@
-//! The numbers of the refusals, in the order in which they are checked.
+//! The numbers of the refusals, in the order in which they are checked; a test load checks
+//! 13 before 12.
 
 /// A refusal is its number.
 pub type Refusal = u32;
@@ -15,6 +16,7 @@ pub const SECOND_STATE: u32 = 9;
 pub const AREAS: u32 = 10;
 pub const TEXT: u32 = 11;
 pub const OUTPUT_AREA: u32 = 12;
+pub const SEED: u32 = 13;
 
 /// Refuses with the number unless the condition holds.
 pub fn require(condition: bool, number: u32) -> Result<(), u32> {

@@ -6,8 +6,10 @@ mod common;
 use std::collections::HashMap;
 use std::path::{Path, PathBuf};
 
-use check_box_reference::{compare, listing, plain_run, print_text, read_text, run, RunCounts};
-use common::{area, area_with, locations, WORK};
+use check_box_reference::{
+    compare, listing, plain_run, print_text, read_text, run, test_load, LoadAnswer, RunCounts,
+};
+use common::{area, area_with, byte_area, byte_area_with, locations, WORK};
 
 /// One block of the file: its key lines, and the lines that begin with "| ".
 #[derive(Default)]
@@ -160,29 +162,63 @@ fn check_pair(vector: &Vector) {
     assert_eq!(work, vector.work_after(), "working area");
 }
 
+fn load_lines(answer: &LoadAnswer) -> Vec<String> {
+    let mut lines = vec![line("word", answer.word.word()), counts_line("first-run", &answer.first)];
+    lines.extend(answer.second.iter().map(|second| counts_line("second-run", second)));
+    lines.push(format!("made {}", u8::from(answer.second.is_some())));
+    lines
+}
+
+/// Where no new state is made the vector has no line for the second run, its trace or the state.
+fn check_load(vector: &Vector) {
+    let [mut first, mut second, mut work] =
+        ["trace1", "trace2", "work"].map(|name| area(vector.lent(name)));
+    let mut state = byte_area(vector.lent("state"));
+    let (job, seed) = (vector.bytes("job"), vector.numbers("seed-word")[0]);
+    let lines = match test_load(&job, seed, &mut first, &mut second, &mut work, &mut state) {
+        Err(number) => refused_lines(number),
+        Ok(answer) => {
+            assert_eq!(answer.first.observations as usize * 2, vector.numbers("trace1").len());
+            if let Some(counts) = &answer.second {
+                assert_eq!(counts.observations as usize * 2, vector.numbers("trace2").len());
+            }
+            load_lines(&answer)
+        }
+    };
+    let made = vector.fields.get("made").is_some_and(|made| made == "1");
+    for key in ["second-run", "trace2", "state"] {
+        assert_eq!(vector.fields.contains_key(key), made, "line \"{key}\"");
+    }
+    assert_eq!(first, vector.area_after("trace1"), "first trace area");
+    assert_eq!(work, vector.work_after(), "working area");
+    if made {
+        assert_eq!(lines, vector.answer_lines(&["word", "first-run", "second-run", "made"]));
+        assert_eq!(second, vector.area_after("trace2"), "second trace area");
+        assert_eq!(state, byte_area_with(&vector.bytes("state"), state.len()), "state area");
+    } else {
+        assert_eq!(lines, vector.answer_lines(&["word", "first-run", "made"]));
+        assert_eq!(second, area(second.len()), "second trace area");
+        assert_eq!(state, byte_area(state.len()), "state area");
+    }
+}
+
 fn check_listing(vector: &Vector) {
     let text = String::from_utf8(listing(&vector.bytes("job"))).expect("text");
     assert_eq!(text, vector.text);
 }
 
-/// The byte at an index of an output area before a call.
-fn output_byte(index: usize) -> u8 {
-    (index * 37 + 11) as u8
-}
-
 /// The output area as it must be afterwards.
 fn output_after(vector: &Vector) -> Vec<u8> {
-    let mut out: Vec<u8> = (0..vector.lent("out")).map(output_byte).collect();
-    if vector.refused().is_none() {
-        let written = vector.bytes("out");
-        assert_eq!(line("bytes", vector.field("bytes")), format!("bytes {}", written.len()));
-        out[..written.len()].copy_from_slice(&written);
+    if vector.refused().is_some() {
+        return byte_area(vector.lent("out"));
     }
-    out
+    let written = vector.bytes("out");
+    assert_eq!(line("bytes", vector.field("bytes")), format!("bytes {}", written.len()));
+    byte_area_with(&written, vector.lent("out"))
 }
 
 fn check_read(vector: &Vector) {
-    let mut out: Vec<u8> = (0..vector.lent("out")).map(output_byte).collect();
+    let mut out = byte_area(vector.lent("out"));
     let lines = match read_text(&vector.bytes("text"), &mut out) {
         Err(number) => refused_lines(number),
         Ok(counts) => {
@@ -195,7 +231,7 @@ fn check_read(vector: &Vector) {
 }
 
 fn check_print(vector: &Vector) {
-    let mut out: Vec<u8> = (0..vector.lent("out")).map(output_byte).collect();
+    let mut out = byte_area(vector.lent("out"));
     let lines = match print_text(&vector.bytes("job"), &mut out) {
         Err(number) => refused_lines(number),
         Ok(bytes) => vec![format!("bytes {bytes}")],
@@ -209,6 +245,7 @@ fn check(vector: &Vector) {
         "run" => check_run(vector),
         "plain" => check_plain(vector),
         "pair" => check_pair(vector),
+        "load" => check_load(vector),
         "listing" => check_listing(vector),
         "read" => check_read(vector),
         "print" => check_print(vector),

@@ -1,44 +1,50 @@
 //! One call, made of the library or of the reference, with everything it left behind.
 
 use check_box_reference as reference;
-use reference::{PairAnswer, PlainAnswer, RunAnswer, RunCounts};
+use reference::{LoadAnswer, PairAnswer, PlainAnswer, RunAnswer, RunCounts};
 
 use crate::lend::{Area, Bytes, Fill};
-use crate::library::{self, PAIR_ANSWER, PLAIN_ANSWER, RUN_ANSWER};
+use crate::library::{self, LOAD_ANSWER, PAIR_ANSWER, PLAIN_ANSWER, RUN_ANSWER};
 
 #[derive(Clone, Copy, PartialEq, Eq, Debug)]
 pub enum Operation {
     Run,
     Plain,
     Pair,
+    Load,
 }
 
-/// The lengths of the areas in words. A run and a plain run use the first trace and the end,
-/// a pair uses both traces.
+/// The lengths of the areas in words, that of the state in bytes. A run and a plain run use the first
+/// trace and the end, a pair uses both traces, a test load both traces and the state.
 #[derive(Clone, Copy, Debug)]
 pub struct Lengths {
     pub trace: usize,
     pub second_trace: usize,
     pub end: usize,
     pub work: usize,
+    pub state: usize,
 }
 
+/// The second state is a pair's, the seed a test load's.
 #[derive(Clone, Copy)]
 pub struct Call<'a> {
     pub operation: Operation,
     pub job: &'a [u8],
     pub second: &'a [u8],
+    pub seed: u64,
     pub lengths: Lengths,
     pub fill: Fill,
 }
 
-/// What a call returned and left: the areas are trace, end and work, or both traces and work.
+/// What a call returned and left: the areas are trace, end and work, or both traces and work. The
+/// state has no byte for a call that makes none.
 #[derive(PartialEq, Eq)]
 pub struct Outcome {
     pub operation: Operation,
     pub number: u32,
     pub answer: Area,
     pub areas: [Area; 3],
+    pub state: Area<u8>,
     pub inputs_kept: bool,
 }
 
@@ -48,6 +54,7 @@ impl Operation {
             Operation::Run => "checker_run",
             Operation::Plain => "checker_plain_run",
             Operation::Pair => "checker_compare",
+            Operation::Load => "checker_test_load",
         }
     }
 
@@ -56,33 +63,47 @@ impl Operation {
             Operation::Run => RUN_ANSWER,
             Operation::Plain => PLAIN_ANSWER,
             Operation::Pair => PAIR_ANSWER,
+            Operation::Load => LOAD_ANSWER,
         }
     }
 
     pub fn area_names(self) -> [&'static str; 3] {
         match self {
             Operation::Run | Operation::Plain => ["trace", "end", "work"],
-            Operation::Pair => ["trace1", "trace2", "work"],
+            Operation::Pair | Operation::Load => ["trace1", "trace2", "work"],
         }
     }
 
     fn area_lengths(self, lengths: Lengths) -> [usize; 3] {
         match self {
             Operation::Run | Operation::Plain => [lengths.trace, lengths.end, lengths.work],
-            Operation::Pair => [lengths.trace, lengths.second_trace, lengths.work],
+            Operation::Pair | Operation::Load => {
+                [lengths.trace, lengths.second_trace, lengths.work]
+            }
+        }
+    }
+
+    fn state_length(self, lengths: Lengths) -> usize {
+        if self == Operation::Load {
+            lengths.state
+        } else {
+            0
         }
     }
 }
 
 impl Call<'_> {
     /// Everything as it stands before the call.
-    fn prepared(&self) -> Outcome {
-        let area = |length| Area::filled(length, self.fill);
+    pub fn prepared(&self) -> Outcome {
+        let [first, second, work] = self.operation.area_lengths(self.lengths);
+        let area = |length, number| Area::filled(length, self.fill.of_area(number));
+        let state = self.operation.state_length(self.lengths);
         Outcome {
             operation: self.operation,
             number: 0,
-            answer: area(self.operation.answer_words()),
-            areas: self.operation.area_lengths(self.lengths).map(area),
+            answer: area(self.operation.answer_words(), 0),
+            areas: [area(first, 1), area(second, 2), area(work, 3)],
+            state: Area::filled(state, self.fill.of_area(4)),
             inputs_kept: true,
         }
     }
@@ -99,6 +120,10 @@ impl Call<'_> {
             Operation::Pair => {
                 library::compare(job.lent(), second.lent(), a, b, work, exactly(answer))
             }
+            Operation::Load => {
+                let state = outcome.state.lent();
+                library::test_load(job.lent(), self.seed, a, b, work, state, exactly(answer))
+            }
         };
         outcome.inputs_kept = job.is_unchanged(self.job) && second.is_unchanged(self.second);
         outcome
@@ -112,6 +137,10 @@ impl Call<'_> {
             Operation::Plain => reference::plain_run(self.job, a, b, work).map(plain_words),
             Operation::Pair => {
                 reference::compare(self.job, self.second, a, b, work).map(pair_words)
+            }
+            Operation::Load => {
+                let state = outcome.state.lent();
+                reference::test_load(self.job, self.seed, a, b, work, state).map(load_words)
             }
         };
         match answered {
@@ -143,11 +172,23 @@ fn plain_words(answer: PlainAnswer) -> Vec<u64> {
 }
 
 fn pair_words(answer: PairAnswer) -> Vec<u64> {
-    let counts = |run: RunCounts| [run.stop.number(), run.observations, run.steps, run.rollbacks];
     let mut words = vec![answer.word.number()];
     words.extend(counts(answer.first));
     words.extend(counts(answer.second));
     words
+}
+
+fn load_words(answer: LoadAnswer) -> Vec<u64> {
+    let made = u64::from(answer.second.is_some());
+    let mut words = vec![answer.word.number()];
+    words.extend(counts(answer.first));
+    words.extend(answer.second.map_or([0; 4], counts));
+    words.push(made);
+    words
+}
+
+fn counts(run: RunCounts) -> [u64; 4] {
+    [run.stop.number(), run.observations, run.steps, run.rollbacks]
 }
 
 impl Outcome {
@@ -175,9 +216,11 @@ impl Outcome {
         }
         let areas = self.areas.iter().zip(&expected.areas).zip(self.operation.area_names());
         let answer = ((&self.answer, &expected.answer), "answer");
-        std::iter::once(answer).chain(areas).find_map(|((got, want), area)| {
-            got.difference(want).map(|text| format!("{name}, {area}: {text}"))
-        })
+        let differing = std::iter::once(answer)
+            .chain(areas)
+            .find_map(|((got, want), area)| got.difference(want).map(|text| (area, text)));
+        let state = || self.state.difference(&expected.state).map(|text| ("state", text));
+        differing.or_else(state).map(|(area, text)| format!("{name}, {area}: {text}"))
     }
 }
 

@@ -1,12 +1,13 @@
-//! Random cases: a job in some style, a treatment of it, a second state and lengths of areas.
+//! Random cases: a job in some style, a treatment of it, a second state, a seed and lengths of areas.
 //! The seed alone decides the whole case.
 
 use check_box_reference::run;
 
-use crate::calls::Lengths;
+use crate::calls::{Call, Lengths, Operation};
 use crate::damage::{damaged_twice, flip_bits, overwrite, refused_with, truncate};
 use crate::generate::{random_job, random_style, Style};
 use crate::job_file::{budget, set_budget, state_bytes, Parts};
+use crate::lend::Fill;
 use crate::random::Random;
 
 pub const WORKING_WORDS: usize = 4_096;
@@ -41,15 +42,26 @@ pub const TREATMENTS: [Treatment; 11] = [
     Treatment::Fixed,
 ];
 
-/// One case; each of the three calls is made on it. A fixed case has no style.
+/// One case; each of the four calls is made on it. A fixed case has no style. The load seed is what a
+/// test load makes its state from.
 pub struct Case {
     pub name: String,
     pub style: Option<Style>,
     pub treatment: Treatment,
     pub job: Vec<u8>,
     pub second: Vec<u8>,
+    pub load_seed: u64,
     pub lengths: Lengths,
     pub salt: u64,
+}
+
+impl Case {
+    /// The call that is made of library and reference.
+    pub fn call(&self, operation: Operation, margin: usize) -> Call<'_> {
+        let fill = Fill { salt: self.salt, margin };
+        let (job, second, seed, lengths) = (&self.job, &self.second, self.load_seed, self.lengths);
+        Call { operation, job, second, seed, lengths, fill }
+    }
 }
 
 pub fn random_case(seed: u64) -> Case {
@@ -62,10 +74,14 @@ pub fn random_case(seed: u64) -> Case {
         treatment: random_treatment(&mut random),
         job: parts.bytes(),
         second: state_bytes(&second_state(&parts, &mut random)),
+        load_seed: 1,
         lengths: fitting_lengths(&parts, style, &mut random),
         salt: random.word(),
     };
+    let state = 8 * parts.state.len();
     treat(&mut case, parts, &mut random);
+    case.load_seed = load_seed(&mut random);
+    case.lengths.state = state_length(state, &mut random);
     case
 }
 
@@ -141,7 +157,7 @@ fn fitting_lengths(parts: &Parts, style: Style, random: &mut Random) -> Lengths 
     let trace = if style == Style::Long { needed } else { needed.min(6_004) };
     let trace = trace + random.index(2);
     let end = parts.state.len() + random.index(3);
-    Lengths { trace, second_trace: trace, end, work: WORKING_WORDS + random.index(3) }
+    Lengths { trace, second_trace: trace, end, work: WORKING_WORDS + random.index(3), state: 0 }
 }
 
 /// Observations and steps of the job in its areas, or none if it is refused.
@@ -183,6 +199,31 @@ fn any_lengths(locations: usize, random: &mut Random) -> Lengths {
         second_trace,
         end: around(locations, random),
         work: around(WORKING_WORDS, random),
+        state: 0,
+    }
+}
+
+/// A seed of a test load; 0 is refused.
+fn load_seed(random: &mut Random) -> u64 {
+    match random.below(24) {
+        0 => 0,
+        1..=4 => 1,
+        5..=7 => u64::MAX,
+        8..=12 => random.between(2, 99),
+        13 => 1 << random.below(64),
+        _ => random.word(),
+    }
+}
+
+/// Bytes for a new state of that many: mostly enough, at times one too few or none.
+fn state_length(bytes: usize, random: &mut Random) -> usize {
+    match random.below(24) {
+        0 => bytes - random.pick(&[1, 1, 8, bytes]),
+        1 => random.index(bytes),
+        2..=12 => bytes,
+        13..=17 => bytes + 1,
+        18..=21 => bytes + random.index(64),
+        _ => bytes + random.index(4_000),
     }
 }
 

@@ -1,9 +1,9 @@
-//! One case checked: the three calls of library and reference compared whole, then the demands.
+//! One case checked: the four calls of library and reference compared whole, then the demands.
 
-use crate::calls::{Call, Operation, Outcome};
+use crate::calls::{Operation, Outcome};
 use crate::cases::Case;
 use crate::demands::{plain_agrees, states_alike};
-use crate::lend::Fill;
+use crate::load_claims::load_is_as_claimed;
 use crate::random::Random;
 use crate::tally::Tally;
 
@@ -13,6 +13,7 @@ pub fn check_case(case: &Case, margin: usize, tally: &mut Tally) -> Result<(), S
     let run = compared(case, Operation::Run, margin, tally)?;
     let plain = compared(case, Operation::Plain, margin, tally)?;
     compared(case, Operation::Pair, margin, tally)?;
+    let load = compared(case, Operation::Load, margin, tally)?;
     if run.number != 0 {
         return Ok(());
     }
@@ -20,7 +21,12 @@ pub fn check_case(case: &Case, margin: usize, tally: &mut Tally) -> Result<(), S
     plain_agrees(&run, &plain)?;
     let mut random = Random::new(case.salt);
     tally.demand_3 += 1;
-    states_alike(case, &run, margin, &mut random, tally)
+    states_alike(case, &run, margin, &mut random, tally)?;
+    if load.number != 0 {
+        return Ok(());
+    }
+    tally.load_claims += 1;
+    load_is_as_claimed(case, &run, &plain, &load, margin, &mut random)
 }
 
 /// The library's outcome, if it is the reference's in every word.
@@ -30,9 +36,7 @@ fn compared(
     margin: usize,
     tally: &mut Tally,
 ) -> Result<Outcome, String> {
-    let fill = Fill { salt: case.salt, margin };
-    let (job, second, lengths) = (&case.job, &case.second, case.lengths);
-    let call = Call { operation, job, second, lengths, fill };
+    let call = case.call(operation, margin);
     let outcome = call.by_library();
     match outcome.difference(&call.by_reference()) {
         Some(difference) => Err(difference),

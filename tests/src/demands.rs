@@ -59,12 +59,12 @@ pub fn states_alike(
     Ok(())
 }
 
-fn state_of(job: &[u8]) -> &[u8] {
+pub fn state_of(job: &[u8]) -> &[u8] {
     let offset = |which| usize::from(field(job, which));
     &job[offset(Field::StateOffset)..offset(Field::ListOffset)]
 }
 
-fn public_of(job: &[u8]) -> [u64; 4] {
+pub fn public_of(job: &[u8]) -> [u64; 4] {
     let list = &job[job.len() - TRAILER_BYTES - LIST_BYTES..][..LIST_BYTES];
     let mut words = [0; 4];
     for (word, bytes) in words.iter_mut().zip(list.chunks_exact(8)) {
@@ -73,7 +73,7 @@ fn public_of(job: &[u8]) -> [u64; 4] {
     words
 }
 
-fn has(set: [u64; 4], location: usize) -> bool {
+pub fn has(set: [u64; 4], location: usize) -> bool {
     set[location / 64] >> (location % 64) & 1 == 1
 }
 
@@ -99,7 +99,7 @@ fn other_word(old: u64, random: &mut Random) -> u64 {
 }
 
 /// The job with other bytes as its state.
-fn with_state(job: &[u8], state: &[u8]) -> Vec<u8> {
+pub fn with_state(job: &[u8], state: &[u8]) -> Vec<u8> {
     let mut changed = job.to_vec();
     let offset = usize::from(field(job, Field::StateOffset));
     changed[offset..offset + state.len()].copy_from_slice(state);
@@ -117,7 +117,7 @@ fn same_run(
     let job = with_state(&case.job, state);
     let fill = Fill { salt: random.word(), margin };
     let (operation, lengths) = (Operation::Run, case.lengths);
-    let other = Call { operation, job: &job, second: &[], lengths, fill }.by_library();
+    let other = Call { operation, job: &job, second: &[], seed: 0, lengths, fill }.by_library();
     let same = other.number == 0
         && other.answer() == run.answer()
         && other.observations() == run.observations();
@@ -138,8 +138,8 @@ fn same_pair(
 ) -> Result<(), String> {
     let fill = Fill { salt: random.word(), margin };
     let lengths = Lengths { second_trace: case.lengths.trace, ..case.lengths };
-    let call = Call { operation: Operation::Pair, job: &case.job, second: state, lengths, fill };
-    let pair = call.by_library();
+    let (operation, job) = (Operation::Pair, &case.job[..]);
+    let pair = Call { operation, job, second: state, seed: 0, lengths, fill }.by_library();
     let answer = pair.answer();
     let counts = &run.answer()[..4];
     let same = pair.number == 0

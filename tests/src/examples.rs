@@ -1,6 +1,9 @@
-//! The jobs of document 01's section "A run printed whole", and the text of the first of them.
+//! The jobs of document 01's section "A run printed whole", the text of the first of them, and a job whose
+//! leak few states show.
 
-use crate::job_file::{assign, beqz, load, skip, spbarr, Parts, Token, ADD, REGISTERS, ULT};
+use crate::job_file::{
+    assign, beqz, jmp, load, skip, spbarr, Parts, Token, ADD, AND, EQ, REGISTERS, SUB, ULT,
+};
 
 /// The job that is printed whole: 236 bytes, verdict speculative.
 pub fn printed() -> Parts {
@@ -43,16 +46,34 @@ pub fn nested() -> Parts {
     parts
 }
 
+/// The printed job with another wrong path: it is a step longer where the low four bits of m1 are 5, which is so
+/// for one state in sixteen. Verdict speculative.
+pub fn seldom() -> Parts {
+    let [r0, r1, r3] = [0, 1, 3].map(Token::Register);
+    let [mask, value, end] = [15, 5, 6].map(Token::Constant);
+    let mut parts = printed();
+    parts.program = vec![
+        assign(2, &[r0, r1, ULT]),
+        beqz(2, 6),
+        load(3, &[r0]),
+        assign(3, &[r3, mask, AND, value, EQ]),
+        jmp(&[end, r3, SUB]),
+        skip(),
+    ];
+    parts
+}
+
 /// The program of the printed job as text; document 02 prints these lines.
 pub const PRINTED_TEXT: &str = "set r2 (r0 ult r1)\nbeqz r2 4\nload r3 r0\nload r4 (r3 add 2)\n";
 
 /// Each example job with the name of its file.
-pub fn files() -> [(&'static str, Vec<u8>); 4] {
+pub fn files() -> [(&'static str, Vec<u8>); 5] {
     [
         ("printed.mua", printed().bytes()),
         ("barrier.mua", barrier().bytes()),
         ("nested.mua", nested().bytes()),
         ("r0-zero.mua", r0_zero().bytes()),
+        ("seldom.mua", seldom().bytes()),
     ]
 }
 

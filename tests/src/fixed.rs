@@ -1,10 +1,11 @@
 //! Fixed cases: every length around each bound, each limit and its neighbours, every truncation and
-//! every bit of small jobs, each operator at its edges. They are made before the random ones.
+//! every bit of small jobs, each operator at its edges, test loads. They are made before the random ones.
 
 use crate::calls::Lengths;
 use crate::cases::{Case, Treatment, WORKING_WORDS};
 use crate::examples::{barrier, nested, printed, r0_zero};
 use crate::fixed_files;
+use crate::fixed_loads;
 use crate::fixed_runs;
 use crate::job_file::{beqz, set_field, skip, state_bytes, Field, Parts};
 
@@ -12,7 +13,7 @@ pub type Cases = Vec<Case>;
 
 /// Areas in which every fixed job that is accepted has room, if it takes up to 1,500 steps.
 pub const ROOMY: Lengths =
-    Lengths { trace: 6_004, second_trace: 6_004, end: 256, work: WORKING_WORDS };
+    Lengths { trace: 6_004, second_trace: 6_004, end: 256, work: WORKING_WORDS, state: 2_051 };
 
 pub fn all() -> Cases {
     let mut cases = Cases::new();
@@ -22,6 +23,7 @@ pub fn all() -> Cases {
     refusals_together(&mut cases);
     fixed_files::add(&mut cases);
     fixed_runs::add(&mut cases);
+    fixed_loads::add(&mut cases);
     for (number, case) in cases.iter_mut().enumerate() {
         case.name = format!("fixed-{number}");
         case.salt = number as u64 * 0x1_0001;
@@ -32,7 +34,7 @@ pub fn all() -> Cases {
 /// A case with any bytes as job and as second state.
 pub fn raw_case(job: Vec<u8>, second: Vec<u8>, lengths: Lengths) -> Case {
     let (name, style, treatment) = (String::new(), None, Treatment::Fixed);
-    Case { name, style, treatment, job, second, lengths, salt: 0 }
+    Case { name, style, treatment, job, second, load_seed: 1, lengths, salt: 0 }
 }
 
 /// A case of a job put together from parts, whose second state differs in every cell.
@@ -44,7 +46,7 @@ pub fn case_of(parts: &Parts, lengths: Lengths) -> Case {
     raw_case(parts.bytes(), state_bytes(&second), lengths)
 }
 
-fn examples() -> [Parts; 4] {
+pub fn examples() -> [Parts; 4] {
     [printed(), barrier(), nested(), r0_zero()]
 }
 
@@ -128,7 +130,7 @@ fn refusals_together(cases: &mut Cases) {
         for second in [159, 160, 161] {
             for (work, end) in [(4_096, 20), (4_095, 20), (4_096, 19), (0, 0)] {
                 for second_trace in [40, 41] {
-                    let lengths = Lengths { trace: 40, second_trace, end, work };
+                    let lengths = Lengths { trace: 40, second_trace, end, work, ..ROOMY };
                     cases.push(raw_case(job.clone(), vec![0; second], lengths));
                 }
             }

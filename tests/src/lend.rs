@@ -11,6 +11,13 @@ pub struct Fill {
     pub margin: usize,
 }
 
+impl Fill {
+    /// The filling of one of a call's areas, so that no two hold the same; with salt 0 they all do.
+    pub fn of_area(self, number: u64) -> Fill {
+        Fill { salt: self.salt.wrapping_mul(2 * number + 1), ..self }
+    }
+}
+
 /// What an area is made of: 64-bit words, or bytes.
 pub trait Unit: Copy + Eq + Display {
     /// The one that stands at an index of a lent area before a call.

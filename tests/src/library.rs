@@ -1,9 +1,10 @@
 //! The library under test: a safe call for each of its C functions.
 
-/// Words of the answers of a run, a plain run and a pair, of reading a text and of printing one.
+/// Words of the answers of a run, a plain run, a pair and a test load, of reading a text and of printing one.
 pub const RUN_ANSWER: usize = 13;
 pub const PLAIN_ANSWER: usize = 7;
 pub const PAIR_ANSWER: usize = 9;
+pub const LOAD_ANSWER: usize = 10;
 pub const READ_ANSWER: usize = 2;
 pub const PRINT_ANSWER: usize = 1;
 
@@ -43,6 +44,21 @@ unsafe extern "C" {
         trace2_len: usize,
         work: *mut u64,
         work_len: usize,
+        answer: *mut u64,
+    ) -> u32;
+
+    fn checker_test_load(
+        job: *const u8,
+        job_len: usize,
+        seed: u64,
+        trace1: *mut u64,
+        trace1_len: usize,
+        trace2: *mut u64,
+        trace2_len: usize,
+        work: *mut u64,
+        work_len: usize,
+        state: *mut u8,
+        state_len: usize,
         answer: *mut u64,
     ) -> u32;
 
@@ -133,6 +149,35 @@ pub fn compare(
             trace2.len(),
             work.as_mut_ptr(),
             work.len(),
+            answer.as_mut_ptr(),
+        )
+    }
+}
+
+/// The pair of the job's state and one made from the seed; 0 or the refusal number.
+pub fn test_load(
+    job: &[u8],
+    seed: u64,
+    trace1: &mut [u64],
+    trace2: &mut [u64],
+    work: &mut [u64],
+    state: &mut [u8],
+    answer: &mut [u64; LOAD_ANSWER],
+) -> u32 {
+    // Safety: as in `run`.
+    unsafe {
+        checker_test_load(
+            job.as_ptr(),
+            job.len(),
+            seed,
+            trace1.as_mut_ptr(),
+            trace1.len(),
+            trace2.as_mut_ptr(),
+            trace2.len(),
+            work.as_mut_ptr(),
+            work.len(),
+            state.as_mut_ptr(),
+            state.len(),
             answer.as_mut_ptr(),
         )
     }

@@ -2,14 +2,32 @@
 
 use crate::calls::{Operation, Outcome};
 use crate::cases::{Case, TREATMENTS};
+use crate::demands::state_of;
 use crate::generate::STYLES;
 use crate::job_file::{field, Field};
 
 const STOPS: [&str; 3] = ["finished", "spent", "trace full"];
 const VERDICTS: [&str; 4] = ["undecided", "clean", "speculative", "plain"];
 const WORDS: [&str; 5] = ["not comparable", "undecided", "plain differs", "leak shown", "equal"];
+/// What a test load can give: the three words, the stop of an own run that did not finish, whether a state was
+/// made, and the stop of a second run that did not finish.
+const LOADS: [&str; 10] = [
+    "undecided",
+    "leak shown",
+    "equal",
+    "own run spent",
+    "own run trace full",
+    "no state made",
+    "a state made",
+    "one like the job's own",
+    "second run spent",
+    "second run trace full",
+];
 const OBSERVED: [&str; 7] =
     ["start", "rollback", "pc", "load inside", "store inside", "load outside", "store outside"];
+
+/// The refusals of the four calls; 11 is one of texts alone.
+const REFUSALS: [usize; 12] = [1, 2, 3, 4, 5, 6, 7, 8, 9, 10, 12, 13];
 
 const LOAD: u64 = 3;
 const STORE: u64 = 4;
@@ -22,13 +40,15 @@ pub struct Tally {
     pub demand_3: u64,
     pub states_changed_outside_d: u64,
     pub clean_states_changed: u64,
+    pub load_claims: u64,
     styles: [u64; STYLES.len()],
     treatments: [u64; TREATMENTS.len()],
-    refusals: [u64; 11],
+    refusals: [u64; 14],
     run_stops: [u64; 3],
     plain_stops: [u64; 3],
     verdicts: [u64; 4],
     words: [u64; 5],
+    loads: [u64; LOADS.len()],
     observed: [u64; 7],
     stopped_on_wrong_path: u64,
     deepest: u64,
@@ -64,6 +84,29 @@ impl Tally {
             }
             Operation::Plain => self.plain_stops[answer[0] as usize] += 1,
             Operation::Pair => self.words[answer[0] as usize] += 1,
+            Operation::Load => self.count_load(case, outcome),
+        }
+    }
+
+    /// The traits stand in the order of `LOADS`; a load can have several.
+    fn count_load(&mut self, case: &Case, outcome: &Outcome) {
+        let answer = outcome.answer();
+        let (word, own, second, made) = (answer[0], answer[1], answer[5], answer[9] == 1);
+        let alike = made && outcome.state.content().starts_with(state_of(&case.job));
+        let traits = [
+            word == 1,
+            word == 3,
+            word == 4,
+            own == 1,
+            own == 2,
+            !made,
+            made,
+            alike,
+            made && second == 1,
+            made && second == 2,
+        ];
+        for (count, holds) in self.loads.iter_mut().zip(traits) {
+            *count += u64::from(holds);
         }
     }
 
@@ -84,17 +127,18 @@ impl Tally {
 
     /// What never occurred although it should in a long run.
     pub fn missing(&self) -> Vec<String> {
-        let numbers = (1..=10).map(|number| format!("refusal {number}"));
-        let refusals = numbers.zip(self.refusals[1..].iter().copied());
+        let refusals = REFUSALS.map(|number| (format!("refusal {number}"), self.refusals[number]));
         let named = |kind: &'static str, names: &'static [&'static str], counts: &[u64]| {
             let names = names.iter().map(move |name| format!("{kind} {name}"));
             names.zip(counts.to_vec()).collect::<Vec<_>>()
         };
         refusals
+            .into_iter()
             .chain(named("stop", &STOPS, &self.run_stops))
             .chain(named("stop of a plain run", &STOPS, &self.plain_stops))
             .chain(named("verdict", &VERDICTS, &self.verdicts))
             .chain(named("pair word", &WORDS, &self.words))
+            .chain(named("test load", &LOADS, &self.loads))
             .chain(named("observation", &OBSERVED, &self.observed))
             .filter(|(_, count)| *count == 0)
             .map(|(name, _)| name)
@@ -109,16 +153,17 @@ impl Tally {
         );
         let treatments = TREATMENTS.map(|treatment| format!("{treatment:?}"));
         println!("cases by treatment: {}", counts(&treatments, &self.treatments));
-        let numbers: Vec<String> = (1..=10).map(|number| format!("{number}")).collect();
+        let refused = REFUSALS.map(|number| self.refusals[number]);
         println!(
             "calls accepted {}; refused: {}",
             self.refusals[0],
-            counts(&numbers, &self.refusals[1..])
+            counts(&REFUSALS.map(|number| format!("{number}")), &refused)
         );
         println!("stops: {}", counts(&STOPS, &self.run_stops));
         println!("stops of plain runs: {}", counts(&STOPS, &self.plain_stops));
         println!("verdicts: {}", counts(&VERDICTS, &self.verdicts));
         println!("pair words: {}", counts(&WORDS, &self.words));
+        println!("test loads: {}", counts(&LOADS, &self.loads));
         println!("observations: {}", counts(&OBSERVED, &self.observed));
         println!(
             "runs stopped on a wrong path {}, most branches open {}, most steps {}, most observations {}",
@@ -128,6 +173,7 @@ impl Tally {
             "demand 2 tried {}; demand 3 tried {}, with a changed state {}; clean, all but public changed {}",
             self.demand_2, self.demand_3, self.states_changed_outside_d, self.clean_states_changed
         );
+        println!("claims of test loads tried {}", self.load_claims);
     }
 }
 

@@ -11,6 +11,10 @@ use crate::text::calls::{TextCall, TextOperation, TextOutcome};
 
 const WORKING_WORDS: usize = 4_096;
 
+/// The words of a pair in the order of their numbers.
+const PAIR_WORDS: [&str; 5] =
+    ["not comparable", "undecided", "plain differs", "leak shown", "equal"];
+
 /// The filling that the files' heads prescribe, with some words or bytes around each area.
 const FILL: Fill = Fill { salt: 0, margin: 8 };
 
@@ -130,10 +134,19 @@ impl Vector {
     }
 
     fn pair_answer(&self) -> Result<Vec<u64>, String> {
-        let names = ["not comparable", "undecided", "plain differs", "leak shown", "equal"];
-        let mut words = vec![position(&names, self.field("word")?)?];
+        let mut words = vec![position(&PAIR_WORDS, self.field("word")?)?];
         words.extend(self.counts("first-run")?);
         words.extend(self.counts("second-run")?);
+        Ok(words)
+    }
+
+    /// There is no line for the second run where no state was made.
+    fn load_answer(&self) -> Result<Vec<u64>, String> {
+        let made = number(self.field("made")?)?;
+        let mut words = vec![position(&PAIR_WORDS, self.field("word")?)?];
+        words.extend(self.counts("first-run")?);
+        words.extend(if made == 1 { self.counts("second-run")? } else { [0; 4] });
+        words.push(made);
         Ok(words)
     }
 
@@ -142,6 +155,7 @@ impl Vector {
             Operation::Run => self.run_answer(),
             Operation::Plain => self.plain_answer(),
             Operation::Pair => self.pair_answer(),
+            Operation::Load => self.load_answer(),
         }
     }
 
@@ -150,6 +164,7 @@ impl Vector {
         let length = self.lent(name)?;
         let written = match name {
             _ if self.fields.contains_key("refused") => Vec::new(),
+            "trace2" if self.is_without_state() => Vec::new(),
             "work" => vec![0; WORKING_WORDS],
             _ => self.numbers(name)?,
         };
@@ -157,6 +172,32 @@ impl Vector {
             return Err(format!("more words than the area \"{name}\" has"));
         }
         Ok(Area::filled_with(&written, length, FILL))
+    }
+
+    /// True if the vector says that no state was made.
+    fn is_without_state(&self) -> bool {
+        self.fields.get("made").is_some_and(|made| made == "0")
+    }
+
+    /// The state area as the vector says it is after the call; a call other than a test load has none.
+    fn state_after(&self, operation: Operation) -> Result<Area<u8>, String> {
+        let length = self.state_length(operation)?;
+        let nothing = operation != Operation::Load
+            || self.fields.contains_key("refused")
+            || self.is_without_state();
+        let written = if nothing { Vec::new() } else { self.bytes("state")? };
+        if written.len() > length {
+            return Err("more bytes than the area \"state\" has".to_string());
+        }
+        Ok(Area::filled_with(&written, length, FILL))
+    }
+
+    fn state_length(&self, operation: Operation) -> Result<usize, String> {
+        if operation == Operation::Load {
+            self.lent("state")
+        } else {
+            Ok(0)
+        }
     }
 
     /// The refusal's number, or 0.
@@ -173,6 +214,7 @@ impl Vector {
             number,
             answer: Area::filled_with(&answer, operation.answer_words(), FILL),
             areas: [a?, b?, c?],
+            state: self.state_after(operation)?,
             inputs_kept: true,
         })
     }
@@ -180,14 +222,16 @@ impl Vector {
     fn lengths(&self, operation: Operation) -> Result<Lengths, String> {
         let [first, second, work] = operation.area_names().map(|name| self.lent(name));
         let (first, second, work) = (first?, second?, work?);
-        Ok(Lengths { trace: first, second_trace: second, end: second, work })
+        let state = self.state_length(operation)?;
+        Ok(Lengths { trace: first, second_trace: second, end: second, work, state })
     }
 
     fn check_call(&self, operation: Operation) -> Result<(), String> {
         let job = self.bytes("job")?;
         let second = if operation == Operation::Pair { self.bytes("second")? } else { Vec::new() };
+        let seed = if operation == Operation::Load { number(self.field("seed-word")?)? } else { 0 };
         let lengths = self.lengths(operation)?;
-        let call = Call { operation, job: &job, second: &second, lengths, fill: FILL };
+        let call = Call { operation, job: &job, second: &second, seed, lengths, fill: FILL };
         match call.by_library().difference(&self.expected(operation)?) {
             Some(difference) => Err(difference),
             None => Ok(()),
@@ -248,6 +292,7 @@ impl Vector {
             "run" => call(Operation::Run),
             "plain" => call(Operation::Plain),
             "pair" => call(Operation::Pair),
+            "load" => call(Operation::Load),
             "read" => text(TextOperation::Read),
             "print" => text(TextOperation::Print),
             "listing" => self.check_listing().map(|()| Checked::ReferenceListing),

@@ -43,6 +43,7 @@ fn a_seed_gives_the_same_case() {
     for seed in 0..200 {
         let (one, two) = (random_case(seed), random_case(seed));
         assert_eq!((one.job, one.second, one.salt), (two.job, two.second, two.salt));
+        assert_eq!(one.load_seed, two.load_seed);
         assert_eq!(format!("{:?}", one.lengths), format!("{:?}", two.lengths));
     }
 }

@@ -1,6 +1,8 @@
 //! A small assembler for job files and areas filled with known words, shared by the tests.
 #![allow(dead_code)]
 
+pub mod random;
+
 use check_box_reference::{compare, plain_run, run, PairAnswer, PlainAnswer, RunAnswer};
 
 pub const WORK: usize = 4_096;
@@ -133,6 +135,24 @@ impl JobParts {
     }
 }
 
+/// The program that document 01 prints whole.
+pub fn printed() -> JobParts {
+    let mut parts = job(
+        vec![
+            assign(2, &[T::R(0), T::R(1), ULT]),
+            beqz(2, 4),
+            load(3, &[T::R(0)]),
+            load(4, &[T::R(3), T::C(2), ADD]),
+        ],
+        4,
+    );
+    parts.registers[0] = 1;
+    parts.registers[1] = 1;
+    parts.cells[1] = 1;
+    parts.public = vec![0, 1];
+    parts
+}
+
 /// The word that stands at index i of every area before a call.
 pub fn filling(index: usize) -> u64 {
     (index as u64 + 1).wrapping_mul(0x9E37_79B9_7F4A_7C15)
@@ -147,6 +167,18 @@ pub fn area_with(written: &[u64], length: usize) -> Vec<u64> {
     let mut words = area(length);
     words[..written.len()].copy_from_slice(written);
     words
+}
+
+/// An area of bytes before a call.
+pub fn byte_area(length: usize) -> Vec<u8> {
+    (0..length).map(|index| (index * 37 + 11) as u8).collect()
+}
+
+/// An area of bytes after a call that wrote `written` to its front and nothing else.
+pub fn byte_area_with(written: &[u8], length: usize) -> Vec<u8> {
+    let mut bytes = byte_area(length);
+    bytes[..written.len()].copy_from_slice(written);
+    bytes
 }
 
 /// A list of observations, each a kind and a value.

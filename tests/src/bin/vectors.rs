@@ -8,10 +8,11 @@ use checker_tests::text::calls::TextOperation;
 use checker_tests::vector_file::{parse_file, Checked, Vector};
 
 /// What a vector can call, with its name in the output.
-const ANSWERED: [(Checked, &str); 6] = [
+const ANSWERED: [(Checked, &str); 7] = [
     (Checked::Library(Operation::Run), "run with the library"),
     (Checked::Library(Operation::Plain), "plain with the library"),
     (Checked::Library(Operation::Pair), "pair with the library"),
+    (Checked::Library(Operation::Load), "test load with the library"),
     (Checked::LibraryText(TextOperation::Read), "read with the library"),
     (Checked::LibraryText(TextOperation::Print), "print with the library"),
     (Checked::ReferenceListing, "listing with the reference (the library has no listing)"),
