@@ -1,4 +1,5 @@
--- One step of the mispredicting run, after document 01's three rules, and one step of the plain run.
+-- One step of the mispredicting run, after document 01's three rules, and one step of the plain run. The machine's frame (branches,
+-- windows, rollbacks) is the same for any type W of words; the steps are over words with their sets.
 -- Assumes nothing.
 use mathlib.Core.Bool.{Bool, _||_, cond}
 use mathlib.Core.List.{List, [], _∷_}
@@ -8,44 +9,54 @@ use lib.ListN.{getD}
 use Rattle.location.specs.declared.LocationSet.{LocationSet}
 use Rattle.location.specs.Sets.{registerLocation, empty}
 use Rattle.rules.specs.Rules.Instructions.{Instr, beqz, kind, isBarrier, branching, other, branchView, Observation, start, rollback, pc}
-use Rattle.rules.specs.Rules.Plain.{State, at, Code, endPlace, fetch, Effect, exec, branchTo}
+use Rattle.rules.specs.declared.Tagged.{Tagged}
+use Rattle.rules.specs.Rules.Plain.{StateOf, EffectOf, at, Code, endPlace, fetch, exec, branchTo}
 
 -- "a stack of open branches, each with its id, saved registers and memory, true target and remaining window"
-pub record Branch : Type 0 where
+pub record BranchOf (W : Type 0) : Type 0 where
   pub id : ℕ
-  pub saved : State
+  pub saved : StateOf W
   pub target : ℕ
   pub window : ℕ
 
+abbrev pub Branch : Type 0
+Branch = BranchOf Tagged
+
 -- `branches` are the open ones, the top first; `opened` counts all that were opened.
-pub record Machine : Type 0 where
-  pub state : State
+pub record MachineOf (W : Type 0) : Type 0 where
+  pub state : StateOf W
   pub place : ℕ
-  pub branches : List Branch
+  pub branches : List (BranchOf W)
   pub opened : ℕ
 
+abbrev pub Machine : Type 0
+Machine = MachineOf Tagged
+
 -- the machine after a step, its observations, the set of what is observed, and 1 for a rollback
-pub record Step : Type 0 where
-  pub next : Machine
+pub record StepOf (W : Type 0) : Type 0 where
+  pub next : MachineOf W
   pub obs : List Observation
   pub seen : LocationSet
   pub back : ℕ
+
+abbrev pub Step : Type 0
+Step = StepOf Tagged
 
 -- "Lowering takes the kind's entry in a constant table of eight window costs, down to 0 at least"; "spbarr sets it to 0".
 -- This is the one place where a window is lowered.
 unfoldable pub remaining : Code → Instr → ℕ → ℕ
 remaining code i v = cond (isBarrier i) 0 (v - getD (code .costs) (kind i) 0)
 
-abbrev pub lowered : Code → Instr → Branch → Branch
+abbrev pub lowered : {W : Type 0} → Code → Instr → BranchOf W → BranchOf W
 lowered code i b = record { id = b .id; saved = b .saved; target = b .target; window = remaining code i (b .window) }
 
 -- "Only the top changes."
-unfoldable pub lower : Code → Instr → List Branch → List Branch
+unfoldable pub lower : {W : Type 0} → Code → Instr → List (BranchOf W) → List (BranchOf W)
 lower code i [] = []
 lower code i (b ∷ bs) = lowered code i b ∷ bs
 
 -- rule 3 for an instruction with the effect x
-abbrev pub stepWith : Code → Machine → Instr → Effect → Step
+abbrev pub stepWith : {W : Type 0} → Code → MachineOf W → Instr → EffectOf W → StepOf W
 stepWith code M i x = record {
   next = record { state = x .state; place = x .place; branches = lower code i (M .branches); opened = M .opened };
   obs = x .obs;
@@ -58,7 +69,7 @@ unfoldable pub ordinary : Code → Machine → Instr → Step
 ordinary code M i = stepWith code M i (exec code (M .state) (M .place) i)
 
 -- "With nothing open its window is w. Otherwise the old top's window v is lowered first and the new window is what remains."
-unfoldable pub newWindow : Code → List Branch → ℕ
+unfoldable pub newWindow : {W : Type 0} → Code → List (BranchOf W) → ℕ
 newWindow code [] = code .window
 newWindow code (b ∷ bs) = b .window
 
@@ -81,7 +92,7 @@ unfoldable pub forward : Code → Machine → Instr → Step
 forward code M i = elim (branchView i) [ branching r l ↦ opening code M r l | other ↦ ordinary code M i ]
 
 -- Rule 1: "restore the top's registers and memory, go to its true target, drop it." "Rollback restores sets too."
-unfoldable pub rolling : Machine → Branch → List Branch → Step
+unfoldable pub rolling : {W : Type 0} → MachineOf W → BranchOf W → List (BranchOf W) → StepOf W
 rolling M b bs = record {
   next = record { state = b .saved; place = b .target; branches = bs; opened = M .opened };
   obs = rollback (b .id) ∷ pc (b .target) ∷ [];
@@ -90,7 +101,7 @@ rolling M b bs = record {
 }
 
 -- "Top window 0, or END with a branch open"
-unfoldable pub expired : Code → ℕ → Branch → Bool
+unfoldable pub expired : {W : Type 0} → Code → ℕ → BranchOf W → Bool
 expired code p b = eqb (b .window) 0 || leb (endPlace code) p
 
 unfoldable pub stepOn : Code → Machine → List Branch → Step

@@ -11,9 +11,13 @@ use Rattle.rules.specs.declared.Tagged.{Tagged}
 use Rattle.rules.specs.Rules.Expressions.{tagged, eval}
 use Rattle.rules.specs.Rules.Instructions.{Instr, skip, assign, load, store, jmp, beqz, cassign, spbarr, Observation, pc, loaded, stored}
 
--- "Registers and cells are also numbered as locations": the state holds a word with its set for each location in order.
+-- "Registers and cells are also numbered as locations": the state holds a word for each location in order. What a word is, the frame of
+-- the machine leaves open: here it is a word with its set.
+abbrev pub StateOf : Type 0 → Type 0
+StateOf W = List W
+
 abbrev pub State : Type 0
-State = List Tagged
+State = StateOf Tagged
 
 unfoldable pub at : State → ℕ → Tagged
 at σ l = getD σ l (tagged 0 empty)
@@ -66,11 +70,14 @@ unfoldable pub branchTo : Tagged → ℕ → ℕ → ℕ
 branchTo t label next = cond (eqb (t .value) 0) label next
 
 -- the state and place after an instruction, its observations, and the set of what is observed
-pub record Effect : Type 0 where
-  pub state : State
+pub record EffectOf (W : Type 0) : Type 0 where
+  pub state : StateOf W
   pub place : ℕ
   pub obs : List Observation
   pub seen : LocationSet
+
+abbrev pub Effect : Type 0
+Effect = EffectOf Tagged
 
 -- "All but jmp and beqz go on to the next label."
 abbrev pub silent : State → ℕ → Effect
