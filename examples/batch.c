@@ -46,7 +46,7 @@ static uint64_t end[CHECKER_END_WORDS_MAX];
 static uint64_t work[CHECKER_WORK_WORDS];
 static uint8_t state[CHECKER_STATE_BYTES_MAX];
 
-static const char *const stops[] = {"finished", "spent", "trace full"};
+static const char *const stops[] = {"finished", "spent", "trace full", "outside full"};
 
 /* Reads the file into the job area; 1 if it could be read. */
 static int read_job(const char *path)

@@ -3,9 +3,10 @@
  *
  *   release JOB.mua
  *
- * Prints the verdict, the counts and the first observations of the mispredicting
- * run. The exit status is 0 if the verdict is clean, 1 if it is another one, and
- * 2 if the job is refused or its file cannot be read.
+ * Prints the verdict, the counts, the first observations of the mispredicting
+ * run, and the first of the stores outside memory that it remembers at its stop,
+ * each with address and value. The exit status is 0 if the verdict is clean, 1 if
+ * it is another one, and 2 if the job is refused or its file cannot be read.
  *
  * It takes no memory at run time: everything that the checker needs is lent to
  * it from the static areas below.
@@ -18,6 +19,7 @@
 enum {
     OBSERVATIONS_LENT = 65536,
     OBSERVATIONS_SHOWN = 20,
+    STORES_SHOWN = 4,
     EXIT_CLEAN = 0,
     EXIT_NOT_CLEAN = 1,
     EXIT_NO_ANSWER = 2
@@ -25,22 +27,23 @@ enum {
 
 /* One byte more than the longest job, so that a longer file is seen as such. */
 static uint8_t job[CHECKER_JOB_BYTES_MAX + 1];
+static size_t job_len;
 static uint64_t trace[2 * OBSERVATIONS_LENT];
 static uint64_t end[CHECKER_END_WORDS_MAX];
 static uint64_t work[CHECKER_WORK_WORDS];
 
-static const char *const stops[] = {"finished", "spent", "trace full"};
+static const char *const stops[] = {"finished", "spent", "trace full", "outside full"};
 static const char *const verdicts[] = {"undecided", "clean", "speculative", "plain"};
 static const char *const kinds[] = {"start", "rollback", "pc", "load", "store"};
 
 /* Reads the file into the job area; 1 if it could be read. */
-static int read_job(const char *path, size_t *length)
+static int read_job(const char *path)
 {
     FILE *file = fopen(path, "rb");
     if (file == NULL) {
         return 0;
     }
-    *length = fread(job, 1, sizeof job, file);
+    job_len = fread(job, 1, sizeof job, file);
     int readable = ferror(file) == 0;
     fclose(file);
     return readable;
@@ -73,6 +76,22 @@ static void print_observations(uint64_t count)
     }
 }
 
+/* The stores outside memory, which stand in the end area behind the 16 registers
+ * and the m cells. The job was not refused, so m stands 10 bytes before its end. */
+static void print_stores(void)
+{
+    size_t cells = job[job_len - 10] + 256u * job[job_len - 9];
+    const uint64_t *table = end + 16 + cells;
+    uint64_t shown = table[0] < STORES_SHOWN ? table[0] : STORES_SHOWN;
+    printf("outside %" PRIu64 "\n", table[0]);
+    for (uint64_t i = 0; i < shown; i++) {
+        printf("  %" PRIu64 " holds %" PRIu64 "\n", table[1 + 2 * i], table[2 + 2 * i]);
+    }
+    if (shown < table[0]) {
+        printf("  and %" PRIu64 " more\n", table[0] - shown);
+    }
+}
+
 static void print_answer(const uint64_t answer[CHECKER_RUN_ANSWER_WORDS])
 {
     printf("verdict %s\n", verdicts[answer[CHECKER_RUN_VERDICT]]);
@@ -83,21 +102,21 @@ static void print_answer(const uint64_t answer[CHECKER_RUN_ANSWER_WORDS])
     print_set("plain", answer + CHECKER_RUN_PLAIN);
     printf("observations %" PRIu64 "\n", answer[CHECKER_RUN_OBSERVATIONS]);
     print_observations(answer[CHECKER_RUN_OBSERVATIONS]);
+    print_stores();
 }
 
 int main(int argc, char **argv)
 {
     uint64_t answer[CHECKER_RUN_ANSWER_WORDS];
-    size_t length = 0;
     if (argc != 2) {
         fprintf(stderr, "usage: release JOB.mua\n");
         return EXIT_NO_ANSWER;
     }
-    if (!read_job(argv[1], &length)) {
+    if (!read_job(argv[1])) {
         fprintf(stderr, "cannot read %s\n", argv[1]);
         return EXIT_NO_ANSWER;
     }
-    uint32_t refused = checker_run(job, length,
+    uint32_t refused = checker_run(job, job_len,
                                    trace, sizeof trace / sizeof trace[0],
                                    end, sizeof end / sizeof end[0],
                                    work, sizeof work / sizeof work[0],

@@ -77,8 +77,16 @@
  *
  * All words are unsigned and wrap modulo 2^64. A shift uses its count, the
  * right operand, modulo 64: a shift by 64 gives the left operand. eq and ult
- * give 1 or 0. A load outside memory reads 0, a store there changes nothing;
- * both are observed.
+ * give 1 or 0.
+ *
+ * An address of m or above lies outside memory; loads and stores there are
+ * observed too. A store outside memory is remembered, its value with what that
+ * depends on, for up to 64 addresses at one time; a later store to a remembered
+ * address replaces both. A load outside memory reads what is remembered for its
+ * address, and 0 if nothing is. When a wrongly guessed branch is rolled back,
+ * what is remembered is restored with the registers and the cells: an address
+ * first stored to on that path is forgotten. Every run starts with nothing
+ * remembered.
  *
  * A location is a register or a memory cell: register r is location r, memory
  * cell a is location 16 + a. There are 16 + m of them, at most 256.
@@ -92,10 +100,14 @@
  *        written. If the run needs more room it stops as "trace full".
  *        Words behind the last observation keep their contents.
  *
- * end    At least 16 + m words (256 are enough for every job). After the call
- *        its first 16 + m words are the registers and the cells as they are at
- *        the moment of the stop. If the run did not finish, that may be inside
- *        a wrongly guessed path. Further words keep their contents.
+ * end    At least 16 + m + 129 words (385 are enough for every job). After the
+ *        call its first 16 + m words are the registers and the cells as they
+ *        are at the moment of the stop. The next 129 words are the stores
+ *        outside memory that are remembered at that moment: first how many, 0
+ *        to 64; then the address and the value of each, side by side, in the
+ *        order in which the addresses were first stored to; then zeros. If the
+ *        run did not finish, that moment may be inside a wrongly guessed path.
+ *        Further words keep their contents.
  *
  * work   At least 4,096 words. After the call its first 4,096 words are 0, so
  *        that nothing of the job stays behind there. Further words keep their
@@ -149,8 +161,15 @@ extern "C" {
 /* Words of the working area that every run and comparison needs. */
 #define CHECKER_WORK_WORDS 4096
 
-/* Words of an end area that is long enough for every job: 16 + 240. */
-#define CHECKER_END_WORDS_MAX 256
+/* Addresses outside memory whose stores are remembered at one time. */
+#define CHECKER_OUTSIDE_MAX 64
+
+/* Words of the end area behind the registers and the cells: how many stores
+ * outside memory are remembered, then 64 times an address and a value. */
+#define CHECKER_OUTSIDE_WORDS 129
+
+/* Words of an end area that is long enough for every job: 16 + 240 + 129. */
+#define CHECKER_END_WORDS_MAX 385
 
 /* Bytes of an area that is long enough for the new state of every job:
  * 8 * (16 + 240). */
@@ -199,7 +218,7 @@ enum checker_refusal {
     /* The second state is not 128 + 8m bytes long (checker_compare only). */
     CHECKER_REFUSED_SECOND_STATE = 9,
     /* The working area is shorter than 4,096 words, the end area is shorter
-     * than 16 + m words, or the two trace areas of checker_compare or
+     * than 16 + m + 129 words, or the two trace areas of checker_compare or
      * checker_test_load have different lengths. */
     CHECKER_REFUSED_AREAS = 10,
     /* The text is no routine: a line is outside the grammar above, a constant
@@ -214,7 +233,8 @@ enum checker_refusal {
     CHECKER_REFUSED_SEED = 13
 };
 
-/* Why a run stopped. Finished is tested first, then spent, then trace full. */
+/* Why a run stopped. Finished is tested first, then spent, then trace full,
+ * then outside full. */
 enum checker_stop {
     /* The routine reached its end, and no wrongly guessed branch was open. */
     CHECKER_FINISHED = 0,
@@ -222,12 +242,17 @@ enum checker_stop {
     CHECKER_SPENT = 1,
     /* The next step's observations did not all fit the trace area; that step
      * was not made. */
-    CHECKER_TRACE_FULL = 2
+    CHECKER_TRACE_FULL = 2,
+    /* The next step was a store to a 65th address outside memory; that step was
+     * not made. The locations that the address depended on belong to D all the
+     * same, and to the plain set if no wrongly guessed branch was open. */
+    CHECKER_OUTSIDE_FULL = 3
 };
 
 /* What a mispredicting run shows. D is the set of all locations that an
- * observation depended on; the plain set is the part of them that was observed
- * outside every wrongly guessed path. */
+ * observation depended on, or the store that found the table of stores outside
+ * full; the plain set is the part of them from outside every wrongly guessed
+ * path. */
 enum checker_verdict {
     /* The run did not finish. */
     CHECKER_VERDICT_UNDECIDED = 0,
@@ -331,7 +356,7 @@ enum checker_print_answer {
  *
  * job, job_len      the job, in bytes
  * trace, trace_len  the trace area, in words
- * end, end_len      the end area, in words, at least 16 + m
+ * end, end_len      the end area, in words, at least 16 + m + 129
  * work, work_len    the working area, in words, at least 4,096
  * answer            13 words: stop, observations, steps, rollbacks, four words
  *                   of D, four words of the plain set, verdict
@@ -340,9 +365,11 @@ enum checker_print_answer {
  *
  * A second state that holds the same words as the job's state at the locations
  * of D gives, in areas of the same lengths, the same answer and the same
- * observations (same program, public list and trailer). After the verdict
- * "clean" this holds of every state that agrees with the job's at the public
- * locations; other public values are another job.
+ * observations (same program, public list and trailer). It also remembers
+ * stores to the same addresses in the same order, and the same value for each
+ * whose value depends on locations of D alone. After the verdict "clean" this
+ * holds of every state that agrees with the job's at the public locations;
+ * other public values are another job.
  */
 uint32_t checker_run(const uint8_t *job, size_t job_len,
                      uint64_t *trace, size_t trace_len,
@@ -361,9 +388,9 @@ uint32_t checker_run(const uint8_t *job, size_t job_len,
  * Returns 0 or a refusal number (1 to 8, or 10).
  *
  * If checker_run finishes, this run finishes in areas of the same lengths,
- * with the same end state and the same plain set; and its trace is that of
- * checker_run without all that stands between each outermost start and its
- * rollback, both of them left out too.
+ * with the same registers, cells and remembered stores and the same plain set;
+ * and its trace is that of checker_run without all that stands between each
+ * outermost start and its rollback, both of them left out too.
  */
 uint32_t checker_plain_run(const uint8_t *job, size_t job_len,
                            uint64_t *trace, size_t trace_len,
@@ -384,8 +411,8 @@ uint32_t checker_plain_run(const uint8_t *job, size_t job_len,
  * answer               9 words: the pair word; stop, observations, steps and
  *                      rollbacks of the first run; the same of the second run
  *
- * Both runs are made and both traces written whatever the word is. There is no
- * end area.
+ * Both runs are made and both traces written whatever the word is, and each
+ * run starts with no store outside memory remembered. There is no end area.
  *
  * Returns 0 or a refusal number (1 to 10).
  */

@@ -6,6 +6,7 @@ pub enum Stop {
     Finished,
     Spent,
     TraceFull,
+    OutsideFull,
 }
 
 impl Stop {
@@ -14,6 +15,7 @@ impl Stop {
             Stop::Finished => 0,
             Stop::Spent => 1,
             Stop::TraceFull => 2,
+            Stop::OutsideFull => 3,
         }
     }
 
@@ -22,6 +24,7 @@ impl Stop {
             Stop::Finished => "finished",
             Stop::Spent => "spent",
             Stop::TraceFull => "trace full",
+            Stop::OutsideFull => "outside full",
         }
     }
 }

@@ -1,4 +1,4 @@
-//! A second implementation of document 01 and of requests F-1, F-2 and F-3 of document 02,
+//! A second implementation of document 01 and of requests F-1 to F-4 of document 02,
 //! written from the documents alone.
 //! It prefers clarity to speed: every branch saves a copy of the whole state.
 
@@ -9,6 +9,7 @@ mod job;
 mod listing;
 mod location_set;
 mod machine;
+mod outside;
 mod pair;
 mod program_bytes;
 mod refusal;
@@ -23,6 +24,7 @@ pub use answer::{
     LoadAnswer, PairAnswer, PairWord, PlainAnswer, RunAnswer, RunCounts, Stop, TextCounts, Verdict,
 };
 pub use listing::{listing, listing_in};
+pub use outside::{OUTSIDE_LIMIT, OUTSIDE_WORDS};
 pub use pair::compare;
 pub use refusal::Refusal;
 pub use run::{plain_run, run};

@@ -1,6 +1,7 @@
 //! The machine: expressions, instructions, the state with its dependency sets, and plain execution.
 
 use crate::location_set::LocationSet;
+use crate::outside::OutsideTable;
 use crate::trace::{LOAD, PC, STORE};
 
 pub const REGISTERS: usize = 16;
@@ -58,11 +59,12 @@ pub enum Instruction {
     Barrier,
 }
 
-/// Registers and memory cells with their dependency sets.
+/// Registers, memory cells and remembered stores outside, with their dependency sets.
 #[derive(Debug, Clone, PartialEq, Eq)]
 pub struct State {
     registers: [Word; REGISTERS],
     cells: Vec<Word>,
+    outside: OutsideTable,
 }
 
 /// An observation with the dependency set of its address, jump value or branch register.
@@ -128,7 +130,7 @@ impl BinaryOperator {
 }
 
 impl State {
-    /// The state at the start of a run; each location depends on itself alone.
+    /// The state at the start of a run; each location depends on itself alone, nothing is outside.
     /// The words stand in the order of the locations: registers, then cells.
     pub fn new(words: &[u64]) -> State {
         let initial = |location: usize| Word {
@@ -138,6 +140,7 @@ impl State {
         State {
             registers: std::array::from_fn(initial),
             cells: (REGISTERS..words.len()).map(initial).collect(),
+            outside: OutsideTable::EMPTY,
         }
     }
 
@@ -145,9 +148,20 @@ impl State {
         self.registers[register]
     }
 
-    /// The values alone, registers and then cells.
-    pub fn values(&self) -> Vec<u64> {
-        self.registers.iter().chain(&self.cells).map(|word| word.value).collect()
+    /// The words of an end area: registers, then cells, then the table of stores outside.
+    pub fn end_words(&self) -> Vec<u64> {
+        let image = self.registers.iter().chain(&self.cells).map(|word| word.value);
+        image.chain(self.outside.words()).collect()
+    }
+
+    /// The address of a store for which the table has no room, if the instruction is one.
+    pub fn address_without_room(&self, instruction: &Instruction) -> Option<Word> {
+        let Instruction::Store { address, .. } = instruction else {
+            return None;
+        };
+        let address = self.evaluate(address);
+        let outside = self.cell_index(address.value).is_none();
+        (outside && !self.outside.has_room_for(address.value)).then_some(address)
     }
 
     /// The postfix rule, checked when the job is read, keeps every pop from failing.
@@ -180,23 +194,30 @@ impl State {
         usize::try_from(address).ok().filter(|&index| index < self.cells.len())
     }
 
-    /// A load where there is no cell reads 0 and depends on the address alone.
-    fn load(&mut self, register: usize, address: Word) {
-        self.registers[register] = match self.cell_index(address.value) {
-            Some(index) => Word {
-                value: self.cells[index].value,
-                depends: address.depends.union(self.cells[index].depends),
-            },
-            None => Word { value: 0, depends: address.depends },
-        };
+    /// The word in memory; an address outside that is not remembered holds 0 with the empty set.
+    fn word_at(&self, address: u64) -> Word {
+        match self.cell_index(address) {
+            Some(index) => self.cells[index],
+            None => {
+                let unwritten = Word { value: 0, depends: LocationSet::EMPTY };
+                self.outside.word_at(address).unwrap_or(unwritten)
+            }
+        }
     }
 
-    /// A store where there is no cell changes neither a value nor a set.
+    fn load(&mut self, register: usize, address: Word) {
+        let held = self.word_at(address.value);
+        self.registers[register] =
+            Word { value: held.value, depends: address.depends.union(held.depends) };
+    }
+
+    /// A store where there is no cell is remembered; the run has seen to it that there is room.
     fn store(&mut self, register: usize, address: Word) {
-        let stored = self.registers[register];
-        if let Some(index) = self.cell_index(address.value) {
-            self.cells[index] =
-                Word { value: stored.value, depends: address.depends.union(stored.depends) };
+        let held = self.registers[register];
+        let stored = Word { value: held.value, depends: address.depends.union(held.depends) };
+        match self.cell_index(address.value) {
+            Some(index) => self.cells[index] = stored,
+            None => self.outside.remember(address.value, stored),
         }
     }
 

@@ -3,7 +3,8 @@
 use crate::answer::{PlainAnswer, RunAnswer, Stop, Verdict};
 use crate::job::{read_job, Job};
 use crate::location_set::LocationSet;
-use crate::machine::{execute, Instruction, State};
+use crate::machine::{execute, Instruction, State, Word};
+use crate::outside::OUTSIDE_WORDS;
 use crate::refusal::{self, require};
 use crate::trace::{TraceWriter, PC, ROLLBACK, START};
 
@@ -70,14 +71,15 @@ pub fn plain_run(
 }
 
 fn check_areas(job: &Job, end: &[u64], work: &[u64]) -> Result<(), u32> {
-    let long_enough = work.len() >= WORKING_WORDS && end.len() >= job.initial.len();
+    let end_words = job.initial.len() + OUTSIDE_WORDS;
+    let long_enough = work.len() >= WORKING_WORDS && end.len() >= end_words;
     require(long_enough, refusal::AREAS)
 }
 
 /// Words past those named here keep their contents.
 fn fill_areas(state: &State, end: &mut [u64], work: &mut [u64]) {
-    let values = state.values();
-    end[..values.len()].copy_from_slice(&values);
+    let words = state.end_words();
+    end[..words.len()].copy_from_slice(&words);
     work[..WORKING_WORDS].fill(0);
 }
 
@@ -121,7 +123,8 @@ fn verdict(stop: Stop, depends: LocationSet, plain: LocationSet, public: Locatio
 }
 
 impl<'a> SpeculativeRun<'a> {
-    /// Finished is tested first, then spent, then trace full.
+    /// Finished is tested first, then spent, then trace full, then outside full.
+    /// The address set of a store that stops the run is gathered all the same.
     fn run_to_stop(&mut self) -> Stop {
         loop {
             let Some(step) = self.next_step() else {
@@ -132,6 +135,10 @@ impl<'a> SpeculativeRun<'a> {
             }
             if !self.trace.has_room_for(step.observations()) {
                 return Stop::TraceFull;
+            }
+            if let Some(address) = self.address_without_room(&step) {
+                self.gather(address.depends);
+                return Stop::OutsideFull;
             }
             self.make(step);
             self.steps += 1;
@@ -148,6 +155,14 @@ impl<'a> SpeculativeRun<'a> {
         }
     }
 
+    /// The address of the store that the step makes, if the table has no room for it.
+    fn address_without_room(&self, step: &Step) -> Option<Word> {
+        match step {
+            Step::Rollback | Step::Open { .. } => None,
+            Step::Other(instruction) => self.state.address_without_room(instruction),
+        }
+    }
+
     fn make(&mut self, step: Step) {
         match step {
             Step::Rollback => self.roll_back(),
@@ -156,7 +171,8 @@ impl<'a> SpeculativeRun<'a> {
         }
     }
 
-    /// Rule 1. The gathered sets D and plain are not restored.
+    /// Rule 1. The state comes back whole, the stores outside too;
+    /// the gathered sets D and plain are not restored.
     fn roll_back(&mut self) {
         let top = self.open.pop().expect("a rollback needs an open branch");
         self.state = top.saved;
@@ -229,6 +245,7 @@ impl<'a> Step<'a> {
 }
 
 /// Makes the plain run; gives the answer and the state at the stop.
+/// The stops are tried in the same order, and a store that stops the run adds its address set.
 pub fn sequential_run(job: &Job, trace: &mut [u64]) -> (PlainAnswer, State) {
     let mut trace = TraceWriter::new(trace);
     let mut state = State::new(&job.initial);
@@ -244,6 +261,10 @@ pub fn sequential_run(job: &Job, trace: &mut [u64]) -> (PlainAnswer, State) {
         }
         if !trace.has_room_for(instruction.plain_observations()) {
             break Stop::TraceFull;
+        }
+        if let Some(address) = state.address_without_room(instruction) {
+            plain = plain.union(address.depends);
+            break Stop::OutsideFull;
         }
         let (next, observed) = execute(instruction, &mut state, place, end);
         if let Some(observed) = observed {

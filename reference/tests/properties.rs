@@ -35,6 +35,7 @@ fn strike_out_is_the_plain_trace() {
             finished += 1;
             assert_eq!(struck, plain.trace);
             assert_eq!((plain.answer.stop, &plain.end), (Stop::Finished, &run.end));
+            assert_eq!(plain.outside, run.outside);
             assert_eq!(plain.answer.plain, run.answer.plain);
         }
     }

@@ -235,7 +235,7 @@ fn refusal_9_second_state() {
 fn refusal_10_areas_of_a_run() {
     let bytes = job(vec![skip()], 2).bytes();
     for (end_words, work_words, number) in
-        [(18, WORK, 0), (17, WORK, 10), (0, WORK, 10), (18, WORK - 1, 10), (18, 0, 10)]
+        [(147, WORK, 0), (146, WORK, 10), (0, WORK, 10), (147, WORK - 1, 10), (147, 0, 10)]
     {
         let areas = || (area(2), area(end_words), area(work_words));
         let (mut trace, mut end, mut work) = areas();

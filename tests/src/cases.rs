@@ -12,6 +12,13 @@ use crate::random::Random;
 
 pub const WORKING_WORDS: usize = 4_096;
 
+/// The addresses outside memory that are remembered at one time.
+pub const MOST_ADDRESSES: usize = 64;
+/// The words of an end area behind registers and cells: a count, then address and value of each entry.
+pub const OUTSIDE_WORDS: usize = 1 + 2 * MOST_ADDRESSES;
+/// The words of an end area that every job finds long enough: 16 registers and 240 cells.
+pub const MOST_END_WORDS: usize = 16 + 240 + OUTSIDE_WORDS;
+
 /// What is done to a valid job and to its areas.
 #[derive(Clone, Copy, PartialEq, Eq, Debug)]
 pub enum Treatment {
@@ -156,7 +163,7 @@ fn fitting_lengths(parts: &Parts, style: Style, random: &mut Random) -> Lengths 
     let needed = 4 * parts.budget as usize + 4;
     let trace = if style == Style::Long { needed } else { needed.min(6_004) };
     let trace = trace + random.index(2);
-    let end = parts.state.len() + random.index(3);
+    let end = parts.state.len() + OUTSIDE_WORDS + random.index(3);
     Lengths { trace, second_trace: trace, end, work: WORKING_WORDS + random.index(3), state: 0 }
 }
 
@@ -197,7 +204,7 @@ fn any_lengths(locations: usize, random: &mut Random) -> Lengths {
     Lengths {
         trace,
         second_trace,
-        end: around(locations, random),
+        end: end_length(locations, random),
         work: around(WORKING_WORDS, random),
         state: 0,
     }
@@ -225,6 +232,12 @@ fn state_length(bytes: usize, random: &mut Random) -> usize {
         18..=21 => bytes + random.index(64),
         _ => bytes + random.index(4_000),
     }
+}
+
+/// Around the bound, at times around that of before request F-4, which had no words for stores outside.
+fn end_length(locations: usize, random: &mut Random) -> usize {
+    let more = if random.one_in(6) { 0 } else { OUTSIDE_WORDS };
+    around(locations + more, random)
 }
 
 fn around(bound: usize, random: &mut Random) -> usize {

@@ -1,9 +1,10 @@
-//! One case checked: the four calls of library and reference compared whole, then the demands.
+//! One case checked: the four calls of library and reference compared whole, then the demands and claims.
 
 use crate::calls::{Operation, Outcome};
 use crate::cases::Case;
 use crate::demands::{plain_agrees, states_alike};
 use crate::load_claims::load_is_as_claimed;
+use crate::outside_claims::outside_is_as_claimed;
 use crate::random::Random;
 use crate::tally::Tally;
 
@@ -18,7 +19,10 @@ pub fn check_case(case: &Case, margin: usize, tally: &mut Tally) -> Result<(), S
         return Ok(());
     }
     tally.demand_2 += 1;
-    plain_agrees(&run, &plain)?;
+    plain_agrees(case, &run, &plain)?;
+    tally.outside_claims += 1;
+    outside_is_as_claimed(case, &run, margin)?;
+    outside_is_as_claimed(case, &plain, margin)?;
     let mut random = Random::new(case.salt);
     tally.demand_3 += 1;
     states_alike(case, &run, margin, &mut random, tally)?;

@@ -7,6 +7,8 @@ use crate::calls::{pairs, Call, Lengths, Operation, Outcome};
 use crate::cases::Case;
 use crate::job_file::{field, Field, LIST_BYTES, TRAILER_BYTES};
 use crate::lend::Fill;
+use crate::outside::Remembered;
+use crate::outside_claims::{addresses_in, cells_of, table_of, OUTSIDE_FULL};
 use crate::random::Random;
 use crate::tally::Tally;
 
@@ -14,18 +16,24 @@ const FINISHED: u64 = 0;
 const CLEAN: u64 = 1;
 
 /// Demand 2: without its wrong paths, the trace of a run is the trace of the plain run in areas of
-/// the same lengths. If the run finished, so does the plain run, with the same end and plain set;
-/// if it did not, what is left of its trace is the front of the plain trace.
-pub fn plain_agrees(run: &Outcome, plain: &Outcome) -> Result<(), String> {
+/// the same lengths. If the run finished, so does the plain run, with the same end area, remembered
+/// stores included, and plain set; likewise if it stopped as outside full with nothing open. Else
+/// what is left of its trace is the front of the plain trace.
+pub fn plain_agrees(case: &Case, run: &Outcome, plain: &Outcome) -> Result<(), String> {
     let struck = strike_out(&run.observations());
     let expected = plain.observations();
-    if !run.is_finished() {
+    if !run.is_finished() && !is_full_with_nothing_open(case, run) {
         return holds(expected.starts_with(&struck), "struck out, the trace of the stopped run");
     }
-    holds(struck == expected, "struck out, the trace of the finished run")?;
-    holds(plain.is_finished(), "the stop of the plain run")?;
+    holds(struck == expected, "struck out, the trace of the run")?;
+    holds(plain.answer()[0] == run.answer()[0], "the stop of the plain run")?;
     holds(run.areas[1] == plain.areas[1], "the end area of the plain run")?;
     holds(run.answer()[8..12] == plain.answer()[3..7], "the plain set of the plain run")
+}
+
+fn is_full_with_nothing_open(case: &Case, run: &Outcome) -> bool {
+    let remembered = Remembered::after(&run.observations(), cells_of(case));
+    run.answer()[0] == OUTSIDE_FULL && remembered.open_branches() == 0
 }
 
 fn holds(condition: bool, what: &str) -> Result<(), String> {
@@ -36,8 +44,9 @@ fn holds(condition: bool, what: &str) -> Result<(), String> {
     }
 }
 
-/// Demand 3: a state that is changed outside D gives the same answer and the same trace; after the
-/// verdict clean, so does one that is changed at every location that is not public.
+/// Demand 3: a state that is changed outside D gives the same answer and the same trace, and stores at
+/// the same addresses outside are remembered in the same order; after the verdict clean, so does one
+/// that is changed at every location that is not public.
 pub fn states_alike(
     case: &Case,
     run: &Outcome,
@@ -120,7 +129,8 @@ fn same_run(
     let other = Call { operation, job: &job, second: &[], seed: 0, lengths, fill }.by_library();
     let same = other.number == 0
         && other.answer() == run.answer()
-        && other.observations() == run.observations();
+        && other.observations() == run.observations()
+        && addresses_in(table_of(case, &other)) == addresses_in(table_of(case, run));
     if same {
         Ok(())
     } else {

@@ -1,8 +1,8 @@
-//! The jobs of document 01's section "A run printed whole", the text of the first of them, and a job whose
-//! leak few states show.
+//! The jobs of document 01's section "A run printed whole", the text of the first of them, a job whose leak few
+//! states show, and one that stores at too many addresses outside memory.
 
 use crate::job_file::{
-    assign, beqz, jmp, load, skip, spbarr, Parts, Token, ADD, AND, EQ, REGISTERS, SUB, ULT,
+    assign, beqz, jmp, load, skip, spbarr, store, Parts, Token, ADD, AND, EQ, REGISTERS, SUB, ULT,
 };
 
 /// The job that is printed whole: 236 bytes, verdict speculative.
@@ -63,17 +63,32 @@ pub fn seldom() -> Parts {
     parts
 }
 
+/// A loop that stores r0 below its image, one address further down each time: it stops as outside full.
+pub fn outside() -> Parts {
+    let program = vec![
+        assign(1, &[Token::Register(1), Token::Constant(1), SUB]),
+        store(0, &[Token::Register(1)]),
+        assign(0, &[Token::Register(0), Token::Constant(1), ADD]),
+        jmp(&[Token::Constant(0)]),
+    ];
+    let mut parts = Parts::new(program, 4, 10, 1_000);
+    parts.state[0] = 7;
+    parts.public = vec![1];
+    parts
+}
+
 /// The program of the printed job as text; document 02 prints these lines.
 pub const PRINTED_TEXT: &str = "set r2 (r0 ult r1)\nbeqz r2 4\nload r3 r0\nload r4 (r3 add 2)\n";
 
 /// Each example job with the name of its file.
-pub fn files() -> [(&'static str, Vec<u8>); 5] {
+pub fn files() -> [(&'static str, Vec<u8>); 6] {
     [
         ("printed.mua", printed().bytes()),
         ("barrier.mua", barrier().bytes()),
         ("nested.mua", nested().bytes()),
         ("r0-zero.mua", r0_zero().bytes()),
         ("seldom.mua", seldom().bytes()),
+        ("outside.mua", outside().bytes()),
     ]
 }
 

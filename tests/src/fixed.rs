@@ -1,19 +1,26 @@
 //! Fixed cases: every length around each bound, each limit and its neighbours, every truncation and
-//! every bit of small jobs, each operator at its edges, test loads. They are made before the random ones.
+//! every bit of small jobs, each operator at its edges, test loads, stores outside memory. They are made before
+//! the random ones.
 
 use crate::calls::Lengths;
-use crate::cases::{Case, Treatment, WORKING_WORDS};
+use crate::cases::{Case, Treatment, MOST_END_WORDS, OUTSIDE_WORDS, WORKING_WORDS};
 use crate::examples::{barrier, nested, printed, r0_zero};
 use crate::fixed_files;
 use crate::fixed_loads;
+use crate::fixed_outside;
 use crate::fixed_runs;
 use crate::job_file::{beqz, set_field, skip, state_bytes, Field, Parts};
 
 pub type Cases = Vec<Case>;
 
 /// Areas in which every fixed job that is accepted has room, if it takes up to 1,500 steps.
-pub const ROOMY: Lengths =
-    Lengths { trace: 6_004, second_trace: 6_004, end: 256, work: WORKING_WORDS, state: 2_051 };
+pub const ROOMY: Lengths = Lengths {
+    trace: 6_004,
+    second_trace: 6_004,
+    end: MOST_END_WORDS,
+    work: WORKING_WORDS,
+    state: 2_051,
+};
 
 pub fn all() -> Cases {
     let mut cases = Cases::new();
@@ -24,6 +31,7 @@ pub fn all() -> Cases {
     fixed_files::add(&mut cases);
     fixed_runs::add(&mut cases);
     fixed_loads::add(&mut cases);
+    fixed_outside::add(&mut cases);
     for (number, case) in cases.iter_mut().enumerate() {
         case.name = format!("fixed-{number}");
         case.salt = number as u64 * 0x1_0001;
@@ -55,7 +63,10 @@ fn lengths_around_bounds(cases: &mut Cases) {
     for cells in [0, 1, 4, 239, 240] {
         let mut parts = printed();
         parts.state.resize(16 + cells, 7);
-        for end in (0..=3).chain(12..=24).chain(cells + 10..=cells + 22) {
+        let (image, whole) = (16 + cells, 16 + cells + OUTSIDE_WORDS);
+        let around = |bound: usize| bound - 6..=bound + 6;
+        for end in (0..=3).chain(around(18)).chain(around(image)).chain(around(whole)).chain([700])
+        {
             cases.push(case_of(&parts, Lengths { end, ..ROOMY }));
         }
     }
@@ -128,7 +139,7 @@ pub fn file_of_each_refusal() -> [Vec<u8>; 9] {
 fn refusals_together(cases: &mut Cases) {
     for job in file_of_each_refusal() {
         for second in [159, 160, 161] {
-            for (work, end) in [(4_096, 20), (4_095, 20), (4_096, 19), (0, 0)] {
+            for (work, end) in [(4_096, 149), (4_095, 149), (4_096, 148), (0, 0)] {
                 for second_trace in [40, 41] {
                     let lengths = Lengths { trace: 40, second_trace, end, work, ..ROOMY };
                     cases.push(raw_case(job.clone(), vec![0; second], lengths));

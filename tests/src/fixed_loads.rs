@@ -27,7 +27,7 @@ fn first_refusal(cases: &mut Cases) {
         for (work, second_trace) in [(4_096, 40), (4_095, 40), (4_096, 41), (0, 39)] {
             for load_seed in [0, 1] {
                 for state in [0, 159, 160] {
-                    let lengths = Lengths { trace: 40, second_trace, end: 20, work, state };
+                    let lengths = Lengths { trace: 40, second_trace, end: 149, work, state };
                     let case = raw_case(job.clone(), vec![0; 160], lengths);
                     cases.push(with_seed(case, load_seed));
                 }

@@ -37,6 +37,7 @@ fn gadget(start: usize, pool: &Pool, random: &mut Random) -> Vec<Instruction> {
     let mut guarded = Vec::new();
     protect(&mut guarded, random);
     guarded.push(load(SECRET, &[index]));
+    spill(&mut guarded, pool, random);
     let place = first + guarded.len() as u64;
     guarded.push(observe(place, pool, random));
     guarded.push(skip());
@@ -59,6 +60,14 @@ fn protect(guarded: &mut Vec<Instruction>, random: &mut Random) {
         }
         3 => guarded.push(skip()),
         _ => {}
+    }
+}
+
+/// At times the secret goes through an address outside memory.
+fn spill(guarded: &mut Vec<Instruction>, pool: &Pool, random: &mut Random) {
+    if random.one_in(4) {
+        let address = [Token::Constant(random.pick(&[pool.cells, u64::MAX]))];
+        guarded.extend([store(SECRET, &address), load(SECRET, &address)]);
     }
 }
 

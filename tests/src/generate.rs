@@ -8,6 +8,7 @@ use crate::job_file::{
     SUB, TRAILER_BYTES,
 };
 use crate::random::Random;
+use crate::spills::spill_program;
 
 /// What a program is rich in.
 #[derive(Clone, Copy, PartialEq, Eq, Debug)]
@@ -19,11 +20,12 @@ pub enum Style {
     Expressions,
     Conditional,
     Gadgets,
+    Outside,
     Large,
     Long,
 }
 
-pub const STYLES: [Style; 9] = [
+pub const STYLES: [Style; 10] = [
     Style::Mixed,
     Style::Nested,
     Style::Loops,
@@ -31,6 +33,7 @@ pub const STYLES: [Style; 9] = [
     Style::Expressions,
     Style::Conditional,
     Style::Gadgets,
+    Style::Outside,
     Style::Large,
     Style::Long,
 ];
@@ -49,7 +52,7 @@ pub fn random_style(random: &mut Random) -> Style {
     match random.below(200) {
         0 => Style::Long,
         1..=6 => Style::Large,
-        _ => STYLES[random.index(7)],
+        _ => STYLES[random.index(8)],
     }
 }
 
@@ -59,6 +62,7 @@ pub fn random_job(style: Style, random: &mut Random) -> Parts {
     let program = match style {
         Style::Loops | Style::Long => writer.looping_program(),
         Style::Gadgets => gadget_program(&pool, writer.random),
+        Style::Outside => spill_program(&pool, writer.random),
         _ => writer.program(),
     };
     let window = window(style, random);
@@ -73,7 +77,9 @@ pub fn random_job(style: Style, random: &mut Random) -> Parts {
 
 fn weights(style: Style) -> Weights {
     match style {
-        Style::Mixed | Style::Large | Style::Gadgets => [1, 2, 2, 2, 1, 3, 2, 1],
+        Style::Mixed | Style::Large => [1, 2, 2, 2, 1, 3, 2, 1],
+        // The programs of these are put together otherwise.
+        Style::Gadgets | Style::Outside => [1; 8],
         Style::Nested => [1, 1, 1, 1, 0, 8, 1, 1],
         Style::Loops | Style::Long => [1, 3, 2, 2, 0, 2, 2, 1],
         Style::Memory => [0, 2, 5, 5, 0, 2, 1, 0],
@@ -89,12 +95,17 @@ fn pool(style: Style, random: &mut Random) -> Pool {
             (n, random.pick(&[0, 48, 49, 112, 176, 239, 240, 240]))
         }
         Style::Gadgets => (random.between(5, 24), random.between(3, 12)),
+        Style::Outside => {
+            let most = random.pick(&[12, 30, 60, 200]);
+            (random.between(2, most), random.pick(&[0, 0, 1, 2, 7, 15, 16, 224, 239, 240]))
+        }
         Style::Nested => (random.between(2, 30), random.below(10)),
         Style::Loops | Style::Long => (random.between(8, 30), random.below(20)),
         _ if random.one_in(10) => (random.between(1, 60), random.below(MAX_CELLS as u64 + 1)),
         _ => (random.between(1, 16), random.below(8)),
     };
-    let registers = if random.one_in(3) { REGISTERS as u64 } else { random.between(1, 6) };
+    let all = random.one_in(if style == Style::Outside { 2 } else { 3 });
+    let registers = if all { REGISTERS as u64 } else { random.between(1, 6) };
     let tokens = match style {
         Style::Expressions => MAX_TOKENS,
         _ if random.one_in(4) => MAX_TOKENS,
@@ -121,6 +132,7 @@ fn budget(style: Style, random: &mut Random) -> u32 {
     }
     match random.below(12) {
         0 => random.below(12) as u32,
+        1..=8 if style == Style::Outside => random.between(100, 1_500) as u32,
         1..=8 => random.between(20, 400) as u32,
         9 | 10 => random.between(400, 1_500) as u32,
         _ => MAX_BUDGET - random.below(2) as u32,

@@ -4,27 +4,34 @@ use crate::calls::{Operation, Outcome};
 use crate::cases::{Case, TREATMENTS};
 use crate::demands::state_of;
 use crate::generate::STYLES;
-use crate::job_file::{field, Field};
+use crate::outside::{Remembered, EVENTS};
+use crate::outside_claims::{cells_of, OUTSIDE_FULL};
 
-const STOPS: [&str; 3] = ["finished", "spent", "trace full"];
+const STOPS: [&str; 4] = ["finished", "spent", "trace full", "outside full"];
 const VERDICTS: [&str; 4] = ["undecided", "clean", "speculative", "plain"];
 const WORDS: [&str; 5] = ["not comparable", "undecided", "plain differs", "leak shown", "equal"];
 /// What a test load can give: the three words, the stop of an own run that did not finish, whether a state was
 /// made, and the stop of a second run that did not finish.
-const LOADS: [&str; 10] = [
+const LOADS: [&str; 12] = [
     "undecided",
     "leak shown",
     "equal",
     "own run spent",
     "own run trace full",
+    "own run outside full",
     "no state made",
     "a state made",
     "one like the job's own",
     "second run spent",
     "second run trace full",
+    "second run outside full",
 ];
 const OBSERVED: [&str; 7] =
     ["start", "rollback", "pc", "load inside", "store inside", "load outside", "store outside"];
+
+/// How a run can come to its stop with stores outside remembered.
+const TABLES: [&str; 4] =
+    ["some", "64 and not full", "full with nothing open", "full on a wrong path"];
 
 /// The refusals of the four calls; 11 is one of texts alone.
 const REFUSALS: [usize; 12] = [1, 2, 3, 4, 5, 6, 7, 8, 9, 10, 12, 13];
@@ -40,18 +47,21 @@ pub struct Tally {
     pub demand_3: u64,
     pub states_changed_outside_d: u64,
     pub clean_states_changed: u64,
+    pub outside_claims: u64,
     pub load_claims: u64,
     styles: [u64; STYLES.len()],
     treatments: [u64; TREATMENTS.len()],
     refusals: [u64; 14],
-    run_stops: [u64; 3],
-    plain_stops: [u64; 3],
+    run_stops: [u64; 4],
+    plain_stops: [u64; 4],
     verdicts: [u64; 4],
     words: [u64; 5],
     loads: [u64; LOADS.len()],
     observed: [u64; 7],
+    events: [u64; EVENTS.len()],
+    tables: [u64; TABLES.len()],
     stopped_on_wrong_path: u64,
-    deepest: u64,
+    deepest: usize,
     most_steps: u64,
     most_observations: u64,
 }
@@ -79,8 +89,7 @@ impl Tally {
                 self.verdicts[answer[12] as usize] += 1;
                 self.most_steps = self.most_steps.max(answer[2]);
                 self.most_observations = self.most_observations.max(answer[1]);
-                let cells = u64::from(field(&case.job, Field::Cells));
-                self.count_trace(&outcome.observations(), cells);
+                self.count_trace(&outcome.observations(), answer[0], cells_of(case));
             }
             Operation::Plain => self.plain_stops[answer[0] as usize] += 1,
             Operation::Pair => self.words[answer[0] as usize] += 1,
@@ -99,30 +108,36 @@ impl Tally {
             word == 4,
             own == 1,
             own == 2,
+            own == 3,
             !made,
             made,
             alike,
             made && second == 1,
             made && second == 2,
+            made && second == 3,
         ];
         for (count, holds) in self.loads.iter_mut().zip(traits) {
             *count += u64::from(holds);
         }
     }
 
-    fn count_trace(&mut self, trace: &[(u64, u64)], cells: u64) {
-        let mut open = 0;
+    fn count_trace(&mut self, trace: &[(u64, u64)], stop: u64, cells: u64) {
+        let mut remembered = Remembered::nothing(cells);
         for &(kind, value) in trace {
             let outside = (kind == LOAD || kind == STORE) && value >= cells;
             self.observed[kind as usize + if outside { 2 } else { 0 }] += 1;
-            match kind {
-                0 => open += 1,
-                1 => open -= 1,
-                _ => {}
+            if let Some(event) = remembered.observe(kind, value) {
+                self.events[event as usize] += 1;
             }
-            self.deepest = self.deepest.max(open);
+            self.deepest = self.deepest.max(remembered.open_branches());
         }
-        self.stopped_on_wrong_path += u64::from(open > 0);
+        let (entries, open) = (remembered.addresses().len(), remembered.open_branches() > 0);
+        self.stopped_on_wrong_path += u64::from(open);
+        let full = stop == OUTSIDE_FULL;
+        let traits = [entries > 0, entries == 64 && !full, full && !open, full && open];
+        for (count, holds) in self.tables.iter_mut().zip(traits) {
+            *count += u64::from(holds);
+        }
     }
 
     /// What never occurred although it should in a long run.
@@ -140,6 +155,8 @@ impl Tally {
             .chain(named("pair word", &WORDS, &self.words))
             .chain(named("test load", &LOADS, &self.loads))
             .chain(named("observation", &OBSERVED, &self.observed))
+            .chain(named("outside memory", &EVENTS, &self.events))
+            .chain(named("stores remembered at the stop", &TABLES, &self.tables))
             .filter(|(_, count)| *count == 0)
             .map(|(name, _)| name)
             .collect()
@@ -165,6 +182,8 @@ impl Tally {
         println!("pair words: {}", counts(&WORDS, &self.words));
         println!("test loads: {}", counts(&LOADS, &self.loads));
         println!("observations: {}", counts(&OBSERVED, &self.observed));
+        println!("remembered stores outside: {}", counts(&EVENTS, &self.events));
+        println!("remembered at the stop: {}", counts(&TABLES, &self.tables));
         println!(
             "runs stopped on a wrong path {}, most branches open {}, most steps {}, most observations {}",
             self.stopped_on_wrong_path, self.deepest, self.most_steps, self.most_observations
@@ -173,7 +192,10 @@ impl Tally {
             "demand 2 tried {}; demand 3 tried {}, with a changed state {}; clean, all but public changed {}",
             self.demand_2, self.demand_3, self.states_changed_outside_d, self.clean_states_changed
         );
-        println!("claims of test loads tried {}", self.load_claims);
+        println!(
+            "claims of stores outside tried {}, of test loads {}",
+            self.outside_claims, self.load_claims
+        );
     }
 }
 

@@ -96,7 +96,7 @@ impl Vector {
     }
 
     fn stop(text: &str) -> Result<u64, String> {
-        position(&["finished", "spent", "trace-full"], text)
+        position(&["finished", "spent", "trace-full", "outside-full"], text)
     }
 
     /// The four numbers of a line such as "stop spent observations 1 steps 2 rollbacks 3".

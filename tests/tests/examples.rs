@@ -3,7 +3,7 @@
 use std::path::PathBuf;
 
 use check_box_reference::{listing, print_text, read_text};
-use checker_tests::examples::{self, barrier, nested, printed, r0_zero};
+use checker_tests::examples::{self, barrier, nested, outside, printed, r0_zero};
 use checker_tests::job_file::Parts;
 
 #[test]
@@ -40,6 +40,15 @@ fn the_printed_job_is_printed_as_in_the_document() {
     let text = "start 0\npc 2\nload 1\nload 3\nrollback 0\npc end\nstop finished\nsteps 5\n\
                 rollbacks 1\ndepends r0 r1 m1\nplain r0 r1\nverdict speculative\n";
     assert_eq!(lines(&printed()), text);
+}
+
+#[test]
+fn the_spilling_job_is_stopped_at_its_65th_address() {
+    let text = lines(&outside());
+    assert!(text.starts_with("store 18446744073709551615\npc 0\n"), "{text}");
+    let end = "store 18446744073709551552\npc 0\nstop outside full\nsteps 257\nrollbacks 0\n\
+               depends r1\nplain r1\nverdict undecided\n";
+    assert!(text.ends_with(end), "{text}");
 }
 
 #[test]

@@ -2,14 +2,14 @@
 //! the refusal it aims at, and a seed gives the same case every time.
 
 use check_box_reference::run;
-use checker_tests::cases::random_case;
+use checker_tests::cases::{random_case, MOST_END_WORDS};
 use checker_tests::damage::refused_with;
 use checker_tests::generate::{random_job, Style, STYLES};
 use checker_tests::random::{case_seed, Random};
 
 /// 0, or the number with which the reference refuses a job in an empty trace area.
 fn refusal(job: &[u8]) -> u32 {
-    run(job, &mut [], &mut vec![0; 256], &mut vec![0; 4_096]).err().unwrap_or(0)
+    run(job, &mut [], &mut vec![0; MOST_END_WORDS], &mut vec![0; 4_096]).err().unwrap_or(0)
 }
 
 #[test]

@@ -1,6 +1,7 @@
 //! Test loads by the reference: the words from a seed, and what the batches of `c-example` must count.
 
 use check_box_reference::{run, test_load, LoadAnswer, PairWord};
+use checker_tests::cases::MOST_END_WORDS;
 use checker_tests::demands::{has, public_of};
 use checker_tests::examples::{barrier, nested, printed, r0_zero, seldom};
 use checker_tests::job_file::Parts;
@@ -26,7 +27,8 @@ fn load(job: &[u8], seed: u64, trace: usize) -> Result<(LoadAnswer, Vec<u8>), u3
 /// The highest location that is neither public nor in the plain set.
 fn last_new_location(parts: &Parts) -> Option<usize> {
     let job = parts.bytes();
-    let answer = run(&job, &mut [0; 100], &mut [0; 256], &mut [0; 4_096]).expect("accepted");
+    let answer =
+        run(&job, &mut [0; 100], &mut [0; MOST_END_WORDS], &mut [0; 4_096]).expect("accepted");
     let kept = |location| has(public_of(&job), location) || has(answer.plain, location);
     (0..parts.state.len()).rev().find(|&location| !kept(location))
 }

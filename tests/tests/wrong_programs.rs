@@ -25,22 +25,26 @@ fn edits_of(krate: &Path) -> Vec<PathBuf> {
     paths
 }
 
-/// Makes the replacements one after the other; what is wrong with the edit, if anything is.
+/// Makes the replacements one after the other; what is wrong with the edit, if anything is. A `file:` line holds for the
+/// replacements after it.
 fn apply(krate: &Path, edit: &str) -> Result<(), String> {
-    let mut lines = edit.lines().skip(1);
-    let file = lines.next().and_then(|line| line.strip_prefix("file: ")).ok_or("no file")?;
-    let source = fs::read_to_string(krate.join(file)).map_err(|error| error.to_string())?;
-    let mut text = source.clone();
+    let mut lines = edit.lines().skip(1).peekable();
     while let Some(line) = lines.next() {
-        let old = line.strip_prefix("old: ").ok_or("no old line")?;
-        let new = lines.next().and_then(|line| line.strip_prefix("new: ")).ok_or("no new line")?;
-        match text.matches(old).count() {
-            1 => text = text.replace(old, new),
-            count => return Err(format!("{count} places for {old}")),
+        let file = line.strip_prefix("file: ").ok_or("no file")?;
+        let source = fs::read_to_string(krate.join(file)).map_err(|error| error.to_string())?;
+        let mut text = source.clone();
+        while let Some(old) = lines.next_if(|line| !line.starts_with("file: ")) {
+            let old = old.strip_prefix("old: ").ok_or("no old line")?;
+            let new =
+                lines.next().and_then(|line| line.strip_prefix("new: ")).ok_or("no new line")?;
+            match text.matches(old).count() {
+                1 => text = text.replace(old, new),
+                count => return Err(format!("{count} places for {old}")),
+            }
         }
-    }
-    if text == source {
-        return Err("nothing is changed".to_string());
+        if text == source {
+            return Err(format!("nothing is changed in {file}"));
+        }
     }
     Ok(())
 }

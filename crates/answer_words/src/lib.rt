@@ -21,6 +21,7 @@ fn stop_number(s: Stop) -> u64
         Stop::Finished => 0,
         Stop::Spent => 1,
         Stop::TraceFull => 2,
+        Stop::OutsideFull => 3,
     }
 }
 

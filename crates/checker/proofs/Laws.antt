@@ -3,7 +3,7 @@
 use mathlib.Core.Path.{_≡_, refl, sym, ap, _∙_}
 use mathlib.Core.Bool.{Bool, true, false, _&&_}
 use mathlib.Core.List.{List}
-use Prim.Native.Nat.{ℕ}
+use Prim.Native.Nat.{ℕ, _+_}
 use borrow.Author.Tests.{leb-true}
 use lib.Dec.{leb}
 use lib.ListN.{length}
@@ -18,7 +18,8 @@ use Rattle.rules.specs.declared.PairAnswer.the-variants as pairs
 use Rattle.rules.specs.declared.TestLoadAnswer.the-variants as tests
 use Rattle.rules.specs.Rules.Runs.{mispredictingRun, plainRun}
 use Rattle.rules.specs.Rules.JobFile.{rejected, parse, locations, publicOf}
-use Rattle.rules.specs.Rules.Calls.{Areas, Called, lent, workingWords, room, longEnough, areasAfter, runReport, runRefused, runParsed, runCall, plainReport, plainRefused, plainParsed, plainCall}
+use Rattle.rules.specs.Rules.Calls.{Areas, Called, lent, tableSize, workingWords, room, longEnough, areasAfter}
+use Rattle.rules.specs.Rules.Calls.{runReport, runRefused, runParsed, runCall, plainReport, plainRefused, plainParsed, plainCall}
 use Rattle.rules.specs.Rules.Pairs.{PairAreas, pairRefused, pairParsed, pairCall}
 use Rattle.rules.specs.Rules.TestLoads.{TestLoadAreas, testLoadRefused, testLoadParsed, testLoadCall}
 use Rattle.rules.specs.Rules.Demands.{Exact}
@@ -36,11 +37,11 @@ exact-of answer areas e p q = rw e (record { answer = p; areas = q })
 
 module _ {bs : List ℕ} {t : Trailer} (k : Accepts bs t) (a e w : List ℕ) where
   -- what the code finds of the areas
-  fitting : {b : Bool} → b ≡ (leb workingWords (length w) && leb (locations t) (length e)) → longEnough (k .job) (lent a e w) ≡ b
+  fitting : {b : Bool} → b ≡ (leb workingWords (length w) && leb (locations t + tableSize) (length e)) → longEnough (k .job) (lent a e w) ≡ b
   unfolding longEnough
   fitting h = rw (accepted-size k) (sym h)
 
-  module _ {b : Bool} (h : b ≡ (leb workingWords (length w) && leb (locations t) (length e))) (s : b ≡ false) where
+  module _ {b : Bool} (h : b ≡ (leb workingWords (length w) && leb (locations t + tableSize) (length e))) (s : b ≡ false) where
     pub exact-short : {r : RunAnswer} → r ≡ runRefused refusals.Areas → Exact (runCall bs (lent a e w)) r (lent a e w)
     exact-short p =
         exact-of (runRefused refusals.Areas) (lent a e w) (run-short bs (lent a e w) (k .job) (k .parsed) (fitting h ∙ s)) p refl
@@ -49,15 +50,15 @@ module _ {bs : List ℕ} {t : Trailer} (k : Accepts bs t) (a e w : List ℕ) whe
     plain-short-areas p =
         exact-of (plainRefused refusals.Areas) (lent a e w) (plain-short bs (lent a e w) (k .job) (k .parsed) (fitting h ∙ s)) p refl
 
-  module _ {b : Bool} (h : b ≡ (leb workingWords (length w) && leb (locations t) (length e))) (l : b ≡ true) where
+  module _ {b : Bool} (h : b ≡ (leb workingWords (length w) && leb (locations t + tableSize) (length e))) (l : b ≡ true) where
     pub areas-fit : AreasFit bs t e w
     areas-fit =
         let q = leb workingWords (length w) in
-        let q′ = leb (locations t) (length e) in
+        let q′ = leb (locations t + tableSize) (length e) in
         record {
           accepts = k;
           work = leb-true workingWords (length w) (and-left q q′ (sym h ∙ l));
-          end = leb-true (locations t) (length e) (and-right q q′ (sym h ∙ l));
+          end = leb-true (locations t + tableSize) (length e) (and-right q q′ (sym h ∙ l));
         }
 
     pub exact-ran : {after : Areas} {r : Ran} {public : LocationSet} {x : RunAnswer} → RunIn bs t modes.Mispredicting (lent a e w) after r

@@ -16,7 +16,8 @@ use Rattle.rules.specs.Rules.Operators.{neg, add}
 use Rattle.rules.specs.Rules.Expressions.{Token, reg, const, op1, op2, Expr, after, held, sound, tagged, result2, pushed, evalOn, top, eval}
 use Rattle.rules.specs.Rules.Instructions.{Instr}
 use Rattle.rules.specs.Rules.JobFile.{Read, got, refused, andThen, return, refuse, little, unary, binary, constant, tokenOf, token, tokens, expr, postfix}
-use Rattle.rules.specs.Rules.Plain.{State, put, Code, joined, loadedFrom, storedTo, chosen, at}
+use Rattle.rules.specs.Rules.Outside.{recall, remember, overfull}
+use Rattle.rules.specs.Rules.Plain.{State, put, withOutside, Code, joined, loadedFrom, storedTo, storeOverfull, chosen, at}
 use Rattle.token.specs.declared.Expression.{Expression}
 use Rattle.rules.specs.Theorems.Readers.{readable, valueOr, unread}
 use Rattle.token.specs.Meaning.{tokensOf}
@@ -26,7 +27,7 @@ use Rattle.instruction.specs.declared.Instruction.{Instruction}
 use Rattle.instruction.specs.declared.Instruction.the-variants.{AssignIf}
 use Rattle.instruction.specs.Meaning.{meaning}
 use Rattle.work.specs.Words.{taggedAt}
-use Rattle.work.specs.Machines.{stateIn}
+use Rattle.work.specs.Machines.{tableIn, stateIn}
 use Rattle.work.proofs.States.{state-at}
 use Rattle.evaluation.specs.States.{state-value}
 
@@ -62,9 +63,12 @@ module _ (w : List ℕ) (cells : ℕ) (a : Tagged) (code : Code) (ec : code .cel
       let f = state-at w (registers + cells) (registers + a .value) (omega arith) in
       rw (ec, lt-ltb _ _ h) (ex ∙ ap (λ (y : Tagged). joined y (a .deps)) (et ∙ ap (taggedAt w) m ∙ sym f))
 
-  pub load-outside : cells ≤ a .value → tagged 0 (a .deps) ≡ loadedFrom code (stateOf w cells) a
+  -- where t is what is remembered there
+  pub load-outside : {n : ℕ} {t x : Tagged} → cells ≤ a .value → n ≡ a .value → t ≡ recall (tagged 0 empty) (tableIn w) n
+      → x ≡ joined t (a .deps) → x ≡ loadedFrom code (stateOf w cells) a
   unfolding loadedFrom
-  load-outside h = rw (ec, le-ltb _ _ h)
+  load-outside h en et ex =
+      rw (ec, le-ltb _ _ h) (ex ∙ ap (λ (y : Tagged). joined y (a .deps)) (et ∙ ap (recall (tagged 0 empty) (tableIn w)) en))
 
   -- register number k is r, and holds t
   pub store-inside : (r : ℕ) {n l k : ℕ} {t v : Tagged} → a .value < cells → r < registers → n ≡ a .value → l ≡ registers + n → k ≡ r
@@ -76,9 +80,23 @@ module _ (w : List ℕ) (cells : ℕ) (a : Tagged) (code : Code) (ec : code .cel
       let f = register-at w cells hr ek et in
       rw (ec, lt-ltb _ _ h) (λ j. put (stateOf w cells) (m j) ((ev ∙ ap (λ (y : Tagged). joined y (a .deps)) f) j))
 
-  pub store-outside : (t : Tagged) → cells ≤ a .value → stateOf w cells ≡ storedTo code (stateOf w cells) a t
+  pub store-outside : (r : ℕ) {n k : ℕ} {t v : Tagged} → cells ≤ a .value → r < registers → n ≡ a .value → k ≡ r → t ≡ taggedAt w k
+      → v ≡ joined t (a .deps)
+      → withOutside (stateOf w cells) (remember (tableIn w) n v) ≡ storedTo code (stateOf w cells) a (at (stateOf w cells) r)
   unfolding storedTo
-  store-outside t h = rw (ec, le-ltb _ _ h)
+  store-outside r {n} {k} {t} {v} h hr en ek et ev =
+      let f = register-at w cells hr ek et in
+      rw (ec, le-ltb _ _ h)
+      (λ j. withOutside (stateOf w cells) (remember (tableIn w) (en j) ((ev ∙ ap (λ (y : Tagged). joined y (a .deps)) f) j)))
+
+  -- whether it needs one address too many
+  pub inside-fits : a .value < cells → storeOverfull code (stateOf w cells) a ≡ false
+  unfolding storeOverfull
+  inside-fits h = rw (ec, lt-ltb _ _ h)
+
+  pub outside-fits : {n : ℕ} → cells ≤ a .value → n ≡ a .value → storeOverfull code (stateOf w cells) a ≡ overfull (tableIn w) n
+  unfolding storeOverfull
+  outside-fits h en = rw (ec, le-ltb _ _ h) (ap (overfull (tableIn w)) (sym en))
 
 -- the second expression of a conditional assignment
 pub second-sound : (p : List ℕ) {i : Instruction} {r : ℕ} {c e : Expression} → i ≡ AssignIf r c e → postfix (meaning p i) ≡ true

@@ -17,7 +17,7 @@ ghost use Rattle.rules.specs.Rules.JobFile.{little};
 ghost use Rattle.rules.specs.Rules.Plain.{Code, joined, loadedFrom, chosen, branchTo};
 ghost use Rattle.token.specs.Meaning.{tokensOf};
 ghost use Rattle.descriptor.specs.Descriptors.{shapeRegisterConstant, shapeRegisterRegister, constantPlace, instructionIn, firstTokens, General, Valid};
-ghost use Rattle.work.specs.Layout.{operandBase};
+ghost use Rattle.work.specs.Layout.{operandBase, logBase};
 ghost use Rattle.work.specs.Words.{taggedAt};
 ghost use Rattle.work.specs.Machines.{stateIn};
 
@@ -32,18 +32,18 @@ pub fn joined(t: Tagged, s: LocationSet) -> Tagged
     }
 }
 
-// What a load at an address gives: 0 where there is no cell.
+// What a load at an address gives: outside the image what is remembered there.
 pub fn loaded_from(work: &[u64], cells: usize, a: Tagged) -> Tagged
-    requires { ⌜ operandBase (registers + cells) ≤ length (now work) ⌝ }
+    requires { ⌜ (operandBase (registers + cells) ≤ length (now work)) × (logBase ≤ length (now work)) ⌝ }
     ensures { λ r. ⌜ ((code : Code) → code .cells ≡ cells → r ≡ loadedFrom code (stateIn (now (work .entry)) (registers + cells)) a) ⌝ }
 {
     let deps = a.deps;
     let value = a.value;
+    let address = Address::new(value);
     if value < cells as u64 {
-        let cell = Location::cell(Address::new(value));
-        return joined(work::load(work, cell), deps);
+        return joined(work::load(work, Location::cell(address)), deps);
     }
-    Tagged { value: 0, deps }
+    joined(outside::recall(work, address), deps)
 }
 
 // The value of an expression of one token. It is a register or a constant, since an operator would lack an operand.

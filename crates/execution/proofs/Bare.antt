@@ -25,10 +25,10 @@ use Rattle.execution.specs.declared.Mode.{Mode}
 use Rattle.execution.specs.declared.Mode.the-variants as modes
 use Rattle.execution.specs.declared.step.Opening.the-variants as openings
 use Rattle.execution.specs.Next.{Opens}
-use Rattle.execution.specs.Running.{descriptorAt, codeAt, Performed, Advancing, NextMade}
+use Rattle.execution.specs.Running.{descriptorAt, codeAt, Performed, Advancing, NextTried}
 use Rattle.execution.proofs.Effects.{carrying}
 use Rattle.execution.proofs.Machine.{still-going}
-use Rattle.execution.proofs.Running.{made-as, code-of, fetched-valid, fetched-same, other-step}
+use Rattle.execution.proofs.Running.{tried-as, code-of, fetched-valid, fetched-same, other-step}
 
 -- the test for a skip
 pub skip-bare : (d : Descriptor) → isSkip d ≡ true → (isBare d ≡ true) × (skip ≡ bare (d .first))
@@ -58,12 +58,12 @@ goes-on k code σ place = go (eqb k 7)
 module _ {p : List ℕ} {t : Trailer} {mode : Mode} {x y : Standing} (a : Advancing p t mode x) {i : Instruction} where
   performed : (k : ℕ) → meaning p i ≡ bare k → CarriedOut (t .cells) i (λ code σ. silent σ (x .progress .control .place)) x y → Performed p t i x y
   performed k e h =
-      carrying i (λ code σ. silent σ (x .progress .control .place)) h
+      carrying i (λ code σ. silent σ (x .progress .control .place)) h (λ code. refl)
       (λ code el. rw e (goes-on k code _ (x .progress .control .place)))
 
   pub bare-made : isBare (descriptorAt (x .work) (x .progress .control)) ≡ true
       → meaning p i ≡ bare (descriptorAt (x .work) (x .progress .control) .first)
-      → CarriedOut (t .cells) i (λ code σ. silent σ (x .progress .control .place)) x y → NextMade p t mode x y
+      → CarriedOut (t .cells) i (λ code σ. silent σ (x .progress .control .place)) x y → NextTried p t mode x y
   bare-made b e h =
       let w = x .work in
       let c = x .progress .control in
@@ -73,4 +73,4 @@ module _ {p : List ℕ} {t : Trailer} {mode : Mode} {x y : Standing} (a : Advanc
       let n = nothing-shaped v (eqb-true (d .shape) 0 b) .0 in
       let step = other-step p t mode w c (still-going (a .inside) (a .window)) (sym n ∙ same) (opens-none mode (d .first)) in
       let f = ap (ordinary (codeAt p t x) (machineAt x (locations t))) e in
-      made-as (f ∙ step) (performed (d .first) e h .made (codeAt p t x) (code-of p t (drop labels w)))
+      tried-as (f ∙ step) (performed (d .first) e h .tried (codeAt p t x) (code-of p t (drop labels w)))

@@ -1,6 +1,7 @@
 -- What each instruction's function promises is the rules' own effect of the instruction.
 -- Assumes nothing.
-use mathlib.Core.Path.{_≡_, refl, sym, _∙_, subst}
+use mathlib.Core.Path.{_≡_, refl, sym, ap, _∙_, subst}
+use mathlib.Core.Bool.{true, false, true≢false}
 use mathlib.Core.List.{List, []}
 use Prim.Native.Nat.{ℕ, _+_, _*_, _<_, _≤_, min}
 use native.Mathlib.Numerals.{add-one}
@@ -23,7 +24,7 @@ use Rattle.work.specs.Words.{taggedAt}
 use Rattle.work.specs.Machines.{stateIn}
 use Rattle.evaluation.proofs.Laws.{register-at, value-in}
 use Rattle.stepping.specs.Progress.{Standing, machineAt}
-use Rattle.stepping.specs.Steps.{Made, CarriedOut}
+use Rattle.stepping.specs.Steps.{Made, Attempted, CarriedOut, TriedOut}
 use Rattle.execution.specs.Running.{Executing, Performed}
 
 -- the state in the words, with the job's cells
@@ -33,31 +34,46 @@ state x t = stateIn (x .work) (registers + t .cells)
 module _ {p : List ℕ} {t : Trailer} {x y : Standing} where
   -- an instruction whose effect is that of a rule
   pub carrying : (i : Instruction) (rule : Code → State → plain.Effect) → CarriedOut (t .cells) i rule x y
+      → ((code : Code) → rule code (state x t) .overfull ≡ false)
       → ((code : Code) → endPlace code ≡ t .count → rule code (state x t) ≡ exec code (state x t) (x .progress .control .place) (meaning p i))
       → Performed p t i x y
   unfolding ordinary
-  carrying i rule e h = record {
-    made = λ code s.
-        subst (λ (z : plain.Effect). Made (locations t) (stepWith code (machineAt x (locations t)) (meaning p i) z) x y)
-        (h code (s .count)) (e .made p code (s .cells) (s .costs));
+  carrying i rule e quiet h = record {
+    tried = λ code s. record {
+      made = λ o.
+          subst (λ (z : plain.Effect). Made (locations t) (stepWith code (machineAt x (locations t)) (meaning p i) z) x y)
+          (h code (s .count)) (e .made p code (s .cells) (s .costs));
+      unmade = λ o. absurd (true≢false (sym o ∙ sym (ap (λ (z : plain.Effect). z .overfull) (h code (s .count))) ∙ quiet code));
+    };
+  }
+
+  -- and one that may need one address too many
+  trying : (i : Instruction) (rule : Code → State → plain.Effect) → TriedOut (t .cells) i rule x y
+      → ((code : Code) → endPlace code ≡ t .count → rule code (state x t) ≡ exec code (state x t) (x .progress .control .place) (meaning p i))
+      → Performed p t i x y
+  unfolding ordinary
+  trying i rule e h = record {
+    tried = λ code s.
+        subst (λ (z : plain.Effect). Attempted (locations t) (stepWith code (machineAt x (locations t)) (meaning p i) z) x y)
+        (h code (s .count)) (e .tried p code (s .cells) (s .costs));
   }
 
   pub skip-carried : {i : Instruction} → i ≡ Skip → CarriedOut (t .cells) i (λ code σ. silent σ (x .progress .control .place)) x y
       → Performed p t i x y
   unfolding exec
-  skip-carried ei e = rw ei (carrying Skip (λ code σ. silent σ (x .progress .control .place)) (rw ei at e) (λ code el. refl))
+  skip-carried ei e = rw ei (carrying Skip (λ code σ. silent σ (x .progress .control .place)) (rw ei at e) (λ code. refl) (λ code el. refl))
 
   pub barrier-carried : {i : Instruction} → i ≡ Barrier → CarriedOut (t .cells) i (λ code σ. silent σ (x .progress .control .place)) x y
       → Performed p t i x y
   unfolding exec
-  barrier-carried ei e = rw ei (carrying Barrier (λ code σ. silent σ (x .progress .control .place)) (rw ei at e) (λ code el. refl))
+  barrier-carried ei e = rw ei (carrying Barrier (λ code σ. silent σ (x .progress .control .place)) (rw ei at e) (λ code. refl) (λ code el. refl))
 
   pub assign-carried : {i : Instruction} {r : ℕ} {e : Expression} {v : Tagged} → i ≡ Assign r e → v ≡ eval (taggedAt (x .work)) (tokensOf p e)
       → CarriedOut (t .cells) (Assign r e) (λ code σ. silent (put σ r v) (x .progress .control .place)) x y → Performed p t i x y
   unfolding exec
   assign-carried {r = r} {e = e} {v = v} ei ev d =
       let f = value-in p (x .work) (t .cells) e ev in
-      rw ei (carrying (Assign r e) (λ code σ. silent (put σ r v) (x .progress .control .place)) d
+      rw ei (carrying (Assign r e) (λ code σ. silent (put σ r v) (x .progress .control .place)) d (λ code. refl)
       (λ code el j. silent (put (state x t) r (f j)) (x .progress .control .place)))
 
   pub load-carried : {i : Instruction} {r : ℕ} {e : Expression} {a : Tagged} → i ≡ Load r e → a ≡ eval (taggedAt (x .work)) (tokensOf p e)
@@ -65,15 +81,15 @@ module _ {p : List ℕ} {t : Trailer} {x y : Standing} where
   unfolding exec
   load-carried {r = r} {e = e} {a = a} ei ea d =
       let f = value-in p (x .work) (t .cells) e ea in
-      rw ei (carrying (Load r e) (λ code σ. loadEffect code σ (x .progress .control .place) r a) d
+      rw ei (carrying (Load r e) (λ code σ. loadEffect code σ (x .progress .control .place) r a) d (λ code. refl)
       (λ code el j. loadEffect code (state x t) (x .progress .control .place) r (f j)))
 
   pub store-carried : {i : Instruction} {r : ℕ} {e : Expression} {a : Tagged} → i ≡ Store r e → a ≡ eval (taggedAt (x .work)) (tokensOf p e)
-      → CarriedOut (t .cells) (Store r e) (λ code σ. storeEffect code σ (x .progress .control .place) r a) x y → Performed p t i x y
+      → TriedOut (t .cells) (Store r e) (λ code σ. storeEffect code σ (x .progress .control .place) r a) x y → Performed p t i x y
   unfolding exec
   store-carried {r = r} {e = e} {a = a} ei ea d =
       let f = value-in p (x .work) (t .cells) e ea in
-      rw ei (carrying (Store r e) (λ code σ. storeEffect code σ (x .progress .control .place) r a) d
+      rw ei (trying (Store r e) (λ code σ. storeEffect code σ (x .progress .control .place) r a) d
       (λ code el j. storeEffect code (state x t) (x .progress .control .place) r (f j)))
 
   pub jump-carried : {i : Instruction} {e : Expression} {v : Tagged} {to : ℕ} → i ≡ Jump e → v ≡ eval (taggedAt (x .work)) (tokensOf p e)
@@ -82,7 +98,7 @@ module _ {p : List ℕ} {t : Trailer} {x y : Standing} where
   jump-carried {e = e} {v = v} {to = to} ei ev eq d =
       let f = value-in p (x .work) (t .cells) e ev in
       rw ei
-      (carrying (Jump e) (λ code σ. goEffect σ to v) (rw ei at d)
+      (carrying (Jump e) (λ code σ. goEffect σ to v) (rw ei at d) (λ code. refl)
       (λ code el j. goEffect (state x t) ((eq ∙ (λ k. min (f k .value) (sym el k))) j) (f j)))
 
   pub branch-carried : {i : Instruction} {r : ℕ} {l : Label} {v : Tagged} {to : ℕ} → i ≡ BranchZero r l → r < registers → v ≡ taggedAt (x .work) r
@@ -92,7 +108,7 @@ module _ {p : List ℕ} {t : Trailer} {x y : Standing} where
   branch-carried {r = r} {l = l} {v = v} {to = to} ei h ev eq d =
       let f = register-at (x .work) (t .cells) h refl ev in
       rw ei
-      (carrying (BranchZero r l) (λ code σ. goEffect σ to v) d
+      (carrying (BranchZero r l) (λ code σ. goEffect σ to v) d (λ code. refl)
       (λ code el j. goEffect (state x t)
       ((eq ∙ (λ k. branchTo (f k) (l .0) (add-one (x .progress .control .place) k))) j) (f j)))
 
@@ -105,7 +121,7 @@ module _ {p : List ℕ} {t : Trailer} {x y : Standing} where
       let fe = value-in p (x .work) (t .cells) e refl in
       let fr = register-at (x .work) (t .cells) h refl refl in
       rw ei
-      (carrying (AssignIf r b e) (λ code σ. silent (put σ r z) (x .progress .control .place)) d
+      (carrying (AssignIf r b e) (λ code σ. silent (put σ r z) (x .progress .control .place)) d (λ code. refl)
       (λ code el j. silent (put (state x t) r ((ey ∙ (λ k. chosen (fc k) (fe k) (fr k))) j))
       (x .progress .control .place)))
 

@@ -1,7 +1,7 @@
 -- How a run is put together from its steps, and how the tests of the stops meet the rules' run.
 -- Assumes nothing.
 use mathlib.Core.Path.{_≡_, refl, sym, ap, ap₂, _∙_, subst}
-use mathlib.Core.Bool.{true, false, true≢false}
+use mathlib.Core.Bool.{Bool, true, false, true≢false}
 use mathlib.Core.List.{List, [], _++_}
 use Prim.Native.Nat.{ℕ, suc, _+_, _-_, _*_, _/_, _<_, _≤_}
 use native.Mathlib.Omega.{arith}
@@ -9,28 +9,31 @@ use lib.ListN.{length, getD, drop, length-append, length-drop}
 use lib.Seq.{length-sets, getD-drop}
 use borrow.Author.Tests.{le-leb, lt-leb}
 use Rattle.location.specs.declared.Label.{Label}
-use Rattle.location.specs.Sets.{limit}
+use Rattle.location.specs.declared.LocationSet.{LocationSet}
+use Rattle.location.specs.Sets.{limit, empty, union}
 use Rattle.rules.specs.declared.Stop.{Stop}
-use Rattle.rules.specs.declared.Stop.the-variants.{Finished, Spent, TraceFull}
+use Rattle.rules.specs.declared.Stop.the-variants.{Finished, Spent, TraceFull, OutsideFull}
 use Rattle.rules.specs.declared.Trailer.{Trailer}
 use Rattle.rules.specs.Rules.Instructions.{Instr, Observation}
 use Rattle.rules.specs.Rules.Plain.{Code, endPlace, fetch}
 use Rattle.rules.specs.Rules.Mispredicting.{Machine, Step, rolling, opening, ordinary, forward}
 use Rattle.rules.specs.Rules.Loop.{ended}
-use Rattle.rules.specs.Rules.Runs.{Gathered, Result, fits, over, run}
+use Rattle.rules.specs.Rules.Runs.{Gathered, Result, gather, noteUnmade, fits, over, run}
 use Rattle.rules.specs.Rules.JobFile.{locations}
 use Rattle.rules.specs.Rules.Calls.{written, traceWords, workingWords, counts}
-use Rattle.rules.specs.Theorems.RunLaws.{run-over, run-spent, run-full, run-step}
+use Rattle.rules.specs.Theorems.RunLaws.{run-over, run-spent, run-full, run-outside, run-step}
 use Rattle.rules.specs.Theorems.JobLaws.{Limits}
 use Rattle.descriptor.specs.declared.Descriptor.{Descriptor}
 use Rattle.descriptor.specs.Descriptors.{descriptorIn, instructionIn, Valid}
 use Rattle.program.specs.Programs.{Describes, program-length, program-at}
 use Rattle.work.specs.declared.machine.Control.{Control}
 use Rattle.work.specs.Layout.{labels}
-use Rattle.work.specs.Machines.{machineOf}
+use Rattle.work.specs.Words.{branchAt, changeAt}
+use Rattle.work.specs.Machines.{stateIn, machineOf, Fit}
 use Rattle.stepping.specs.declared.Progress.{Progress}
-use Rattle.stepping.specs.Progress.{Standing, standing, machineAt, gatheredOf}
-use Rattle.stepping.specs.Steps.{Made, RolledBackTo}
+use Rattle.stepping.specs.Progress.{Standing, standing, machineAt, rolledBack, gatheredOf, progressUnmade}
+use Rattle.stepping.specs.Steps.{Made, Attempted, RolledBackTo}
+use Rattle.stepping.proofs.Laws.{gathered}
 use Rattle.execution.specs.declared.Mode.{Mode}
 use Rattle.execution.specs.declared.Mode.the-variants as modes
 use Rattle.execution.specs.declared.Ran.{Ran}
@@ -40,12 +43,14 @@ use Rattle.execution.specs.declared.rule.Rule.{Rule}
 use Rattle.execution.specs.declared.rule.Rule.the-variants as rule
 use Rattle.execution.specs.declared.step.Opening.the-variants as openings
 use Rattle.execution.specs.Next.{stepBy, forwardBy, overAt, ruleAt, Opens}
-use Rattle.execution.specs.Running.{codeIn, Loaded, CodeOf, Steady, Ready, codeAt, nextStep, observedBy, Permitted, Halts, HaltOf, FreeUntil}
+use Rattle.execution.specs.Running.{codeIn, Loaded, CodeOf, Steady, Ready, codeAt, stepIn, nextStep, observedBy}
+use Rattle.execution.specs.Running.{Fitting, Permitted, Overfull, Needs, Halts, HaltOf, FreeUntil}
 use Rattle.execution.specs.Running.{Running, GoesOn, reportOf, RanTo}
 use Rattle.execution.specs.Starts.{beginning, whole}
 use Rattle.execution.proofs.Machine.{over-by, over-named, back-named, advance-named, Going, step-expired, forward-step, closed-not-expired}
 use Rattle.execution.proofs.Machine.{plain-closed, same-shown, step-most}
 use Rattle.execution.proofs.TraceArea.{observed-more}
+use Rattle.execution.proofs.Overfull.{forward-needs}
 
 -- at most 256 locations
 pub locations-most : {t : Trailer} → Limits t → locations t ≤ limit
@@ -54,6 +59,18 @@ locations-most l = let h = l .cells in omega arith
 -- a step that is equal was made
 pub made-as : {n : ℕ} {s s′ : Step} {x y : Standing} → s ≡ s′ → Made n s x y → Made n s′ x y
 made-as {n} {x = x} {y = y} e m = subst (λ (z : Step). Made n z x y) e m
+
+-- or tried
+pub tried-as : {n : ℕ} {s s′ : Step} {x y : Standing} → s ≡ s′ → Attempted n s x y → Attempted n s′ x y
+tried-as {n} {x = x} {y = y} e m = subst (λ (z : Step). Attempted n z x y) e m
+
+-- a step that needs no address was tried where it was made
+pub made-tried : {n : ℕ} {s : Step} {x y : Standing} → s .overfull ≡ false → Made n s x y → Attempted n s x y
+made-tried e m = record { made = λ o. m; unmade = λ o. absurd (true≢false (sym o ∙ e)) }
+
+pub opened-tried : (code : Code) (M : Machine) (r l : ℕ) {n : ℕ} {x y : Standing} → Made n (opening code M r l) x y → Attempted n (opening code M r l) x y
+unfolding opening
+opened-tried code M r l m = made-tried refl m
 
 module _ (p : List ℕ) (t : Trailer) where
   -- ---- the program
@@ -64,6 +81,10 @@ module _ (p : List ℕ) (t : Trailer) where
   pub code-fetch : (ws : List ℕ) (i : ℕ) → i < t .count → fetch (codeIn p t ws) i ≡ instructionIn p (descriptorIn (getD ws i 0))
   unfolding codeIn fetch
   code-fetch ws i h = program-at p (t .count) ws i h
+
+  -- the words of a machine of the mispredicting run, whatever is open
+  pub steady-any : {w : List ℕ} {c : Control} → Loaded p t w → Fit w c → Steady p t modes.Mispredicting w c
+  steady-any l f = record { loaded = l; fits = f; closed = λ e. absurd (let z : _≡_ {A = ℕ} 0 1 = cc in omega arith) }
 
   module _ (mode : Mode) where
     -- ---- the tests of the stops
@@ -85,23 +106,27 @@ module _ (p : List ℕ) (t : Trailer) where
           over-by code (x .work) control (locations t)
           ∙ ap (λ (k : ℕ). overAt (control .depth) k (control .place)) (code-of (drop labels (x .work)) .count)
 
-      pub halts-finished : overAt (control .depth) (t .count) (control .place) ≡ true → Halts p t mode x Finished
+      pub halts-finished : overAt (control .depth) (t .count) (control .place) ≡ true → Halts p t mode x Finished (x .progress)
       halts-finished h = record {
         stops = λ os e.
             run-over (stepBy mode code) code room (t .budget - x .progress .steps) machine (gatheredOf os (x .progress)) (over-tested ∙ h);
+        counted = refl;
       }
 
       module _ (on : overAt (control .depth) (t .count) (control .place) ≡ false) where
         pub still-on : over code machine ≡ false
         still-on = over-tested ∙ on
 
-        pub halts-spent : t .budget ≤ x .progress .steps → Halts p t mode x Spent
+        pub halts-spent : t .budget ≤ x .progress .steps → Halts p t mode x Spent (x .progress)
         halts-spent b =
             let z : t .budget - x .progress .steps ≡ 0 = omega arith in
-            record { stops = λ os e. rw z (run-spent (stepBy mode code) code room machine (gatheredOf os (x .progress)) still-on) }
+            record {
+              stops = λ os e. rw z (run-spent (stepBy mode code) code room machine (gatheredOf os (x .progress)) still-on);
+              counted = refl;
+            }
 
-        pub permitted : x .progress .steps < t .budget → x .progress .observations + length (nextStep p t mode x .obs) ≤ room → Permitted p t mode x
-        permitted b h = record { on = still-on; left = b; room = h }
+        pub fitting : x .progress .steps < t .budget → x .progress .observations + length (nextStep p t mode x .obs) ≤ room → Fitting p t mode x
+        fitting b h = record { on = still-on; left = b; room = h }
 
         not-fitting : (os : List Observation) → length os ≡ x .progress .observations
             → room < x .progress .observations + length (nextStep p t mode x .obs)
@@ -110,21 +135,69 @@ module _ (p : List ℕ) (t : Trailer) where
         not-fitting os e h = lt-leb (length os + length (nextStep p t mode x .obs)) room (rw e h)
 
         pub halts-full : x .progress .steps < t .budget → room < x .progress .observations + length (nextStep p t mode x .obs)
-            → Halts p t mode x TraceFull
+            → Halts p t mode x TraceFull (x .progress)
         halts-full b h =
             let k : t .budget - x .progress .steps ≡ suc (t .budget - (x .progress .steps + 1)) = omega arith in
             record {
               stops = λ os e.
                   rw k (run-full (stepBy mode code) code room (t .budget - (x .progress .steps + 1)) machine (gatheredOf os (x .progress)) still-on
                   (not-fitting os e h));
+              counted = refl;
             }
 
-    -- by what the code has found
-    pub proceeds : {x : Standing} {h : Halt} → h ≡ halt.Proceed → HaltOf p t mode x h → Permitted p t mode x
-    proceeds {x} e o = subst (HaltOf p t mode x) e o
+      -- of what the next step observes
+      room-for : Fitting p t mode x → (os : List Observation) → length os ≡ x .progress .observations
+          → fits room (nextStep p t mode x) (gatheredOf os (x .progress)) ≡ true
+      unfolding fits
+      room-for f os e = le-leb (length os + length (nextStep p t mode x .obs)) room (rw e (f .room))
 
-    pub halted : {x : Standing} {h : Halt} {s : Stop} → h ≡ halt.Halted s → HaltOf p t mode x h → Halts p t mode x s
-    halted {x} e o = subst (HaltOf p t mode x) e o
+      -- a store that stops the run: the set of its address is gathered
+      unmade-gathered : {seen : LocationSet} → seen ≡ nextStep p t mode x .seen → (os : List Observation)
+          → gatheredOf os (progressUnmade (x .progress) seen) ≡ noteUnmade machine (nextStep p t mode x) (gatheredOf os (x .progress))
+      unfolding noteUnmade
+      unmade-gathered {seen} e os =
+          let P = gathered (branchAt (x .work)) (changeAt (x .work)) (stateIn (x .work) (locations t)) (control .window) (control .log)
+          (control .depth) (x .progress .plain) in
+          λ i. record {
+            trace = os;
+            steps = x .progress .steps;
+            rollbacks = rolledBack control;
+            full = union (x .progress .full) (e i);
+            plain = (P seen ∙ ap (gather (machine .branches) (x .progress .plain)) e) i;
+          }
+
+      pub halts-outside : {seen : LocationSet} → Overfull p t mode x → seen ≡ nextStep p t mode x .seen
+          → Halts p t mode x OutsideFull (progressUnmade (x .progress) seen)
+      halts-outside {seen} f e =
+          let b = f .fitting .left in
+          let k : t .budget - x .progress .steps ≡ suc (t .budget - (x .progress .steps + 1)) = omega arith in
+          record {
+            stops = λ os n.
+                rw k (run-outside (stepBy mode code) code room (t .budget - (x .progress .steps + 1)) machine (gatheredOf os (x .progress))
+                (f .fitting .on) (room-for (f .fitting) os n) (f .full) ∙ ap (ended OutsideFull machine) (sym (unmade-gathered e os)));
+            counted = refl;
+          }
+
+    -- what the code gives back
+    pub found-halted : {x : Standing} (seen : LocationSet) {h : Halt} {s : Stop} → (h ≡ halt.Halted s) × (seen ≡ empty)
+        → Halts p t mode x s (x .progress) → HaltOf p t mode x seen h
+    found-halted {x} seen e o = subst (HaltOf p t mode x seen) (sym (e .0)) (o, e .1)
+
+    pub found-proceed : {x : Standing} (seen : LocationSet) {h : Halt} → (h ≡ halt.Proceed) × (seen ≡ empty) → Permitted p t mode x
+        → HaltOf p t mode x seen h
+    found-proceed {x} seen e o = subst (HaltOf p t mode x seen) (sym (e .0)) (o, e .1)
+
+    -- and what it says
+    pub proceeds : {x : Standing} (seen : LocationSet) {h : Halt} → h ≡ halt.Proceed → HaltOf p t mode x seen h → Permitted p t mode x
+    proceeds {x} seen e o = subst (HaltOf p t mode x seen) e o .0
+
+    pub halted : {x : Standing} (seen : LocationSet) {h : Halt} {s : Stop} → h ≡ halt.Halted s → HaltOf p t mode x seen h
+        → Halts p t mode x s (x .progress)
+    halted {x} seen e o = subst (HaltOf p t mode x seen) e o .0
+
+    pub overfull : {x : Standing} (seen : LocationSet) {h : Halt} → h ≡ halt.OutsideFull → HaltOf p t mode x seen h
+        → Halts p t mode x OutsideFull (progressUnmade (x .progress) seen)
+    overfull {x} seen e o = let q = subst (HaltOf p t mode x seen) e o in halts-outside x (q .0) (q .1)
 
     -- ---- rule 1 where the top branch has expired
     pub rolled : (x y : Standing) → Ready p t mode x → Going (x .progress .control) (t .count) (x .work) (locations t) true → RolledBackTo x y
@@ -145,6 +218,17 @@ module _ (p : List ℕ) (t : Trailer) where
     rolls-two w c = go mode
       where
         go : (m : Mode) → Steady p t m w c → Going c (t .count) w (locations t) true → 2 ≡ observedBy p t m w c
+        go modes.Plain r g = absurd (true≢false (sym (g .top) ∙ closed-not-expired (t .count) w c (locations t) (r .closed refl)))
+        go modes.Mispredicting r g =
+            let q = step-expired (codeIn p t (drop labels w)) (machineOf w c (locations t)) (rw (code-of (drop labels w) .count) (g .top)) in
+            rw (q .rolls) (unfold rolling in refl)
+
+    -- it needs no address
+    pub rolls-fitting : (w : List ℕ) (c : Control) → Steady p t mode w c → Going c (t .count) w (locations t) true
+        → stepIn p t mode w c .overfull ≡ false
+    rolls-fitting w c = go mode
+      where
+        go : (m : Mode) → Steady p t m w c → Going c (t .count) w (locations t) true → stepIn p t m w c .overfull ≡ false
         go modes.Plain r g = absurd (true≢false (sym (g .top) ∙ closed-not-expired (t .count) w c (locations t) (r .closed refl)))
         go modes.Mispredicting r g =
             let q = step-expired (codeIn p t (drop labels w)) (machineOf w c (locations t)) (rw (code-of (drop labels w) .count) (g .top)) in
@@ -179,6 +263,9 @@ module _ (p : List ℕ) (t : Trailer) where
 
         pub observed-forward : length (forwardBy mode described now-machine i .obs) ≡ observedBy p t mode w c
         observed-forward = ap (λ (z : Step). length (z .obs)) step-same
+
+        pub step-needs : {f : Bool} {seen : LocationSet} → Needs (ordinary described now-machine i) f seen → Needs (stepIn p t mode w c) f seen
+        step-needs {f} {seen} n = subst (λ (z : Step). Needs z f seen) step-same (forward-needs mode described now-machine i n)
 
         -- rule 2 or rule 3
         pub branch-step : {r : ℕ} {l : Label} → Opens mode i (openings.Branch r l)
@@ -215,7 +302,7 @@ module _ (p : List ℕ) (t : Trailer) where
       pub ready-on : Ready p t mode x → Ready p t mode y
       ready-on r =
           let steps = m .steps in
-          let left = o .left in
+          let left = o .fitting .left in
           record {
             steady = record {
               loaded = record {
@@ -230,15 +317,15 @@ module _ (p : List ℕ) (t : Trailer) where
             counted = record {
               opened = let a = r .counted .opened in let b = m .opened in omega arith;
               steps = let b = r .steady .loaded .limits .budget in omega arith;
-              room = let a = m .observations in let b = o .room in let c = trace-size in omega arith;
+              room = let a = m .observations in let b = o .fitting .room in let c = trace-size in omega arith;
             };
             budget = omega arith;
           }
 
-      fitting : (a₀ : List ℕ) (os : List Observation) (s : Step) → length os ≡ x .progress .observations
+      roomy : (a₀ : List ℕ) (os : List Observation) (s : Step) → length os ≡ x .progress .observations
           → x .progress .observations + length (s .obs) ≤ length a₀ / 2 → fits (length a₀ / 2) s (gatheredOf os (x .progress)) ≡ true
       unfolding fits
-      fitting a₀ os s e h = le-leb (length os + length (s .obs)) (length a₀ / 2) (rw e h)
+      roomy a₀ os s e h = le-leb (length os + length (s .obs)) (length a₀ / 2) (rw e h)
 
       pub running-on : {w₀ a₀ : List ℕ} {R : Result} → Running p t mode w₀ a₀ x R → Running p t mode w₀ a₀ y R
       running-on {w₀} {a₀} g =
@@ -248,10 +335,10 @@ module _ (p : List ℕ) (t : Trailer) where
           let os = g .observed in
           let same : nextStep p t mode x ≡ s = ap (λ (ws : List ℕ). stepBy mode (codeIn p t ws) M) (g .frame) in
           let n = made-as same m in
-          let on : over begun M ≡ false = subst (λ (ws : List ℕ). over (codeIn p t ws) M ≡ false) (g .frame) (o .on) in
+          let on : over begun M ≡ false = subst (λ (ws : List ℕ). over (codeIn p t ws) M ≡ false) (g .frame) (o .fitting .on) in
           let more : x .progress .observations + length (s .obs) ≤ length a₀ / 2 =
-          subst (λ (z : Step). x .progress .observations + length (z .obs) ≤ length a₀ / 2) same (rw (g .size) at (o .room)) in
-          let k : t .budget - x .progress .steps ≡ suc (t .budget - y .progress .steps) = let a = n .steps in let b = o .left in omega arith in
+          subst (λ (z : Step). x .progress .observations + length (z .obs) ≤ length a₀ / 2) same (rw (g .size) at (o .fitting .room)) in
+          let k : t .budget - x .progress .steps ≡ suc (t .budget - y .progress .steps) = let a = n .steps in let b = o .fitting .left in omega arith in
           record {
             observed = os ++ s .obs;
             count = length-append os (s .obs) ∙ ap (λ (i : ℕ). i + length (s .obs)) (g .count) ∙ sym (n .observations);
@@ -262,7 +349,7 @@ module _ (p : List ℕ) (t : Trailer) where
                 ap₂ (λ (N : Machine) (h : Gathered). run (stepBy mode begun) begun (length a₀ / 2) (t .budget - y .progress .steps) N h)
                 (n .machine) (n .gathered os)
                 ∙ sym (run-step (stepBy mode begun) begun (length a₀ / 2) (t .budget - y .progress .steps) M (gatheredOf os (x .progress)) on
-                (fitting a₀ os s (g .count) more))
+                (record { fit = roomy a₀ os s (g .count) more; storable = sym (ap (λ (z : Step). z .overfull) same) ∙ o .storable }))
                 ∙ ap (λ (i : ℕ). run (stepBy mode begun) begun (length a₀ / 2) i M (gatheredOf os (x .progress))) (sym k)
                 ∙ g .rest;
           }
@@ -276,6 +363,7 @@ module _ (p : List ℕ) (t : Trailer) where
       pub on : y .progress .steps ≡ x .progress .steps → over (codeAt p t y) (machineAt y (locations t)) ≡ false
       pub room : y .progress .steps < until → y .progress .observations + length (nextStep p t mode y .obs) ≤ length (y .trace) / 2
       pub free : y .progress .steps + 1 < until → y .progress .observations + 2 * (until - y .progress .steps) ≤ length (y .trace) / 2
+      pub storable : y .progress .steps ≡ x .progress .steps → nextStep p t mode y .overfull ≡ false
       pub kept : (w₀ a₀ : List ℕ) (R : Result) → Running p t mode w₀ a₀ x R → Running p t mode w₀ a₀ y R
 
     pub stepping-starts : {until : ℕ} {x : Standing} → Ready p t mode x → Permitted p t mode x → FreeUntil (t .budget) until x → Stepping until x x
@@ -284,23 +372,24 @@ module _ (p : List ℕ) (t : Trailer) where
       least = omega arith;
       most = f .most;
       more = f .more;
-      on = λ e. o .on;
-      room = λ h. o .room;
+      on = λ e. o .fitting .on;
+      room = λ h. o .fitting .room;
       free = f .free;
+      storable = λ e. o .storable;
       kept = λ w₀ a₀ R g. g;
     }
 
     module _ {until : ℕ} {x y : Standing} (s : Stepping until x y) where
       -- the next step may be made
       pub stepping-may : y .progress .steps < until → overAt (y .progress .control .depth) (t .count) (y .progress .control .place) ≡ false
-          → Permitted p t mode y
-      stepping-may h on = permitted y on (let b = s .most in omega arith) (s .room h)
+          → nextStep p t mode y .overfull ≡ false → Permitted p t mode y
+      stepping-may h on q = record { fitting = fitting y on (let b = s .most in omega arith) (s .room h); storable = q }
 
       pub stepping-on : {z : Standing} → y .progress .steps < until
           → overAt (y .progress .control .depth) (t .count) (y .progress .control .place) ≡ false
-          → Made (locations t) (nextStep p t mode y) y z → Stepping until x z
-      stepping-on {z} h on m =
-          let o = stepping-may h on in
+          → nextStep p t mode y .overfull ≡ false → Made (locations t) (nextStep p t mode y) y z → Stepping until x z
+      stepping-on {z} h on q m =
+          let o = stepping-may h on q in
           let a = m .steps in
           let b = m .observations in
           let size = trace-size o m in
@@ -314,6 +403,7 @@ module _ (p : List ℕ) (t : Trailer) where
             on = λ e. absurd (let l = s .least in omega arith);
             room = λ i. let f = s .free (omega arith) in omega arith;
             free = λ i. let f = s .free (omega arith) in omega arith;
+            storable = λ e. absurd (let l = s .least in omega arith);
             kept = λ w₀ a₀ R g. running-on o m (s .kept w₀ a₀ R g);
           }
 
@@ -328,6 +418,27 @@ module _ (p : List ℕ) (t : Trailer) where
 
       later : (x .progress .steps ≡ y .progress .steps → ⊥) → x .progress .steps < y .progress .steps
       later n = let l = s .least in omega arith
+
+      -- a step that was tried has been made where the count of steps is another
+      pub moved-made : {z : Standing} → Attempted (locations t) (nextStep p t mode y) y z → (z .progress .steps ≡ y .progress .steps → ⊥)
+          → (nextStep p t mode y .overfull ≡ false) × Made (locations t) (nextStep p t mode y) y z
+      moved-made {z} a n = go (nextStep p t mode y .overfull) refl
+        where
+          go : (b : Bool) → nextStep p t mode y .overfull ≡ b → (nextStep p t mode y .overfull ≡ false) × Made (locations t) (nextStep p t mode y) y z
+          go true e = absurd (n (ap (λ (u : Standing). u .progress .steps) (a .unmade e)))
+          go false e = (e, a .made e)
+
+      -- and else nothing was done: the store there cannot be made, and some step was made before
+      pub stepping-stuck : {z : Standing} → Attempted (locations t) (nextStep p t mode y) y z → z .progress .steps ≡ y .progress .steps
+          → GoesOn p t mode x (standing (z .work) (z .trace) (y .progress))
+      stepping-stuck {z} a n = go (nextStep p t mode y .overfull) refl
+        where
+          go : (b : Bool) → nextStep p t mode y .overfull ≡ b → GoesOn p t mode x (standing (z .work) (z .trace) (y .progress))
+          go true e =
+              let q = a .unmade e in
+              subst (GoesOn p t mode x) (sym (ap (λ (u : Standing). standing (u .work) (u .trace) (y .progress)) q))
+              (record { further = later (λ u. true≢false (sym e ∙ s .storable (sym u))); ready = s .ready; kept = s .kept })
+          go false e = absurd (let m = a .made e .steps in omega arith)
 
       -- so many steps are made, or the run is over
       pub stepping-made : until ≤ y .progress .steps → GoesOn p t mode x y
@@ -360,25 +471,26 @@ module _ (p : List ℕ) (t : Trailer) where
     same-size w w₀ f h =
         let e : length w - labels ≡ length w₀ - labels = sym (length-drop labels w) ∙ ap length f ∙ length-drop labels w₀ in omega arith
 
-    ends : {w₀ a₀ : List ℕ} {x : Standing} {s : Stop} {R : Result} → Ready p t mode x → Running p t mode w₀ a₀ x R
-        → Halts p t mode x s → RanTo t w₀ a₀ (x .work) (x .trace) (reportOf s (x .progress)) R
+    ends : {w₀ a₀ : List ℕ} {x : Standing} {s : Stop} {c : Progress} {R : Result} → Ready p t mode x → Running p t mode w₀ a₀ x R
+        → Halts p t mode x s c → RanTo t w₀ a₀ (x .work) (x .trace) (reportOf s c) R
     unfolding ended counts
-    ends {w₀} {a₀} {x} {s} {R} r g h =
+    ends {w₀} {a₀} {x} {s} {c} {R} r g h =
         let M = machineAt x (locations t) in
         let sofar = gatheredOf (g .observed) (x .progress) in
+        let last = gatheredOf (g .observed) c in
         let begun = codeIn p t (drop labels w₀) in
         let k = t .budget - x .progress .steps in
-        let halts : run (stepBy mode begun) begun (length a₀ / 2) k M sofar ≡ ended s M sofar =
-        subst (λ (ws : List ℕ). run (stepBy mode (codeIn p t ws)) (codeIn p t ws) (length a₀ / 2) k M sofar ≡ ended s M sofar) (g .frame)
+        let halts : run (stepBy mode begun) begun (length a₀ / 2) k M sofar ≡ ended s M last =
+        subst (λ (ws : List ℕ). run (stepBy mode (codeIn p t ws)) (codeIn p t ws) (length a₀ / 2) k M sofar ≡ ended s M last) (g .frame)
         (rw (g .size) at (h .stops (g .observed) (g .count))) in
-        let e : ended s M sofar ≡ R = sym halts ∙ g .rest in
+        let e : ended s M last ≡ R = sym halts ∙ g .rest in
         let same : g .observed ≡ R .gathered .trace = ap (λ (z : Result). z .gathered .trace) e in
         record {
           ends = record {
             reports = record {
               counts = λ i. record {
                 stop = e i .stop;
-                observations = (sym (g .count) ∙ ap length same) i;
+                observations = (h .counted ∙ sym (g .count) ∙ ap length same) i;
                 steps = e i .gathered .steps;
                 rollbacks = e i .gathered .rollbacks;
               };
@@ -392,6 +504,11 @@ module _ (p : List ℕ) (t : Trailer) where
           size = same-size (x .work) w₀ (g .frame) (r .steady .fits .room);
         }
 
-    pub running-ends : {w₀ a₀ : List ℕ} {x : Standing} {s : Stop} {R : Result} {r : Ran} → r ≡ reportOf s (x .progress) → Ready p t mode x
-        → Running p t mode w₀ a₀ x R → Halts p t mode x s → RanTo t w₀ a₀ (x .work) (x .trace) r R
+    pub running-ends : {w₀ a₀ : List ℕ} {x : Standing} {s : Stop} {c : Progress} {R : Result} {r : Ran} → r ≡ reportOf s c → Ready p t mode x
+        → Running p t mode w₀ a₀ x R → Halts p t mode x s c → RanTo t w₀ a₀ (x .work) (x .trace) r R
     running-ends {w₀} {a₀} {x} {R = R} e q g h = subst (λ (r : Ran). RanTo t w₀ a₀ (x .work) (x .trace) r R) (sym e) (ends q g h)
+
+    -- and where a store has stopped it, c is what the code has gathered
+    pub unmade-ends : {w₀ a₀ : List ℕ} {x : Standing} {s : Stop} {c c′ : Progress} {R : Result} {r : Ran} → c ≡ c′ → r ≡ reportOf s c → Ready p t mode x
+        → Running p t mode w₀ a₀ x R → Halts p t mode x s c′ → RanTo t w₀ a₀ (x .work) (x .trace) r R
+    unmade-ends {s = s} ec e q g h = running-ends (e ∙ ap (reportOf s) ec) q g h

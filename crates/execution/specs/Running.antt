@@ -1,11 +1,12 @@
 -- A run in the lent areas: where it can go on, what halts it, and what is left of it.
 -- Assumes nothing.
 use mathlib.Core.Path.{_≡_}
-use mathlib.Core.Bool.{true, false}
+use mathlib.Core.Bool.{Bool, true, false}
 use mathlib.Core.List.{List}
 use Prim.Native.Nat.{ℕ, _+_, _-_, _*_, _/_, _<_, _≤_}
 use lib.ListN.{length, getD, drop}
-use Rattle.location.specs.Sets.{registers}
+use Rattle.location.specs.declared.LocationSet.{LocationSet}
+use Rattle.location.specs.Sets.{registers, empty}
 use Rattle.rules.specs.declared.Stop.{Stop}
 use Rattle.rules.specs.declared.Tagged.{Tagged}
 use Rattle.rules.specs.declared.Trailer.{Trailer}
@@ -31,7 +32,7 @@ use Rattle.work.specs.Words.{taggedAt}
 use Rattle.work.specs.Machines.{stateIn, machineOf, Fit}
 use Rattle.stepping.specs.declared.Progress.{Progress}
 use Rattle.stepping.specs.Progress.{Standing, machineAt, gatheredOf, rolledBack}
-use Rattle.stepping.specs.Steps.{Counted, Made, Unexpired}
+use Rattle.stepping.specs.Steps.{Counted, Made, Attempted, Unexpired}
 use Rattle.execution.specs.declared.Mode.{Mode}
 use Rattle.execution.specs.declared.Mode.the-variants as modes
 use Rattle.execution.specs.declared.Ran.{Ran}
@@ -84,23 +85,40 @@ observedBy p t mode w c = length (stepIn p t mode w c .obs)
 abbrev pub nextStep : List ℕ → Trailer → Mode → Standing → Step
 nextStep p t mode x = stepIn p t mode (x .work) (x .progress .control)
 
--- The next step may be made: the run is not over, the budget is not spent, and the step's observations fit.
-pub record Permitted (p : List ℕ) (t : Trailer) (mode : Mode) (x : Standing) : Type 0 where
+-- The run is not over, the budget is not spent, and the next step's observations fit: what is tried before the table outside the image is.
+pub record Fitting (p : List ℕ) (t : Trailer) (mode : Mode) (x : Standing) : Type 0 where
   pub on : over (codeAt p t x) (machineAt x (locations t)) ≡ false
   pub left : x .progress .steps < t .budget
   pub room : x .progress .observations + length (nextStep p t mode x .obs) ≤ length (x .trace) / 2
 
--- The run stops at x, as s.
-pub record Halts (p : List ℕ) (t : Trailer) (mode : Mode) (x : Standing) (s : Stop) : Type 0 where
+-- The next step may be made: nor does it need one address too many.
+pub record Permitted (p : List ℕ) (t : Trailer) (mode : Mode) (x : Standing) : Type 0 where
+  pub fitting : Fitting p t mode x
+  pub storable : nextStep p t mode x .overfull ≡ false
+
+-- It is a store that does.
+pub record Overfull (p : List ℕ) (t : Trailer) (mode : Mode) (x : Standing) : Type 0 where
+  pub fitting : Fitting p t mode x
+  pub full : nextStep p t mode x .overfull ≡ true
+
+-- whether the step s needs one address too many, and if it does, the set of what it observes
+pub record Needs (s : Step) (overfull : Bool) (seen : LocationSet) : Type 0 where
+  pub exact : overfull ≡ s .overfull
+  pub rests : overfull ≡ true → seen ≡ s .seen
+
+-- The run stops at x, as s, and has then come to the progress c.
+pub record Halts (p : List ℕ) (t : Trailer) (mode : Mode) (x : Standing) (s : Stop) (c : Progress) : Type 0 where
   pub stops : (os : List Observation) → length os ≡ x .progress .observations
       → run (stepBy mode (codeAt p t x)) (codeAt p t x) (length (x .trace) / 2) (t .budget - x .progress .steps) (machineAt x (locations t))
       (gatheredOf os (x .progress))
-      ≡ ended s (machineAt x (locations t)) (gatheredOf os (x .progress))
+      ≡ ended s (machineAt x (locations t)) (gatheredOf os c)
+  pub counted : c .observations ≡ x .progress .observations
 
--- what halts it, if anything does
-abbrev pub HaltOf : List ℕ → Trailer → Mode → Standing → Halt → Type 0
-HaltOf p t mode x halt.Proceed = Permitted p t mode x
-HaltOf p t mode x (halt.Halted s) = Halts p t mode x s
+-- what halts it, if anything does, and the set of its address where a store does; else the empty set
+abbrev pub HaltOf : List ℕ → Trailer → Mode → Standing → LocationSet → Halt → Type 0
+HaltOf p t mode x seen halt.Proceed = Permitted p t mode x × (seen ≡ empty)
+HaltOf p t mode x seen (halt.Halted s) = Halts p t mode x s (x .progress) × (seen ≡ empty)
+HaltOf p t mode x seen halt.OutsideFull = Overfull p t mode x × (seen ≡ nextStep p t mode x .seen)
 
 -- Up to so many steps in all the budget suffices; and the trace area too, unless it is one step more, which has been tested.
 pub record FreeUntil (budget until : ℕ) (x : Standing) : Type 0 where
@@ -127,9 +145,9 @@ pub record Executing (p : List ℕ) (t : Trailer) (i : Instruction) (a : Tagged)
   pub below : RegistersBelow registers (meaning p i)
   pub value : a ≡ eval (taggedAt (x .work)) (firstTokens (meaning p i))
 
--- rule 3 for the instruction i
+-- rule 3 for the instruction i, unless it needs one address too many
 pub record Performed (p : List ℕ) (t : Trailer) (i : Instruction) (x y : Standing) : Type 0 where
-  pub made : (code : Code) → CodeOf t code → Made (locations t) (ordinary code (machineAt x (locations t)) (meaning p i)) x y
+  pub tried : (code : Code) → CodeOf t code → Attempted (locations t) (ordinary code (machineAt x (locations t)) (meaning p i)) x y
 
 -- the descriptor of the label at the place
 abbrev pub descriptorAt : List ℕ → Control → Descriptor
@@ -142,9 +160,9 @@ pub record Advancing (p : List ℕ) (t : Trailer) (mode : Mode) (x : Standing) :
   pub window : 0 < x .progress .control .window
   pub room : 2 * (x .progress .observations + length (nextStep p t mode x .obs)) ≤ length (x .trace)
 
--- the rules' next step was made
-abbrev pub NextMade : List ℕ → Trailer → Mode → Standing → Standing → Type 0
-NextMade p t mode x y = Made (locations t) (nextStep p t mode x) x y
+-- the rules' next step was tried
+abbrev pub NextTried : List ℕ → Trailer → Mode → Standing → Standing → Type 0
+NextTried p t mode x y = Attempted (locations t) (nextStep p t mode x) x y
 
 -- ---- a run
 -- Somewhere in a run R that began with the words w₀ and the trace area a₀: what is left of it from x is the rest of R.

@@ -7,7 +7,7 @@ use lib.ListN.{length, drop}
 use Rattle.location.specs.Sets.{empty}
 use Rattle.rules.specs.declared.Trailer.{Trailer}
 use Rattle.rules.specs.Rules.Instructions.{Instr, windowCosts}
-use Rattle.rules.specs.Rules.Plain.{ownFrom}
+use Rattle.rules.specs.Rules.Plain.{firstState}
 use Rattle.rules.specs.Rules.Runs.{Result, Job, run, first, blank, mispredictingRun, plainRun}
 use Rattle.rules.specs.Rules.JobFile.{trailer, locations, stateOf, jobOf}
 use Rattle.rules.specs.Rules.Calls.{room}
@@ -51,13 +51,13 @@ module _ {bs : List ℕ} {job : Job} (q : Passed bs job) where
       ∙ sym (ap (λ (j : Job). j .code) (q .made))
 
   -- the machine in words that hold a state is the first of the job with that state
-  pub first-same : (w vs : List ℕ) → stateIn w (locations t) ≡ ownFrom 0 vs
+  pub first-same : (w vs : List ℕ) → stateIn w (locations t) ≡ firstState vs
       → machineOf w (beginning .control) (locations t) ≡ first (withState job vs)
   unfolding beginning first withState
   first-same w vs e = rw e
 
   module _ (p w a vs : List ℕ) (described : programIn p (t .count) (drop labels w) ≡ job .code .prog)
-      (holds : stateIn w (locations t) ≡ ownFrom 0 vs) where
+      (holds : stateIn w (locations t) ≡ firstState vs) where
     begins : (mode : Mode)
         → whole p t mode w a ≡ run (stepBy mode (job .code)) (job .code) (length a / 2) (job .budget) (first (withState job vs)) blank
     unfolding whole beginning blank

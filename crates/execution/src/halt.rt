@@ -1,28 +1,50 @@
-// May the next step be made: the stops in the rules' order. The one place that tests the budget and the room of the trace area.
+// May the next step be made: the stops in the rules' order. The one place that tests the budget and the room of the trace area, and that stops
+// the run for a store outside the image that needs one address too many.
 use super::Mode;
 use super::rule::Rule;
 use instruction::Instruction;
+use location::Address;
 use location::Label;
+use location::LocationSet;
 use rules::Stop;
 use rules::Trailer;
+use rules::limits::MAX_ENTRIES;
 use stepping::Progress;
 use work::machine::Control;
 ghost use mathlib.Core.Path.{_≡_};
-ghost use mathlib.Core.Bool.{false};
+ghost use mathlib.Core.Bool.{true, false};
 ghost use mathlib.Core.List.{List};
-ghost use Prim.Native.Nat.{ℕ, _*_, _≤_, _<_};
+ghost use Prim.Native.Nat.{ℕ, _+_, _*_, _≤_, _<_};
 ghost use lib.ListN.{length};
-ghost use Rattle.rules.specs.Rules.Mispredicting.{Machine};
+ghost use Rattle.location.specs.Sets.{registers, empty};
+ghost use Rattle.rules.specs.Rules.Mispredicting.{Machine, ordinary};
 ghost use Rattle.rules.specs.Rules.Plain.{Code};
+ghost use Rattle.rules.specs.Rules.JobFile.{postfix};
 ghost use Rattle.instruction.specs.Meaning.{meaning};
+ghost use Rattle.work.specs.Layout.{logBase};
+ghost use Rattle.work.specs.Machines.{machineOf, Fit};
 ghost use Rattle.stepping.specs.Progress.{standing, standingBefore};
 ghost use Rattle.execution.specs.Next.{forwardBy, overAt};
-ghost use Rattle.execution.specs.Running.{Steady, observedBy, Ready, HaltOf, FreeUntil};
+ghost use Rattle.execution.specs.Running.{Loaded, Steady, stepIn, observedBy, Needs, Ready, HaltOf, FreeUntil};
 
-// Nothing halts the run before its next step, or a stop does.
+// Nothing halts the run before its next step, or a stop does. `OutsideFull` stands by itself, as what the run has gathered changes with it;
+// `Halted` is never of that stop.
 pub enum Halt {
     Proceed,
     Halted(Stop),
+    OutsideFull,
+}
+
+// What halts the run, and the set of the store's address where a store does.
+pub struct Found {
+    pub halt: Halt,
+    pub seen: LocationSet,
+}
+
+// Whether the next step is a store that needs one address too many, and the set of its address if it is one.
+struct NextStore {
+    overfull: bool,
+    seen: LocationSet,
 }
 
 // How many observations an instruction makes, by rule 2 or 3.
@@ -61,22 +83,101 @@ fn next_observations(p: &[u8], t: Trailer, mode: Mode, work: &[u64], c: Control)
     }
 }
 
-// What halts a run before its next step, if anything does: finished, spent, trace full.
-pub fn halt_of(p: &[u8], t: Trailer, mode: Mode, work: &[u64], trace: &[u64], c: Progress) -> Halt
+// The next step needs nothing.
+fn no_store() -> NextStore
+    ensures { λ r. ⌜ (r .overfull ≡ false) × (r .seen ≡ empty) ⌝ }
+{
+    NextStore {
+        overfull: false,
+        seen: LocationSet::empty(),
+    }
+}
+
+// Whether an instruction is a store that needs one address too many. The address is evaluated apart from a step's, so that the compiler makes
+// that evaluation part of the step.
+fn store_of(p: &[u8], work: &[u64], cells: usize, i: Instruction) -> NextStore
+    requires { ⌜ (postfix (meaning (now p) i) ≡ true) × (logBase ≤ length (now work)) ⌝ }
+    ensures { λ r. ⌜ ((code : Code) (c : Control) → code .cells ≡ cells
+        → Needs (ordinary code (machineOf (now (work .entry)) c (registers + cells)) (meaning (now (p .entry)) i)) (r .overfull) (r .seen)) ⌝ }
+{
+    match i {
+        Instruction::Skip => no_store(),
+        Instruction::Assign(_, _) => no_store(),
+        Instruction::Load(_, _) => no_store(),
+        Instruction::Store(_, e) => {
+            let a = expression::evaluate(p, work, e);
+            let value = a.value;
+            if value < cells as u64 {
+                return no_store();
+            }
+            let seen = a.deps;
+            NextStore {
+                overfull: outside::is_overfull(work, Address::new(value)),
+                seen,
+            }
+        }
+        Instruction::Jump(_) => no_store(),
+        Instruction::BranchZero(_, _) => no_store(),
+        Instruction::AssignIf(_, _, _) => no_store(),
+        Instruction::Barrier => no_store(),
+    }
+}
+
+// Whether the next step is such a store. Nothing is evaluated for it unless the table is full.
+fn next_store(p: &[u8], t: Trailer, work: &[u64], c: Control) -> NextStore
+    requires { ⌜ Loaded (now p) t (now work) × Fit (now work) c × (overAt (c .depth) (t .count) (c .place) ≡ false) ⌝ }
+    ensures { λ r. ⌜ ((mode : Mode) → Steady (now (p .entry)) t mode (now (work .entry)) c
+        → Needs (stepIn (now (p .entry)) t mode (now (work .entry)) c) (r .overfull) (r .seen)) ⌝ }
+{
+    if work::entry_count(work) < MAX_ENTRIES {
+        return no_store();
+    }
+    match super::rule::rule_of(c, t.count) {
+        Rule::Over => no_store(),
+        Rule::RollBack => no_store(),
+        Rule::Advance => {
+            let place = Label::new(c.place);
+            let d = program::fetch(work, work::LABELS, place);
+            let i = descriptor::instruction_of(p, d);
+            store_of(p, work, t.cells, i)
+        }
+    }
+}
+
+// A stop that no store's address has to do with.
+fn without_store(halt: Halt) -> Found
+    ensures { λ r. ⌜ (r .halt ≡ halt) × (r .seen ≡ empty) ⌝ }
+{
+    Found {
+        halt,
+        seen: LocationSet::empty(),
+    }
+}
+
+// What halts a run before its next step, if anything does: finished, spent, trace full, outside full.
+pub fn halt_of(p: &[u8], t: Trailer, mode: Mode, work: &[u64], trace: &[u64], c: Progress) -> Found
     requires { ⌜ Ready (now p) t mode (standing (now work) (now trace) c) ⌝ }
-    ensures { λ r. ⌜ HaltOf (now (p .entry)) t mode (standingBefore work trace c) r ⌝ }
+    ensures { λ r. ⌜ HaltOf (now (p .entry)) t mode (standingBefore work trace c) (r .seen) (r .halt) ⌝ }
 {
     let control = c.control;
     if super::rule::is_over(control, t.count) {
-        return Halt::Halted(Stop::Finished);
+        return without_store(Halt::Halted(Stop::Finished));
     }
     if t.budget <= c.steps {
-        return Halt::Halted(Stop::Spent);
+        return without_store(Halt::Halted(Stop::Spent));
     }
-    if c.observations + next_observations(p, t, mode, work, control) <= trace.len() / 2 {
-        return Halt::Proceed;
+    if trace.len() / 2 < c.observations + next_observations(p, t, mode, work, control) {
+        return without_store(Halt::Halted(Stop::TraceFull));
     }
-    Halt::Halted(Stop::TraceFull)
+    let store = next_store(p, t, work, control);
+    let seen = store.seen;
+    if store.overfull {
+        return Found {
+            halt: Halt::OutsideFull,
+            seen,
+        };
+    }
+    without_store(Halt::Proceed)
 }
 
 // The step count up to which neither a budget nor the trace area runs out, whatever the steps are, as none makes more than two

@@ -78,13 +78,19 @@ pub fn run(p: &[u8], t: Trailer, mode: Mode, work: &mut [u64], trace: &mut [u64]
 {
     let mut c = beginning();
     loop {
-        match halt::halt_of(p, t, mode, &work[..], &trace[..], c) {
+        let found = halt::halt_of(p, t, mode, &work[..], &trace[..], c);
+        let seen = found.seen;
+        let halt = found.halt;
+        match halt {
             Halt::Proceed => {
                 let until = halt::free_until(&trace[..], c, t.budget);
                 c = step::make_steps(p, t, mode, &mut work[..], &mut trace[..], c, until);
             }
             Halt::Halted(stop) => {
                 return report(stop, c);
+            }
+            Halt::OutsideFull => {
+                return report(Stop::OutsideFull, stepping::gather_unmade(c, seen));
             }
         }
     }

@@ -1,4 +1,5 @@
-// The steps of a run, made without any test of the budget or of the trace area.
+// The steps of a run, made without any test of the budget or of the trace area. A store that needs one address too many is not made: the
+// progress is then as it was.
 use super::Mode;
 use super::rule::Rule;
 use descriptor::Descriptor;
@@ -13,7 +14,7 @@ ghost use Prim.Native.Nat.{ℕ};
 ghost use Rattle.descriptor.specs.Descriptors.{instructionIn, Valid};
 ghost use Rattle.stepping.specs.Progress.{standing, standingBefore, standingAfter};
 ghost use Rattle.execution.specs.Next.{Opens};
-ghost use Rattle.execution.specs.Running.{descriptorAt, Executing, Performed, Advancing, NextMade, Unhindered, GoesOn};
+ghost use Rattle.execution.specs.Running.{descriptorAt, Executing, Performed, Advancing, NextTried, Unhindered, GoesOn};
 
 // Rule 3 for the instruction i; `a` is the value of what it reads first. Each kind goes its own way to the end of the step, so that
 // nothing is decided twice.
@@ -86,7 +87,7 @@ fn advance_by(
     d: Descriptor,
 ) -> Progress
     requires { ⌜ Advancing (now p) t mode (standing (now work) (now trace) c) × (d ≡ descriptorAt (now work) (c .control)) ⌝ }
-    ensures { λ r. ⌜ NextMade (now (p .entry)) t mode (standingBefore work trace c) (standingAfter work trace r) ⌝ }
+    ensures { λ r. ⌜ NextTried (now (p .entry)) t mode (standingBefore work trace c) (standingAfter work trace r) ⌝ }
 {
     let a = evaluation::source_value(p, &work[..], d);
     match opening_of(mode, d) {
@@ -111,7 +112,7 @@ fn advance(
     c: Progress,
 ) -> Progress
     requires { ⌜ Advancing (now p) t mode (standing (now work) (now trace) c) ⌝ }
-    ensures { λ r. ⌜ NextMade (now (p .entry)) t mode (standingBefore work trace c) (standingAfter work trace r) ⌝ }
+    ensures { λ r. ⌜ NextTried (now (p .entry)) t mode (standingBefore work trace c) (standingAfter work trace r) ⌝ }
 {
     let control = c.control;
     let label = Label::new(control.place);
@@ -126,7 +127,7 @@ fn advance(
     advance_by(p, t, mode, &mut work[..], &mut trace[..], c, d)
 }
 
-// Steps up to a step count, or to the end of the run: neither the budget nor the trace area runs out before.
+// Steps up to a step count, to the end of the run, or to a store that cannot be made: neither the budget nor the trace area runs out before.
 pub fn make_steps(
     p: &[u8],
     t: Trailer,
@@ -149,7 +150,11 @@ pub fn make_steps(
                 c = stepping::roll_back(&mut work[..], &mut trace[..], c);
             }
             Rule::Advance => {
-                c = advance(p, t, mode, &mut work[..], &mut trace[..], c);
+                let next = advance(p, t, mode, &mut work[..], &mut trace[..], c);
+                if next.steps == c.steps {
+                    return c;
+                }
+                c = next;
             }
         }
     }

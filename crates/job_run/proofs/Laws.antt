@@ -1,22 +1,22 @@
 -- How the run of a state is put together, and how the run of a job in lent areas comes from it.
 -- Assumes nothing.
 use mathlib.Core.Path.{_≡_, refl, sym, ap, _∙_, subst}
-use mathlib.Core.Bool.{true}
-use mathlib.Core.List.{List, [], _∷_, _++_}
-use Prim.Native.Nat.{ℕ, suc, _+_, _-_, _≤_}
+use mathlib.Core.Bool.{Bool, true, false}
+use mathlib.Core.List.{List, _++_}
+use Prim.Native.Nat.{ℕ, _+_, _-_, _≤_}
 use native.Mathlib.Omega.{arith}
 use lib.Dec.{leb}
-use lib.ListN.{length, take, drop, set, replicate, length-take, length-replicate}
-use lib.Seq.{sets, length-sets, take-set-le}
-use borrow.Author.Tests.{leb-true}
+use lib.ListN.{length, take, drop, replicate, length-take, length-replicate}
+use lib.Seq.{sets, length-sets}
+use borrow.Author.Tests.{leb-true, leb-false, le-leb, lt-leb}
 use Rattle.location.specs.Sets.{limit}
 use Rattle.location.specs.SetLaws.{and-right}
 use Rattle.rules.specs.declared.Trailer.{Trailer}
 use Rattle.rules.specs.Rules.Limits.{maxBytes, trailerSize}
-use Rattle.rules.specs.Rules.Plain.{State, ownFrom, values}
+use Rattle.rules.specs.Rules.Plain.{State, firstState}
 use Rattle.rules.specs.Rules.Runs.{Job}
 use Rattle.rules.specs.Rules.JobFile.{got, accepted, parse, trailer, sized, locations, wordsAt, program, programOf}
-use Rattle.rules.specs.Rules.Calls.{lent, written, workingWords, room, areasAfter}
+use Rattle.rules.specs.Rules.Calls.{lent, tableSize, endWords, written, workingWords, room, areasAfter}
 use Rattle.rules.specs.Rules.Pairs.{withState}
 use Rattle.rules.specs.Theorems.Readers.{readable}
 use Rattle.rules.specs.Theorems.JobLaws.{passed}
@@ -27,7 +27,7 @@ use Rattle.job.specs.Answers.{Accepts}
 use Rattle.work.specs.Layout.{labels, labelBase}
 use Rattle.work.specs.Machines.{stateIn}
 use Rattle.work.proofs.Ranges.{drop-past, drop-sets}
-use Rattle.transfer.specs.States.{state-same}
+use Rattle.work.proofs.States.{state-past}
 use Rattle.transfer.specs.Loads.{StateLoaded, state-loaded-after}
 use Rattle.execution.specs.declared.Mode.{Mode}
 use Rattle.execution.specs.declared.Mode.the-variants as modes
@@ -40,6 +40,14 @@ use Rattle.job_run.specs.JobRuns.{resultOf, LoadedFor, RunOf, RunIn}
 -- the part of a list that the code takes from 0 on
 pub same-part : (n : ℕ) (xs : List ℕ) → take (n - 0) (drop 0 xs) ≡ take n xs
 same-part n xs = let z : n - 0 ≡ n = omega arith in rw z
+
+-- room for n words before the table, as the code tests it
+pub table-room : (n len : ℕ) → tableSize ≤ len → leb n (len - tableSize) ≡ leb (n + tableSize) len
+table-room n len h = go (leb n (len - tableSize)) refl
+  where
+    go : (b : Bool) → leb n (len - tableSize) ≡ b → b ≡ leb (n + tableSize) len
+    go true e = sym (le-leb (n + tableSize) len (omega (arith, leb-true n (len - tableSize) e)))
+    go false e = sym (lt-leb (n + tableSize) len (omega (arith, leb-false n (len - tableSize) e)))
 
 -- cleared words keep only those past them
 pub cleared-same : (n : ℕ) (w before : List ℕ) → drop n w ≡ drop n before → written (replicate n 0) w ≡ written (replicate n 0) before
@@ -70,10 +78,6 @@ module _ {bs : List ℕ} {t : Trailer} (k : Accepts bs t) where
   unfolding readable
   program-accepted ep = (rw (ep, program-got (k .job) (k .parsed)), rw ep program-size)
 
-take-sets : (vs w : List ℕ) (i n : ℕ) → n ≤ i → take n (sets w i vs) ≡ take n w
-take-sets [] w i n h = refl
-take-sets (a ∷ vs) w i n h = take-sets vs (set w i a) (suc i) n (omega arith) ∙ take-set-le n w i a h
-
 module _ {bs : List ℕ} {t : Trailer} (k : Accepts bs t) (w : List ℕ) {p w′ : List ℕ} (ep : p ≡ take (t .state) bs)
     (fits : labelBase (t .count) ≤ length w)
     (ew : w′ ≡ sets w labels (wordsFrom (t .count) p 0)) where
@@ -85,9 +89,9 @@ module _ {bs : List ℕ} {t : Trailer} (k : Accepts bs t) (w : List ℕ) {p w′
   job-loaded : Loaded p t w′
   job-loaded = record { limits = accepted-limits k; described = described (k .job) (k .parsed) .1 }
 
-  -- the operands stand before them
+  -- the state's words stand before them
   state-kept : (n : ℕ) → n ≤ limit → stateIn w′ n ≡ stateIn w n
-  state-kept n h = state-same w′ w labels n (omega arith) (ap (take labels) ew ∙ take-sets (wordsFrom (t .count) p 0) w labels labels (omega arith))
+  state-kept n h = ap (λ (u : List ℕ). stateIn u n) ew ∙ state-past (wordsFrom (t .count) p 0) w labels n h (omega arith)
 
   past-kept : drop workingWords w′ ≡ drop workingWords w
   past-kept =
@@ -99,11 +103,11 @@ module _ {bs : List ℕ} {t : Trailer} (k : Accepts bs t) (w : List ℕ) {p w′
   size-kept = ap length ew ∙ length-sets w labels (wordsFrom (t .count) p 0)
 
   -- the whole run from there is the rules' run of the job with the state that was loaded
-  module _ (job : Job) (e : parse bs ≡ accepted job) (a vs : List ℕ) (h : stateIn w (locations t) ≡ ownFrom 0 vs) where
+  module _ (job : Job) (e : parse bs ≡ accepted job) (a vs : List ℕ) (h : stateIn w (locations t) ≡ firstState vs) where
     same-result : (mode : Mode) → whole p t mode w′ a ≡ resultOf mode (withState job vs) (room a)
     same-result mode = rw (k .trailer) (go mode)
       where
-        holds : stateIn w′ (locations (trailer bs)) ≡ ownFrom 0 vs
+        holds : stateIn w′ (locations (trailer bs)) ≡ firstState vs
         holds = rw (k .trailer) at (state-kept (locations t) (let m = accepted-limits k .cells in omega arith) ∙ h)
 
         table : programIn p (trailer bs .count) (drop labels w′) ≡ job .code .prog
@@ -130,7 +134,7 @@ run-of {t = t} {mode} {states} {at} {w₁ = w₁} {w₂} {w′} {a} {a′} {r} k
       let m = accepted-limits k .cells in
       drop-past w′ w₂ labels workingWords (omega arith) (o .frame)
       ∙ past-kept k w₁ ep h ew
-      ∙ state-loaded-after s workingWords (omega arith);
+      ∙ state-loaded-after s (omega arith) workingWords (omega arith);
   size = o .size ∙ size-kept k w₁ ep h ew ∙ s .size;
 }
 
@@ -152,7 +156,7 @@ module _ {bs : List ℕ} {t : Trailer} (k : Accepts bs t) (mode : Mode) {w w′ 
       → EndsAs t a w′ a′ r (resultOf mode job (room a))
   own-run o job p = rw (accepted-state (record { job = job; parsed = p; trailer = k .trailer })) at (o .ran job p)
 
-  pub run-in : {e e′ w″ : List ℕ} → RunOf bs t mode bs (t .state) w w′ a a′ r → e′ ≡ written (values (stateIn w′ (locations t))) e
+  pub run-in : {e e′ w″ : List ℕ} → RunOf bs t mode bs (t .state) w w′ a a′ r → e′ ≡ written (endWords (stateIn w′ (locations t))) e
       → w″ ≡ written (replicate workingWords 0) w′ → RunIn bs t mode (lent a e w) (lent a′ e′ w″) r
   unfolding areasAfter
   run-in {e} {e′} {w″} o ee ew = record { reports = λ job p. own-run o job p .reports; areas = left }
@@ -162,6 +166,6 @@ module _ {bs : List ℕ} {t : Trailer} (k : Accepts bs t) (mode : Mode) {w w′ 
           let x = own-run o job p in
           λ i. record {
             trace = x .trace i;
-            end = (ee ∙ ap (λ (σ : State). written (values σ) e) (x .state)) i;
+            end = (ee ∙ ap (λ (σ : State). written (endWords σ) e) (x .state)) i;
             work = (ew ∙ cleared-same workingWords w′ w (o .past)) i;
           }

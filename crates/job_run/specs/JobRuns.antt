@@ -7,7 +7,7 @@ use lib.ListN.{length, take, drop}
 use Rattle.rules.specs.declared.Trailer.{Trailer}
 use Rattle.rules.specs.Rules.Runs.{Job, Result, mispredictingRun, plainRun}
 use Rattle.rules.specs.Rules.JobFile.{accepted, parse, locations, wordsAt}
-use Rattle.rules.specs.Rules.Calls.{Areas, workingWords, room, areasAfter}
+use Rattle.rules.specs.Rules.Calls.{Areas, tableSize, workingWords, room, areasAfter}
 use Rattle.rules.specs.Rules.Pairs.{withState}
 use Rattle.job.specs.Answers.{Accepts}
 use Rattle.execution.specs.declared.Mode.{Mode}
@@ -45,7 +45,7 @@ pub record LoadedFor (bs : List ℕ) (t : Trailer) (states : List ℕ) (at : ℕ
 pub record AreasFit (bs : List ℕ) (t : Trailer) (ends w : List ℕ) : Type 0 where
   pub accepts : Accepts bs t
   pub work : workingWords ≤ length w
-  pub end : locations t ≤ length ends
+  pub end : locations t + tableSize ≤ length ends
 
 -- The run of the job, as it has ended, with every area as the rules leave it.
 pub record RunIn (bs : List ℕ) (t : Trailer) (mode : Mode) (before after : Areas) (r : Ran) : Type 0 where

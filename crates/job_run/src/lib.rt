@@ -4,9 +4,10 @@ use execution::Ran;
 use rules::Trailer;
 ghost use mathlib.Core.Path.{_≡_};
 ghost use mathlib.Core.Bool.{_&&_};
+ghost use Prim.Native.Nat.{_+_};
 ghost use lib.Dec.{leb};
 ghost use lib.ListN.{length};
-ghost use Rattle.rules.specs.Rules.Calls.{workingWords};
+ghost use Rattle.rules.specs.Rules.Calls.{tableSize, workingWords};
 ghost use Rattle.rules.specs.Rules.Promises.{areasAtEntry, areasAtExit};
 ghost use Rattle.job_run.specs.JobRuns.{Runnable, LoadedFor, RunOf, AreasFit, RunIn};
 
@@ -40,14 +41,17 @@ pub fn run_state(
     execution::run(&job[0..s], t, mode, &mut work[..], &mut trace[..])
 }
 
-// Whether the working area and the end area are long enough for n locations.
+// Whether the working area is long enough, and the end area for n locations and the table outside the image.
 pub fn areas_fit(n: usize, end: &[u64], work: &[u64]) -> bool
-    ensures { λ r. ⌜ r ≡ (leb workingWords (length (now (work .entry))) && leb n (length (now (end .entry)))) ⌝ }
+    ensures { λ r. ⌜ r ≡ (leb workingWords (length (now (work .entry))) && leb (n + tableSize) (length (now (end .entry)))) ⌝ }
 {
     if work.len() < work::WORDS {
         return false;
     }
-    n <= end.len()
+    if end.len() < transfer::TABLE_WORDS {
+        return false;
+    }
+    n <= end.len() - transfer::TABLE_WORDS
 }
 
 // The run with the job's own state, and what it leaves in every area. It calls `execution::run` itself: with two calls of it the compiler
@@ -67,7 +71,7 @@ pub fn run_in_areas(
     load(job, t, job, s, &mut work[..]);
     let r = execution::run(&job[0..s], t, mode, &mut work[..], &mut trace[..]);
     let n = t.locations();
-    transfer::save_values(&work[..], n, &mut end[..]);
+    transfer::save_state(&work[..], n, &mut end[..]);
     work::clear(&mut work[..]);
     r
 }

@@ -8,7 +8,7 @@ ghost use mathlib.Core.Path.{_≡_};
 ghost use Rattle.rules.specs.Rules.Runs.{isFinished, judge};
 ghost use Rattle.judgement.specs.Words.{pairWordOf};
 
-// Whether a run has finished: it is at END with nothing open, neither spent nor trace full.
+// Whether a run has finished: it is at END with nothing open, and nothing stopped it before.
 pub fn finished(stop: Stop) -> bool
     ensures { λ r. ⌜ r ≡ isFinished stop ⌝ }
 {
@@ -16,6 +16,7 @@ pub fn finished(stop: Stop) -> bool
         Stop::Finished => true,
         Stop::Spent => false,
         Stop::TraceFull => false,
+        Stop::OutsideFull => false,
     }
 }
 

@@ -1,4 +1,4 @@
--- How long a printed run can be: at most 30 bytes a line of the trace, and 11,372 bytes after them.
+-- How long a printed run can be: at most 30 bytes a line of the trace, and 11,374 bytes after them.
 -- Assumes nothing.
 use mathlib.Core.Path.{_≡_}
 use mathlib.Core.Bool.{_&&_, cond}
@@ -10,7 +10,7 @@ use lib.ListN.{length, length-append}
 use Rattle.location.specs.declared.LocationSet.{LocationSet}
 use Rattle.location.specs.Sets.{registers, limit, member}
 use Rattle.rules.specs.declared.Stop.{Stop}
-use Rattle.rules.specs.declared.Stop.the-variants.{Finished, Spent, TraceFull}
+use Rattle.rules.specs.declared.Stop.the-variants.{Finished, Spent, TraceFull, OutsideFull}
 use Rattle.rules.specs.declared.Verdict.{Verdict}
 use Rattle.rules.specs.declared.Verdict.the-variants as verdicts
 use Rattle.rules.specs.declared.Counts.{Counts}
@@ -89,11 +89,12 @@ unfolding setLine
 set-line-length word s = line-length word (members s 0 limit)
 
 -- ---- the summary
-stop-length : (s : Stop) → length (stopWord s) ≤ 10
+stop-length : (s : Stop) → length (stopWord s) ≤ 12
 unfolding text
 stop-length Finished = omega arith
 stop-length Spent = omega arith
 stop-length TraceFull = omega arith
+stop-length OutsideFull = omega arith
 
 verdict-length : (v : Verdict) → length (verdictWord v) ≤ 11
 unfolding text
@@ -113,7 +114,7 @@ pub summary-length : (c : Counts) (full plain : LocationSet) (v : Verdict)
 unfolding summary
 summary-length c full plain v = simp length-append
 
-pub summary-bound : (c : Counts) (full plain : LocationSet) (v : Verdict) → length (summary c full plain v) ≤ 11372
+pub summary-bound : (c : Counts) (full plain : LocationSet) (v : Verdict) → length (summary c full plain v) ≤ 11374
 unfolding text
 summary-bound c full plain v =
     omega (
@@ -133,12 +134,12 @@ summary-bound c full plain v =
 
 -- ---- the whole
 outcome-bound : (n : ℕ) (os : List Observation) (full plain : LocationSet) (o : RunOutcome)
-    → length (outcomeLines n os full plain o) ≤ 30 * length os + 11372
+    → length (outcomeLines n os full plain o) ≤ 30 * length os + 11374
 unfolding text
 outcome-bound n os full plain (runs.Refused r) = omega (arith, number-line-bound (text "refused") (refusalNumber r))
 outcome-bound n os full plain (runs.Ran c v) =
     omega (arith, length-append (traceLines n os) (summary c full plain v), trace-length n os, summary-bound c full plain v)
 
-pub answer-bound : (n : ℕ) (os : List Observation) (a : RunAnswer) → length (answerLines n os a) ≤ 30 * length os + 11372
+pub answer-bound : (n : ℕ) (os : List Observation) (a : RunAnswer) → length (answerLines n os a) ≤ 30 * length os + 11374
 unfolding answerLines
 answer-bound n os a = outcome-bound n os (a .full) (a .plain) (a .outcome)

@@ -138,6 +138,7 @@ fn put_stop(out: &mut [u8], at: usize, stop: Stop) -> usize
         Stop::Finished => byte_writer::put_text(out, at, b"stop finished\n"),
         Stop::Spent => byte_writer::put_text(out, at, b"stop spent\n"),
         Stop::TraceFull => byte_writer::put_text(out, at, b"stop trace full\n"),
+        Stop::OutsideFull => byte_writer::put_text(out, at, b"stop outside full\n"),
     }
 }
 

@@ -8,13 +8,14 @@ use native.Mathlib.Omega.{arith}
 use borrow.Author.Tests.{le-leb}
 use lib.ListN.{length, take}
 use lib.Seq.{take-append-seam, length-sets}
+use Rattle.location.specs.Sets.{limit}
 use Rattle.rules.specs.declared.Trailer.{Trailer}
 use Rattle.rules.specs.declared.Refusal.{Refusal}
 use Rattle.rules.specs.declared.RunAnswer.{RunAnswer}
 use Rattle.rules.specs.Rules.Plain.{endPlace}
 use Rattle.rules.specs.Rules.Runs.{Job, mispredictingRun}
 use Rattle.rules.specs.Rules.JobFile.{Parsed, accepted, rejected, parse, trailer}
-use Rattle.rules.specs.Rules.Calls.{Areas, Called, lent, room, workingWords, longEnough, written, areasAfter, runCall}
+use Rattle.rules.specs.Rules.Calls.{Areas, Called, lent, room, tableSize, workingWords, longEnough, written, areasAfter, runCall}
 use Rattle.rules.specs.Rules.Demands.{observationCount, Exact}
 use Rattle.rules.specs.Rules.Listing.{printedRoom, listingOf, listing}
 use Rattle.rules.specs.Theorems.JobLaws.{passed, job-end, init-most}
@@ -48,9 +49,9 @@ record Shown (n k : ℕ) (P : Parsed) (a : RunAnswer) (trace trace′ : List ℕ
   pub lines : printed n a trace′ ≡ listingOf k P
 
 -- areas that are long enough for a job
-enough : (job : Job) (a : Areas) → workingWords ≤ length (a .work) → length (job .init) ≤ length (a .end) → longEnough job a ≡ true
+enough : (job : Job) (a : Areas) → workingWords ≤ length (a .work) → length (job .init) + tableSize ≤ length (a .end) → longEnough job a ≡ true
 unfolding longEnough
-enough job a h k = rw (le-leb workingWords (length (a .work)) h, le-leb (length (job .init)) (length (a .end)) k)
+enough job a h k = rw (le-leb workingWords (length (a .work)) h, le-leb (length (job .init) + tableSize) (length (a .end)) k)
 
 module _ (bs t e w : List ℕ) {a : RunAnswer} {t′ e′ w′ : List ℕ} (x : Exact (runCall bs (lent t e w)) a (lent t′ e′ w′)) where
   answer-of : {called : Called RunAnswer Areas} → runCall bs (lent t e w) ≡ called → a ≡ called .answer
@@ -59,7 +60,7 @@ module _ (bs t e w : List ℕ) {a : RunAnswer} {t′ e′ w′ : List ℕ} (x : 
   trace-of : {called : Called RunAnswer Areas} → runCall bs (lent t e w) ≡ called → t′ ≡ called .areas .trace
   trace-of q = ap (λ (z : Areas). z .trace) (x .areas) ∙ ap (λ (z : Called RunAnswer Areas). z .areas .trace) q
 
-  module _ (he : 256 ≤ length e) (hw : 4096 ≤ length w) {n : ℕ} (k : n ≡ instructionCount (parse bs)) where
+  module _ (he : limit + tableSize ≤ length e) (hw : workingWords ≤ length w) {n : ℕ} (k : n ≡ instructionCount (parse bs)) where
     shown-refused : (r : Refusal) → parse bs ≡ rejected r → Shown n (room t) (rejected r) a t t′
     unfolding listingOf traceAfter
     shown-refused r p =
@@ -88,7 +89,7 @@ module _ (bs t e w : List ℕ) {a : RunAnswer} {t′ e′ w′ : List ℕ} (x : 
 
 -- ---- how long they are
 pub printed-bound : (n : ℕ) (a : RunAnswer) (trace : List ℕ) {out out′ : List ℕ} {r : ℕ} → Put out 0 (printed n a trace) out′ r
-    → r ≤ 15 * length trace + 11372
+    → r ≤ 15 * length trace + 11374
 unfolding printed
 printed-bound n a trace p =
     let os = observationsIn (observationCount (a .outcome)) trace in

@@ -4,6 +4,7 @@ pub mod Document01
 pub mod Readings
 pub mod Refusals
 pub mod TestLoads
+pub mod Outside
 pub mod Operators
 pub mod Texts
 pub mod Tables

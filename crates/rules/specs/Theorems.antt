@@ -4,8 +4,10 @@ pub mod LoopLaws
 pub mod RunLaws
 pub mod StepLaws
 pub mod PlainRun
+pub mod Outside
 pub mod Undo
 pub mod Sizes
+pub mod EveryState
 pub mod Alike
 pub mod AlikeSteps
 pub mod Secrecy
@@ -13,6 +15,7 @@ pub mod PlainSecrecy
 pub mod Readers
 pub mod JobLaws
 pub mod FileBounds
+pub mod Tables
 pub mod CallLaws
 pub mod FilePlain
 pub mod FileSecrecy

@@ -21,6 +21,7 @@ pub enum Stop {
     Finished,
     Spent,
     TraceFull,
+    OutsideFull,
 }
 
 pub enum Verdict {

@@ -1,4 +1,4 @@
-// The limits of a job file, and the bytes of its parts.
+// The limits of a job file and of a run, and the bytes of a file's parts.
 pub const MAX_BYTES: usize = 16384;
 
 pub const MAX_INSTRUCTIONS: usize = 512;
@@ -11,6 +11,9 @@ pub const MAX_CELLS: usize = 240;
 pub const MAX_WINDOW: usize = 200;
 
 pub const MAX_BUDGET: usize = 1000000;
+
+// Of addresses outside the image at which a store is remembered.
+pub const MAX_ENTRIES: usize = 64;
 
 // The registers, without the cells.
 pub const REGISTERS_SIZE: usize = 128;

@@ -1,6 +1,7 @@
 -- Each rule of a step, from its parts: the machine's move, the words stored in the trace area, and the counts.
 -- Assumes nothing.
 use mathlib.Core.Path.{_≡_, refl, sym, ap, _∙_, subst}
+use mathlib.Core.Bool.{Bool, true, false, not, true≢false}
 use mathlib.Core.List.{List, [], _∷_, _++_, append-nil}
 use Prim.Native.Nat.{ℕ, suc, _+_, _*_, _<_, _≤_}
 use native.Mathlib.Numerals.{add-one}
@@ -12,8 +13,9 @@ use Rattle.location.specs.declared.Label.{Label}
 use Rattle.location.specs.Sets.{registers, limit, empty, union}
 use Rattle.rules.specs.declared.Tagged.{Tagged}
 use Rattle.rules.specs.Rules.Calls.{observationWords, traceWords}
-use Rattle.rules.specs.Rules.Instructions.{Instr, beqz, Observation, pc, windowCosts}
-use Rattle.rules.specs.Rules.Plain.{State, at, put, Code, branchTo, silent, goEffect}
+use Rattle.rules.specs.Rules.Instructions.{Instr, beqz, Observation, pc, stored, windowCosts}
+use Rattle.rules.specs.Rules.Outside.{remember}
+use Rattle.rules.specs.Rules.Plain.{State, at, put, withOutside, Code, storedTo, storeOverfull, branchTo, silent, storeEffect, goEffect}
 use Rattle.rules.specs.Rules.Plain as plain
 use Rattle.rules.specs.Rules.Mispredicting.{Branch, Machine, Step, lower, newWindow, rolling, opening, stepWith}
 use Rattle.rules.specs.Rules.Runs.{note}
@@ -24,13 +26,16 @@ use Rattle.work.specs.declared.machine.Control.{Control}
 use Rattle.work.specs.declared.machine.RolledBack.{RolledBack}
 use Rattle.work.specs.Layout.{labels}
 use Rattle.work.specs.Words.{taggedAt, branchAt, changeAt}
-use Rattle.work.specs.Machines.{stateIn, machineOf, Fit}
+use Rattle.work.specs.Machines.{tableIn, stateIn, machineOf, Fit}
 use Rattle.work.specs.Moves.{lowerTo, windowOn, ordinaryNext, gone, openingNext, Moves, MovesAt, RollsBack}
 use Rattle.work.proofs.States.{state-at}
 use Rattle.work.proofs.Moves.{go-law}
+use Rattle.outside.specs.declared.Stored.{Stored}
+use Rattle.outside.specs.Stores.{StoreTried}
+use Rattle.evaluation.proofs.Laws.{inside-fits, outside-fits}
 use Rattle.stepping.specs.declared.Progress.{Progress}
 use Rattle.stepping.specs.Progress.{standing, gatheredOf, rolledBack, progressAfter}
-use Rattle.stepping.specs.Steps.{Made, leftBy, Leaves, RolledBackTo, OpenedTo, CarriedOut, StateKept, Unexpired}
+use Rattle.stepping.specs.Steps.{Made, leftBy, Leaves, RolledBackTo, OpenedTo, CarriedOut, TriedOut, WordTried, StateKept, Unexpired}
 use Rattle.stepping.proofs.Laws.{gathered, counted-back, depth-of, length-lower, top-lowered, window-lowered, left-some}
 
 -- ---- any step
@@ -83,7 +88,7 @@ rolled-back {w} {w′} {t} {t′} {c} {c′} {r} {seen} m h et es ec =
           let T = m .target n b bs e in
           let D = depth-of w (c .control) n ∙ ap length e in
           made-of w w′ t t′ c c′ n (rolling (machineOf w (c .control) n) b bs) (r .control) (ec ∙ ap (progressAfter c (r .control) 2) es)
-          (m .machine n b bs e) (m .fits) (m .frame) (et ∙ (λ i. sets t (2 * c .observations) (1 ∷ I i ∷ 2 ∷ T i ∷ []))) (omega arith) (omega arith)
+          (m .machine n b bs hn e) (m .fits) (m .frame) (et ∙ (λ i. sets t (2 * c .observations) (1 ∷ I i ∷ 2 ∷ T i ∷ []))) (omega arith) (omega arith)
           (λ z. h);
     }
 
@@ -154,13 +159,13 @@ module _ {n : ℕ} {w w′ t t′ : List ℕ} {c c′ : Progress} (i : Instructi
       carried (silent σ (c .control .place)) refl (eq ∙ add-one (c .control .place)) et (ec ∙ ap (progressAfter c control 0) es)
 
   -- one observation is shown, of the kind a with the value b
-  pub carried-shown : {a b : ℕ} (o : Observation) {s : LocationSet} (τ : State) (r : ℕ) → σ ≡ τ → q ≡ r → a ∷ b ∷ [] ≡ observationWords o
-      → t′ ≡ sets t (2 * c .observations) (a ∷ b ∷ []) → c′ ≡ progressAfter c control 1 s
-      → Made n (stepWith code (machineOf w (c .control) n) (meaning p i) (record { state = τ; place = r; obs = o ∷ []; seen = s })) (standing w t c)
-      (standing w′ t′ c′)
+  pub carried-shown : {a b : ℕ} (o : Observation) {s : LocationSet} (τ : State) (r : ℕ) (f : Bool) → σ ≡ τ → q ≡ r
+      → a ∷ b ∷ [] ≡ observationWords o → t′ ≡ sets t (2 * c .observations) (a ∷ b ∷ []) → c′ ≡ progressAfter c control 1 s
+      → Made n (stepWith code (machineOf w (c .control) n) (meaning p i) (record { state = τ; place = r; obs = o ∷ []; seen = s; overfull = f }))
+      (standing w t c) (standing w′ t′ c′)
   unfolding traceWords
-  carried-shown o {s} τ r es eq eo et ec =
-      carried (record { state = τ; place = r; obs = o ∷ []; seen = s }) es eq
+  carried-shown o {s} τ r f es eq eo et ec =
+      carried (record { state = τ; place = r; obs = o ∷ []; seen = s; overfull = f }) es eq
       (et ∙ ap (sets t (2 * c .observations)) (eo ∙ sym (append-nil (observationWords o)))) ec
 
 -- ---- rule 3 for an instruction that gives location l the word x
@@ -178,9 +183,10 @@ module _ {w w′ t t′ : List ℕ} {c c′ : Progress} {i : Instruction} {v : �
   pub assigned-shown : {a b : ℕ} (o : Observation) {s : LocationSet} (r : ℕ) (y : Tagged) → l ≡ r → x ≡ y → a ∷ b ∷ [] ≡ observationWords o
       → t′ ≡ sets t (2 * c .observations) (a ∷ b ∷ []) → c′ ≡ progressAfter c control 1 s
       → Made n (stepWith code (machineOf w (c .control) n) (meaning p i)
-      (record { state = put (stateIn w n) r y; place = suc (c .control .place); obs = o ∷ []; seen = s })) (standing w t c) (standing w′ t′ c′)
+      (record { state = put (stateIn w n) r y; place = suc (c .control .place); obs = o ∷ []; seen = s; overfull = false })) (standing w t c)
+      (standing w′ t′ c′)
   assigned-shown o r y el ex eo et ec =
-      carried-shown i (m .machine n most) (m .fits) (m .frame) p code (leaves .exact p code costs) o (put (stateIn w n) r y) (suc (c .control .place))
+      carried-shown i (m .machine n most) (m .fits) (m .frame) p code (leaves .exact p code costs) o (put (stateIn w n) r y) (suc (c .control .place)) false
       (λ j. put (stateIn w n) (el j) (ex j)) (add-one (c .control .place)) eo et ec
 
 -- ---- rule 3 for an instruction that changes no location
@@ -222,3 +228,67 @@ moves-at n {w} {w′} {c} {c′} {q} {v} σ τ h m e = record {
   fits = m .fits;
   frame = m .frame;
 }
+
+-- ---- the move of a store, in the image and outside it
+module _ {w w′ : List ℕ} {c control : Control} {cells r v : ℕ} {a : Tagged} where
+  -- σ is what the move makes of the state
+  pub word-inside : a .value < cells → registers + cells ≤ limit → (σ : State → State)
+      → ((code : Code) → code .cells ≡ cells
+      → σ (stateIn w (registers + cells)) ≡ storedTo code (stateIn w (registers + cells)) a (at (stateIn w (registers + cells)) r))
+      → Moves w w′ c control (λ M. ordinaryNext M (σ (M .state)) (c .place + 1) v)
+      → WordTried cells r a v w w′ c (record { made = true; control = control })
+  word-inside h most σ same m = record {
+    made = λ code ec o. (refl, moves-at (registers + cells) σ (λ (τ : State). storedTo code τ a (at τ r)) most m (same code ec));
+    unmade = λ code ec o. absurd (true≢false (sym o ∙ inside-fits w cells a code ec h));
+  }
+
+-- n is the number of the address, and y the word that is stored
+pub word-outside : {w w′ : List ℕ} {c : Control} {x : Stored} {cells r v n : ℕ} {a y : Tagged} → cells ≤ a .value → registers + cells ≤ limit
+    → n ≡ a .value
+    → ((code : Code) → code .cells ≡ cells
+    → withOutside (stateIn w (registers + cells)) (remember (tableIn w) n y)
+    ≡ storedTo code (stateIn w (registers + cells)) a (at (stateIn w (registers + cells)) r))
+    → StoreTried w w′ c x n y v → WordTried cells r a v w w′ c x
+word-outside {w} {w′} {c} {x} {cells} {r} {v} {n} {a} {y} h most en same s = record {
+  made = λ code ec o.
+      let q = s .made (sym (outside-fits w cells a code ec h en) ∙ o) in (
+        q .0,
+        moves-at (registers + cells) (λ (τ : State). withOutside τ (remember (τ .outside) n y)) (λ (τ : State). storedTo code τ a (at τ r)) most
+            (q .1) (same code ec),
+      );
+  unmade = λ code ec o. s .unmade (sym (outside-fits w cells a code ec h en) ∙ o);
+}
+
+-- ---- rule 3 for a store, from the move that was tried: it was made, or not; the code tests `not made`
+was-made : (b : Bool) → not b ≡ false → b ≡ true
+was-made true h = refl
+was-made false h = absurd (true≢false h)
+
+not-made : (b : Bool) → not b ≡ true → b ≡ true → ⊥
+not-made true h e = true≢false (sym h)
+not-made false h e = true≢false (sym e)
+
+module _ {w w′ t : List ℕ} {c : Progress} {i : Instruction} {cells r v : ℕ} {a : Tagged} {x : Stored} (leaves : Leaves (c .control) i v)
+    (word : WordTried cells r a v w w′ (c .control) x) where
+  pub store-made : {t′ : List ℕ} {c′ : Progress} → not (x .made) ≡ false → t′ ≡ sets t (2 * c .observations) (observationWords (stored (a .value)))
+      → c′ ≡ progressAfter c (x .control) 1 (a .deps)
+      → TriedOut cells i (λ code σ. storeEffect code σ (c .control .place) r a) (standing w t c) (standing w′ t′ c′)
+  store-made h et ec = record {
+    tried = λ p code cells-same costs.
+        let σ = stateIn w (registers + cells) in
+        record {
+          made = λ o.
+              let m = word .made code cells-same o .1 in
+              carried-shown i (m .machine) (m .fits) (m .frame) p code (leaves .exact p code costs) (stored (a .value))
+              (storedTo code σ a (at σ r)) (suc (c .control .place)) (storeOverfull code σ a) refl (add-one (c .control .place)) refl et ec;
+          unmade = λ o. absurd (true≢false (sym (was-made (x .made) h) ∙ word .unmade code cells-same o .0));
+        };
+  }
+
+  pub store-unmade : not (x .made) ≡ true → TriedOut cells i (λ code σ. storeEffect code σ (c .control .place) r a) (standing w t c) (standing w′ t c)
+  store-unmade h = record {
+    tried = λ p code cells-same costs. record {
+      made = λ o. absurd (not-made (x .made) h (word .made code cells-same o .0));
+      unmade = λ o. ap (λ (u : List ℕ). standing u t c) (word .unmade code cells-same o .2);
+    };
+  }

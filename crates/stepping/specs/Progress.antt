@@ -46,6 +46,16 @@ abbrev pub gatherAt : ℕ → LocationSet → LocationSet → LocationSet
 gatherAt zero plain s = union plain s
 gatherAt (suc d) plain s = plain
 
+-- after a store that stops the run, at an address that rests on a set
+abbrev pub progressUnmade : Progress → LocationSet → Progress
+progressUnmade c seen = record {
+  control = c .control;
+  observations = c .observations;
+  steps = c .steps;
+  full = union (c .full) seen;
+  plain = gatherAt (c .control .depth) (c .plain) seen;
+}
+
 -- after a step that leads to a control, makes so many observations, and rests on a set
 abbrev pub progressAfter : Progress → Control → ℕ → LocationSet → Progress
 progressAfter c control observations seen = record {

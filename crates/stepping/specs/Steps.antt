@@ -1,12 +1,14 @@
 -- What the functions that make a step promise.
 -- Assumes nothing.
 use mathlib.Core.Path.{_≡_}
+use mathlib.Core.Bool.{true, false}
 use mathlib.Core.List.{List, _∷_, _++_}
 use Prim.Native.Nat.{ℕ, _+_, _*_, _^_, _<_, _≤_}
 use lib.ListN.{length, drop}
 use lib.Seq.{sets}
 use Rattle.location.specs.declared.LocationSet.{LocationSet}
 use Rattle.location.specs.Sets.{registers, limit}
+use Rattle.rules.specs.declared.Tagged.{Tagged}
 use Rattle.rules.specs.Rules.Limits.{maxBudget}
 use Rattle.rules.specs.Rules.Instructions.{Instr, Observation, windowCosts}
 use Rattle.rules.specs.Rules.Plain.{State, Code}
@@ -18,7 +20,8 @@ use Rattle.work.specs.declared.machine.Control.{Control}
 use Rattle.work.specs.Layout.{labels}
 use Rattle.work.specs.Words.{windowAt}
 use Rattle.work.specs.Machines.{stateIn, Fit, Left}
-use Rattle.work.specs.Moves.{gone}
+use Rattle.work.specs.Moves.{ordinaryNext, gone, MovesAt}
+use Rattle.outside.specs.declared.Stored.{Stored}
 use Rattle.instruction.specs.declared.Instruction.{Instruction}
 use Rattle.instruction.specs.Meaning.{meaning}
 use Rattle.stepping.specs.declared.Progress.{Progress}
@@ -41,6 +44,11 @@ pub record Made (n : ℕ) (s : Step) (x y : Standing) : Type 0 where
   pub opened : y .progress .control .opened ≤ x .progress .control .opened + 1
   pub steps : y .progress .steps ≡ x .progress .steps + 1
 
+-- The step s was tried: the run has come to y by it, unless it needs one address too many outside the image; then nothing was done.
+pub record Attempted (n : ℕ) (s : Step) (x y : Standing) : Type 0 where
+  pub made : s .overfull ≡ false → Made n s x y
+  pub unmade : s .overfull ≡ true → y ≡ x
+
 -- rule 1 on the top branch
 pub record RolledBackTo (x y : Standing) : Type 0 where
   pub made : (n : ℕ) (b : Branch) (bs : List Branch) → n ≤ limit → machineAt x n .branches ≡ b ∷ bs
@@ -56,6 +64,21 @@ pub record CarriedOut (cells : ℕ) (i : Instruction) (rule : Code → State →
   pub made : (p : List ℕ) (code : Code) → code .cells ≡ cells → code .costs ≡ windowCosts
       → Made (registers + cells)
       (stepWith code (machineAt x (registers + cells)) (meaning p i) (rule code (stateIn (x .work) (registers + cells)))) x y
+
+-- The same for an instruction that may need one address too many.
+pub record TriedOut (cells : ℕ) (i : Instruction) (rule : Code → State → plain.Effect) (x y : Standing) : Type 0 where
+  pub tried : (p : List ℕ) (code : Code) → code .cells ≡ cells → code .costs ≡ windowCosts
+      → Attempted (registers + cells)
+      (stepWith code (machineAt x (registers + cells)) (meaning p i) (rule code (stateIn (x .work) (registers + cells)))) x y
+
+-- The move of a store of register r at the address a, with so much left of the top's window: it is made unless it needs one address too many.
+pub record WordTried (cells r : ℕ) (a : Tagged) (left : ℕ) (w w′ : List ℕ) (c : Control) (x : Stored) : Type 0 where
+  pub made : (code : Code) → code .cells ≡ cells → plain.storeOverfull code (stateIn w (registers + cells)) a ≡ false
+      → (x .made ≡ true)
+      × MovesAt (registers + cells) w w′ c (x .control)
+      (λ M. ordinaryNext M (plain.storedTo code (M .state) a (plain.at (M .state) r)) (c .place + 1) left)
+  pub unmade : (code : Code) → code .cells ≡ cells → plain.storeOverfull code (stateIn w (registers + cells)) a ≡ true
+      → (x .made ≡ false) × (x .control ≡ c) × (w′ ≡ w)
 
 -- what an instruction leaves of the top's window; with nothing open the window is kept
 abbrev pub leftBy : Code → Instr → Control → ℕ

@@ -5,6 +5,7 @@ use location::Address;
 use location::Label;
 use location::Location;
 use location::LocationSet;
+use outside::Stored;
 use rules::Tagged;
 use rules::observation::LOAD;
 use rules::observation::PC;
@@ -20,12 +21,11 @@ ghost use lib.Seq.{sets};
 ghost use Rattle.location.specs.Sets.{registers, limit, empty};
 ghost use Rattle.rules.specs.Rules.Calls.{traceWords};
 ghost use Rattle.rules.specs.Rules.Instructions.{pcKind, pc};
-ghost use Rattle.rules.specs.Rules.Plain.{Code, at, put, storedTo, silent, loadEffect, storeEffect, goEffect};
+ghost use Rattle.rules.specs.Rules.Plain.{put, silent, loadEffect, storeEffect, goEffect};
 ghost use Rattle.work.specs.Words.{taggedAt};
 ghost use Rattle.work.specs.Machines.{maxWindow, Fit, Left};
-ghost use Rattle.work.specs.Moves.{ordinaryNext, MovesAt};
-ghost use Rattle.stepping.specs.Progress.{standing, standingBefore, standingAfter, gatherAt, progressAfter};
-ghost use Rattle.stepping.specs.Steps.{Unexpired, Steppable, Leaves, RolledBackTo, OpenedTo, CarriedOut, StateKept};
+ghost use Rattle.stepping.specs.Progress.{standing, standingBefore, standingAfter, gatherAt, progressAfter, progressUnmade};
+ghost use Rattle.stepping.specs.Steps.{Unexpired, Steppable, Leaves, RolledBackTo, OpenedTo, CarriedOut, WordTried, TriedOut, StateKept};
 
 // Where a run stands: the machine's control, the counts, the full set and the plain set. The rollbacks are not counted: every branch
 // that was opened is open or rolled back.
@@ -80,6 +80,23 @@ fn count_step(c: Progress, control: Control, observations: usize, seen: Location
         steps: c.steps + 1,
         full: full.union(seen),
         plain: gather_plain(before.depth, plain, seen),
+    }
+}
+
+// What a run has gathered where a store stops it: the set of the store's address still joins the full set, and the plain set with nothing
+// open. The step is not made, so that nothing is counted.
+pub fn gather_unmade(c: Progress, deps: LocationSet) -> Progress
+    ensures { λ r. ⌜ r ≡ progressUnmade c deps ⌝ }
+{
+    let control = c.control;
+    let full = c.full;
+    let plain = c.plain;
+    Progress {
+        control,
+        observations: c.observations,
+        steps: c.steps,
+        full: full.union(deps),
+        plain: gather_plain(control.depth, plain, deps),
     }
 }
 
@@ -182,8 +199,8 @@ pub fn load(
     count_step(c, next, 1, seen)
 }
 
-// The move of a store of register r at the address a, with so much left of the top's window: the cell takes the register, if there is
-// such a cell.
+// The move of a store of register r at the address a, with so much left of the top's window: the cell takes the register, or it is
+// remembered outside the image.
 fn store_word(
     work: &mut [u64],
     c: Control,
@@ -191,23 +208,26 @@ fn store_word(
     r: u8,
     a: Tagged,
     remaining: usize,
-) -> Control
+) -> Stored
     requires { ⌜ Fit (now work) c × Left c remaining × (c .place + 1 < 2 ^ 64) × (r < registers) × (registers + cells ≤ limit) ⌝ }
-    ensures { λ x. ⌜ ((code : Code) → code .cells ≡ cells → MovesAt (registers + cells) (now (work .entry)) (now (work .exit)) c x
-        (λ M. ordinaryNext M (storedTo code (M .state) a (at (M .state) r)) (c .place + 1) remaining)) ⌝ }
+    ensures { λ x. ⌜ WordTried cells r a remaining (now (work .entry)) (now (work .exit)) c x ⌝ }
 {
     let place = c.place + 1;
     let value = a.value;
-    if cells as u64 <= value {
-        return work::machine::go(c, place, remaining);
-    }
     let deps = a.deps;
-    let l = Location::cell(Address::new(value));
+    let address = Address::new(value);
     let v = evaluation::joined(work::load(&work[..], Location::register(r)), deps);
-    work::machine::assign(&mut work[..], c, l, v, place, remaining)
+    if cells as u64 <= value {
+        return outside::store(&mut work[..], c, address, v, remaining);
+    }
+    let l = Location::cell(address);
+    Stored {
+        made: true,
+        control: work::machine::assign(&mut work[..], c, l, v, place, remaining),
+    }
 }
 
-// Rule 3 for a store of register r at the address a.
+// Rule 3 for a store of register r at the address a. Where it needs one address too many the step is not made.
 pub fn store(
     work: &mut [u64],
     trace: &mut [u64],
@@ -218,14 +238,17 @@ pub fn store(
     a: Tagged,
 ) -> Progress
     requires { ⌜ Steppable 1 (standing (now work) (now trace) c) × (r < registers) × (registers + cells ≤ limit) ⌝ }
-    ensures { λ x. ⌜ CarriedOut cells i (λ code σ. storeEffect code σ (c .control .place) r a) (standingBefore work trace c) (standingAfter work trace x) ⌝ }
+    ensures { λ x. ⌜ TriedOut cells i (λ code σ. storeEffect code σ (c .control .place) r a) (standingBefore work trace c) (standingAfter work trace x) ⌝ }
 {
     let control = c.control;
     let remaining = remaining_window(control, i);
     let next = store_word(&mut work[..], control, cells, r, a, remaining);
+    if !next.made {
+        return c;
+    }
     observe(&mut trace[..], c.observations, STORE, a.value);
     let address_set = a.deps;
-    count_step(c, next, 1, address_set)
+    count_step(c, next.control, 1, address_set)
 }
 
 // Rule 3 for a jump or a branch to a place, which rests on v.

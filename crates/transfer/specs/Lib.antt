@@ -1,2 +1,2 @@
-pub mod States
 pub mod Loads
+pub mod Tables

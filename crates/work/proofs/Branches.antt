@@ -7,17 +7,16 @@ use native.Mathlib.Nat.{le-refl}
 use native.Mathlib.Omega.{arith}
 use lib.ListN.{length}
 use Rattle.location.specs.Sets.{limit}
-use Rattle.rules.specs.declared.Tagged.{Tagged}
 use Rattle.rules.specs.Rules.Calls.{workingWords}
 use Rattle.rules.specs.Rules.Plain.{State}
 use Rattle.rules.specs.Rules.Changes.{Change, restore}
 use Rattle.work.specs.declared.OpenBranch.{OpenBranch}
 use Rattle.work.specs.Layout.{changeBase, branchBase, firstBranch}
-use Rattle.work.specs.Words.{changeAt, changed, branchAt, branchStored}
+use Rattle.work.specs.Words.{changeAt, branchAt, branchStored}
 use Rattle.work.specs.Machines.{stateIn, lastChanges, savedAt, branchesOf, maxWindow, WindowBound}
 use Rattle.work.specs.Moves.{lowerTo}
 use Rattle.work.proofs.Ranges.{same-before, same-after, change-same, branch-same, branch-stored}
-use Rattle.work.proofs.States.{state-before, changes-agree, changed-before, changed-branch, changed-saved}
+use Rattle.work.proofs.States.{state-past, changes-agree, Logged, logged-saved}
 
 -- ---- branches with the same entries, and with the same changes below the log's length, are the same
 pub branches-agree : (e e′ : ℕ → OpenBranch) (g g′ : ℕ → Change) (σ : State) (v k d : ℕ) → ((j : ℕ) → j < d → e j ≡ e′ j)
@@ -52,18 +51,8 @@ bound-left e u v (suc d) k l s h =
     let b = l (omega arith) in
     (h .0, omega arith, h .2)
 
--- ---- location l given x and its operand of before logged as change number k, where the top is branch number d and has the window u
-module _ (w : List ℕ) (n k d l u : ℕ) (x : Tagged) (room : workingWords ≤ length w) (hn : n ≤ limit) (hl : l < limit)
-    (e : length (x .deps .words) ≡ 4) (apart : 6 * k + 6 + 4 * d ≤ firstBranch) (h : WindowBound (branchAt w) u (suc d) k) where
-  abbrev w₁ : List ℕ
-  w₁ = changed w k l x
-
-  fits : changeBase k + 6 ≤ length w
-  fits = omega arith
-
-  entries : (j : ℕ) → j ≤ d → branchAt w₁ j ≡ branchAt w j
-  entries j i = changed-branch w n k l x hn hl fits e j (omega arith)
-
+-- ---- words w₁ that have logged change number k, where the top is branch number d and has the window u
+module _ (w w₁ : List ℕ) (k d u : ℕ) (entries : (j : ℕ) → j ≤ d → branchAt w₁ j ≡ branchAt w j) (h : WindowBound (branchAt w) u (suc d) k) where
   below : (j : ℕ) → j < d → branchAt w j ≡ branchAt w₁ j
   below j i = sym (entries j (omega arith))
 
@@ -74,27 +63,27 @@ module _ (w : List ℕ) (n k d l u : ℕ) (x : Tagged) (room : workingWords ≤ 
   abbrev m : ℕ
   m = branchAt w d .mark
 
-  abbrev σ : State
-  σ = savedAt (changeAt w) (stateIn w n) k m
+  module _ (n : ℕ) (l : Logged w w₁ n k) where
+    abbrev σ : State
+    σ = savedAt (changeAt w) (stateIn w n) k m
 
-  saved₁ : savedAt (changeAt w₁) (stateIn w₁ n) (k + 1) (branchAt w₁ d .mark) ≡ σ
-  saved₁ =
-      ap (λ (b : OpenBranch). savedAt (changeAt w₁) (stateIn w₁ n) (k + 1) (b .mark)) top ∙ changed-saved w n k l x hn hl fits e m (h .0)
+    saved₁ : savedAt (changeAt w₁) (stateIn w₁ n) (k + 1) (branchAt w₁ d .mark) ≡ σ
+    saved₁ = ap (λ (b : OpenBranch). savedAt (changeAt w₁) (stateIn w₁ n) (k + 1) (b .mark)) top ∙ logged-saved l m (h .0)
 
-  rest : branchesOf (branchAt w₁) (changeAt w₁) σ (branchAt w d .outer) m d ≡ branchesOf (branchAt w) (changeAt w) σ (branchAt w d .outer) m d
-  rest =
-      let a = h .0 in
-      sym (branches-agree (branchAt w) (branchAt w₁) (changeAt w) (changeAt w₁) σ (branchAt w d .outer) m d below
-      (λ j i. sym (changed-before w n k l x hn hl fits e j (omega arith))) (h .2))
+    rest : branchesOf (branchAt w₁) (changeAt w₁) σ (branchAt w d .outer) m d ≡ branchesOf (branchAt w) (changeAt w) σ (branchAt w d .outer) m d
+    rest =
+        let a = h .0 in
+        sym (branches-agree (branchAt w) (branchAt w₁) (changeAt w) (changeAt w₁) σ (branchAt w d .outer) m d below
+        (λ j i. sym (l .before j (omega arith))) (h .2))
 
-  pub changed-branches : (v : ℕ) → branchesOf (branchAt w₁) (changeAt w₁) (stateIn w₁ n) v (k + 1) (suc d)
-      ≡ lowerTo v (branchesOf (branchAt w) (changeAt w) (stateIn w n) u k (suc d))
-  changed-branches v =
-      let R = (λ t. branchesOf (branchAt w₁) (changeAt w₁) (saved₁ t) (top t .outer) (top t .mark) d) ∙ rest in
-      λ t. record { id = top t .id; saved = saved₁ t; target = top t .target; window = v } ∷ R t
+    pub logged-branches : (v : ℕ) → branchesOf (branchAt w₁) (changeAt w₁) (stateIn w₁ n) v (k + 1) (suc d)
+        ≡ lowerTo v (branchesOf (branchAt w) (changeAt w) (stateIn w n) u k (suc d))
+    logged-branches v =
+        let R = (λ t. branchesOf (branchAt w₁) (changeAt w₁) (saved₁ t) (top t .outer) (top t .mark) d) ∙ rest in
+        λ t. record { id = top t .id; saved = saved₁ t; target = top t .target; window = v } ∷ R t
 
-  pub changed-bound : (v : ℕ) → k + 1 + d + v ≤ maxWindow → WindowBound (branchAt w₁) v (suc d) (k + 1)
-  changed-bound v b =
+  pub logged-bound : (v : ℕ) → k + 1 + d + v ≤ maxWindow → WindowBound (branchAt w₁) v (suc d) (k + 1)
+  logged-bound v b =
       let a = h .0 in
       let a₁ : m ≤ k + 1 = omega arith in
       let H = bound-agree (branchAt w) (branchAt w₁) (branchAt w d .outer) m d below (h .2) in
@@ -119,7 +108,7 @@ module _ (w : List ℕ) (n k d : ℕ) (b : OpenBranch) (hn : n ≤ limit) (room 
   logs j l = sym (change-same j (same-before vs w (branchBase d) (changeBase j) 6 (omega arith)))
 
   pub pushed-state : stateIn w₂ n ≡ stateIn w n
-  pushed-state = state-before vs w (branchBase d) 0 n (omega arith)
+  pushed-state = state-past vs w (branchBase d) n hn (omega arith)
 
   mark₂ : branchAt w₂ d .mark ≡ k
   mark₂ = ap (λ (x : OpenBranch). x .mark) new ∙ mark

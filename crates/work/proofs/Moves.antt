@@ -8,22 +8,27 @@ use native.Mathlib.Numerals.{add-one}
 use native.Mathlib.Omega.{arith}
 use lib.ListN.{length, drop}
 use lib.Seq.{sets, length-sets}
+use borrow.Author.Tests.{lt-ltb, le-ltb}
 use Rattle.location.specs.Sets.{limit}
 use Rattle.rules.specs.declared.Tagged.{Tagged}
-use Rattle.rules.specs.Rules.Plain.{State, put}
+use Rattle.rules.specs.Rules.Limits.{maxEntries}
+use Rattle.rules.specs.Rules.Calls.{workingWords}
+use Rattle.rules.specs.Rules.Plain.{State, put, withOutside}
 use Rattle.rules.specs.Rules.Mispredicting.{Branch, Machine, rolling}
-use Rattle.rules.specs.Rules.Changes.{Change}
+use Rattle.rules.specs.Rules.Changes.{Change, reworded}
 use Rattle.work.specs.declared.OpenBranch.{OpenBranch}
 use Rattle.work.specs.declared.machine.Control.{Control}
 use Rattle.work.specs.declared.machine.RolledBack.{RolledBack}
-use Rattle.work.specs.Layout.{operandBase, changeBase, branchBase, labels, logBase, firstBranch}
-use Rattle.work.specs.Words.{taggedAt, stored, changeAt, changed, undone, branchAt, branchStored, windowAt, taggedWords}
-use Rattle.work.specs.Machines.{stateIn, savedAt, branchesOf, machineOf, maxWindow, WindowBound, Fit, Left}
-use Rattle.work.specs.Moves.{lowerTo, windowOn, ordinaryNext, gone, openingNext, Moves, RollsBack}
+use Rattle.work.specs.Layout.{operandBase, operands, changeBase, branchBase, labels, logBase, firstBranch}
+use Rattle.work.specs.Words.{taggedAt, stored, countIn, appended, changeAt, changed, extended, undone, branchAt, branchStored, windowAt, taggedWords}
+use Rattle.work.specs.Machines.{stateIn, withOperand, withEntry, savedAt, branchesOf, machineOf, maxWindow, WindowBound, Fit, Left}
+use Rattle.work.specs.Moves.{lowerTo, windowOn, ordinaryNext, gone, loggedTo, openingNext, Moves, RollsBack}
 use Rattle.work.proofs.Ranges.{drop-sets, drop-past, log-same, branches-same}
-use Rattle.work.proofs.States.{state-stored, drop-undone, length-undone, state-undone, changed-state}
+use Rattle.work.proofs.States.{state-stored, drop-undone, length-undone, state-undone, Logged, changed-state, changed-branch, changed-logged}
+use Rattle.work.proofs.States.{appended-drop, appended-length, appended-state}
+use Rattle.work.proofs.States.{extended-length, extended-branch, extended-state, extended-logged, extended-frame}
 use Rattle.work.proofs.Laws.{length-changed}
-use Rattle.work.proofs.Branches.{top-left, bound-left, changed-branches, changed-bound, pushed-state, pushed-branches, pushed-bound}
+use Rattle.work.proofs.Branches.{top-left, bound-left, logged-branches, logged-bound, pushed-state, pushed-branches, pushed-bound}
 
 together-bound : (e : ℕ → OpenBranch) (v d k : ℕ) → WindowBound e v d k → k + d ≤ maxWindow + 1
 together-bound e v zero k h = let z = h .0 in omega arith
@@ -33,9 +38,12 @@ together-bound e v (suc d) k h = let b = h .1 in omega arith
 pub fit-bound : {w : List ℕ} {c : Control} → Fit w c → c .log + c .depth ≤ maxWindow + 1
 fit-bound {w} {c} f = together-bound (branchAt w) (c .window) (c .depth) (c .log) (f .bound)
 
--- the same move, to words that are equal
+-- the same move, to words and a control that are equal
 pub moved-to : {w u u′ : List ℕ} {c c′ : Control} {next : Machine → Machine} → u′ ≡ u → Moves w u c c′ next → Moves w u′ c c′ next
 moved-to {w} {u} {u′} {c} {c′} {next} e m = subst (λ (x : List ℕ). Moves w x c c′ next) (sym e) m
+
+pub moved-as : {w u u′ : List ℕ} {c c′ r : Control} {next : Machine → Machine} → u′ ≡ u → r ≡ c′ → Moves w u c c′ next → Moves w u′ c r next
+moved-as {w} {u} {u′} {c} {c′} {r} {next} e q m = subst₂ (λ (x : List ℕ) (y : Control). Moves w x c y next) (sym e) (sym q) m
 
 -- with d branches open, where d is not 0
 pub at-above : (d u v : ℕ) → (d ≡ 0 → ⊥) → v ≡ windowAt d u v
@@ -63,64 +71,122 @@ pub gone-to : (w : List ℕ) {c r : Control} {p v : ℕ} → r ≡ gone c p v �
     → Moves w w c r (λ M. ordinaryNext M (M .state) p v)
 gone-to w {c} {r} {p} {v} e f b = subst (λ (x : Control). Moves w w c x (λ M. ordinaryNext M (M .state) p v)) (sym e) (go-law w c p v f b)
 
--- ---- rule 3, with location l given the word x
-module _ (w : List ℕ) (c : Control) (l p v : ℕ) (x : Tagged) (f : Fit w c) (b : Left c v) (hl : l < limit) (e : length (x .deps .words) ≡ 4) where
+-- ---- rule 3, with another state: `next` gives it, and the words w₁ hold it
+module _ (w w₁ : List ℕ) (c : Control) (p v : ℕ) (next : State → State) (f : Fit w c) (b : Left c v)
+    (state : (n : ℕ) → n ≤ limit → stateIn w₁ n ≡ next (stateIn w n)) (size : length w₁ ≡ length w) (frame : drop labels w₁ ≡ drop labels w) where
   abbrev k : ℕ
   k = c .log
 
-  abbrev xs : List ℕ
-  xs = taggedWords x
+  -- the branches in the words w₁, with k′ changes logged, are those of w with v left of the top's window, where d are open
+  abbrev Lowered : ℕ → ℕ → ℕ → Type 0
+  Lowered k′ n d =
+      branchesOf (branchAt w₁) (changeAt w₁) (stateIn w₁ n) v k′ d ≡ lowerTo v (branchesOf (branchAt w) (changeAt w) (stateIn w n) (c .window) k d)
 
-  -- the branches in words w′, with k′ changes logged, are those of w with v left of the top's window, where d are open
-  abbrev Lowered : List ℕ → ℕ → ℕ → ℕ → Type 0
-  Lowered w′ k′ n d =
-      branchesOf (branchAt w′) (changeAt w′) (stateIn w′ n) v k′ d ≡ lowerTo v (branchesOf (branchAt w) (changeAt w) (stateIn w n) (c .window) k d)
+  long : workingWords ≤ length w₁
+  long = rw size (f .room)
 
-  pub assign-plain : c .depth ≡ 0
-      → Moves w (stored w l x) c (record { place = p; depth = c .depth; log = k; opened = c .opened; window = v })
-      (λ M. ordinaryNext M (put (M .state) l x) p v)
-  assign-plain z =
-      let w₁ = stored w l x in
+  -- with nothing open
+  pub stored-plain : c .depth ≡ 0 → Moves w w₁ c (gone c p v) (λ M. ordinaryNext M (next (M .state)) p v)
+  stored-plain z =
       let h = subst (λ (d : ℕ). WindowBound (branchAt w) (c .window) d k) z (f .bound) in
       record {
         machine = λ n hn.
-            let S = state-stored w n l x e (omega (arith, f .room)) in
-            let B = subst (Lowered w₁ k n) (sym z) refl in
+            let S = state n hn in
+            let B = subst (Lowered k n) (sym z) refl in
             λ t. record { state = S t; place = p; branches = B t; opened = c .opened };
         fits = record {
-          room = rw (length-sets w (operandBase l) xs) (f .room);
+          room = long;
           bound = subst (λ (d : ℕ). WindowBound (branchAt w₁) v d k) (sym z) (h .0, b .some z);
           opened = f .opened;
         };
-        frame = drop-sets xs w (operandBase l) labels (omega arith);
+        frame = frame;
       }
 
-  pub assign-open : (c .depth ≡ 0 → ⊥)
-      → Moves w (changed w k l x) c (record { place = p; depth = c .depth; log = k + 1; opened = c .opened; window = v })
-      (λ M. ordinaryNext M (put (M .state) l x) p v)
-  assign-open o =
+  -- with a branch open the change is logged; the branches stand past the log
+  pub stored-open : (c .depth ≡ 0 → ⊥) → ((n : ℕ) → n ≤ limit → Logged w w₁ n k)
+      → ((j : ℕ) → changeBase k + 6 ≤ branchBase j → branchAt w₁ j ≡ branchAt w j)
+      → Moves w w₁ c (loggedTo c p v) (λ M. ordinaryNext M (next (M .state)) p v)
+  stored-open o logged others =
       let d = c .depth - 1 in
       let s : c .depth ≡ suc d = omega (arith, pos-of-ne-zero o) in
       let b₁ = b .less (pos-of-ne-zero o) in
-      let w₁ = changed w k l x in
-      let ls = l ∷ taggedWords (taggedAt w l) in
       let h : WindowBound (branchAt w) (c .window) (suc d) k = subst (λ (j : ℕ). WindowBound (branchAt w) (c .window) j k) s (f .bound) in
       let h₁ = h .1 in
-      let a : 6 * k + 6 + 4 * d ≤ firstBranch = omega arith in
-      let H = changed-bound w 0 k d l (c .window) x (f .room) (omega arith) hl e a h v (omega arith) in
+      let entries : (j : ℕ) → j ≤ d → branchAt w₁ j ≡ branchAt w j = λ j i. others j (omega arith) in
+      let H = logged-bound w w₁ k d (c .window) entries h v (omega arith) in
       record {
         machine = λ n hn.
-            let S = changed-state w n k l x hn hl (omega (arith, f .room)) e in
-            let B = subst (Lowered w₁ (k + 1) n) (sym s) (changed-branches w n k d l (c .window) x (f .room) hn hl e a h v) in
+            let S = state n hn in
+            let B = subst (Lowered (k + 1) n) (sym s) (logged-branches w w₁ k d (c .window) entries h n (logged n hn) v) in
             λ t. record { state = S t; place = p; branches = B t; opened = c .opened };
         fits = record {
-          room = rw (length-changed w k l x) (f .room);
+          room = long;
           bound = subst (λ (j : ℕ). WindowBound (branchAt w₁) v j (k + 1)) (sym s) H;
           opened = f .opened;
         };
-        frame =
-            drop-sets xs (sets w (changeBase k) ls) (operandBase l) labels (omega arith) ∙ drop-sets ls w (changeBase k) labels (omega arith);
+        frame = frame;
       }
+
+-- the log has room for one change more, before the branches
+pub log-room : {w : List ℕ} {c : Control} → Fit w c → changeBase (c .log) + 6 ≤ labels
+log-room f = let b = fit-bound f in omega arith
+
+-- operand l given the word x
+module _ (w : List ℕ) (c : Control) (l p v : ℕ) (x : Tagged) (f : Fit w c) (b : Left c v) (hl : l < operands) (e : length (x .deps .words) ≡ 4) where
+  abbrev old : List ℕ
+  old = l ∷ taggedWords (taggedAt w l)
+
+  room : changeBase (c .log) + 6 ≤ length w
+  room = let r = f .room in let q = log-room f in omega arith
+
+  pub give-plain : c .depth ≡ 0 → Moves w (stored w l x) c (gone c p v) (λ M. ordinaryNext M (withOperand (M .state) l x) p v)
+  give-plain =
+      stored-plain w (stored w l x) c p v (λ σ. withOperand σ l x) f b (λ n hn. state-stored w n l x hn hl e (omega (arith, f .room)))
+      (length-sets w (operandBase l) (taggedWords x)) (drop-sets (taggedWords x) w (operandBase l) labels (omega arith))
+
+  pub give-open : (c .depth ≡ 0 → ⊥) → Moves w (changed w (c .log) l x) c (loggedTo c p v) (λ M. ordinaryNext M (withOperand (M .state) l x) p v)
+  give-open o =
+      let q = log-room f in
+      stored-open w (changed w (c .log) l x) c p v (λ σ. withOperand σ l x) f b (λ n hn. changed-state w n (c .log) l x hn hl room e)
+      (length-changed w (c .log) l x)
+      (drop-sets (taggedWords x) (sets w (changeBase (c .log)) old) (operandBase l) labels (omega arith)
+      ∙ drop-sets old w (changeBase (c .log)) labels (omega arith))
+      o (λ n hn. changed-logged w n (c .log) l x hn hl room e) (changed-branch w 0 (c .log) l x (omega arith) hl room e)
+
+-- of an operand's number l that the code has: a location's, or an entry's
+pub location-moved : {w w₁ : List ℕ} {c r : Control} {p v : ℕ} (j l : ℕ) (x : Tagged) → j ≡ l → l < limit
+    → Moves w w₁ c r (λ M. ordinaryNext M (withOperand (M .state) j x) p v) → Moves w w₁ c r (λ M. ordinaryNext M (put (M .state) l x) p v)
+location-moved {w} {w₁} {c} {r} {p} {v} j l x e h m =
+    let q : Moves w w₁ c r (λ M. ordinaryNext M (withOperand (M .state) l x) p v) = rw e at m in
+    rw (lt-ltb l limit h) at q
+
+pub entry-moved : {w w₁ : List ℕ} {c r : Control} {p v : ℕ} (i : ℕ) (x : Tagged)
+    → Moves w w₁ c r (λ M. ordinaryNext M (withOperand (M .state) (limit + i) x) p v)
+    → Moves w w₁ c r (λ M. ordinaryNext M (withOutside (M .state) (reworded (M .state .outside) i x)) p v)
+entry-moved {w} {w₁} {c} {r} {p} {v} i x m =
+    let h : limit ≤ limit + i = omega arith in
+    let z : limit + i - limit ≡ i = omega arith in
+    rw (le-ltb (limit + i) limit h, z) at m
+
+-- an entry added to the table, which has i
+module _ (w : List ℕ) (c : Control) (i a p v : ℕ) (x : Tagged) (f : Fit w c) (b : Left c v) (hc : i ≡ countIn w) (hi : i < maxEntries)
+    (e : length (x .deps .words) ≡ 4) where
+  past-log : logBase ≤ length w
+  past-log = omega (arith, f .room)
+
+  pub append-plain : c .depth ≡ 0 → Moves w (appended w i a x) c (gone c p v) (λ M. ordinaryNext M (withEntry (M .state) a x) p v)
+  append-plain =
+      stored-plain w (appended w i a x) c p v (λ σ. withEntry σ a x) f b (λ n hn. appended-state w i a x hi past-log e n hn hc)
+      (appended-length w i a x hi past-log e)
+      (drop-past (appended w i a x) w logBase labels (omega arith) (appended-drop w i a x hi past-log e))
+
+  pub append-open : (c .depth ≡ 0 → ⊥) → Moves w (extended w (c .log) i a x) c (loggedTo c p v) (λ M. ordinaryNext M (withEntry (M .state) a x) p v)
+  append-open o =
+      let q = log-room f in
+      let r : changeBase (c .log) + 6 ≤ length w = omega (arith, f .room) in
+      stored-open w (extended w (c .log) i a x) c p v (λ σ. withEntry σ a x) f b (λ n hn. extended-state w n (c .log) i a x hn hi hc r e)
+      (extended-length w 0 (c .log) i a x (omega arith) hi hc r e) (extended-frame w 0 (c .log) i a x (omega arith) hi hc r e labels q)
+      o (λ n hn. extended-logged w n (c .log) i a x hn hi hc r e) (extended-branch w 0 (c .log) i a x (omega arith) hi hc r e)
 
 -- ---- rule 2
 new-window : (e : ℕ → OpenBranch) (g : ℕ → Change) (σ : State) (x k d u v : ℕ) → windowAt d u v ≡ windowOn (branchesOf e g σ x k d) u v
@@ -212,10 +278,10 @@ module _ (w w₁ : List ℕ) (c : Control) (y : OpenBranch) (f : Fit w c) (h : 0
   past : drop logBase w₁ ≡ drop logBase w
   past = ap (drop logBase) ew ∙ drop-undone w (c .log) (c .log - y .mark)
 
-  state-back : (n : ℕ) → stateIn w₁ n ≡ savedAt (changeAt w) (stateIn w n) (c .log) (top .mark)
-  state-back n =
+  state-back : (n : ℕ) → n ≤ limit → stateIn w₁ n ≡ savedAt (changeAt w) (stateIn w n) (c .log) (top .mark)
+  state-back n hn =
       ap (λ (u : List ℕ). stateIn u n) ew
-      ∙ state-undone w n (c .log) (c .log - y .mark) (omega (arith, f .room))
+      ∙ state-undone w n (c .log) (c .log - y .mark) hn (omega (arith, f .room))
       ∙ ap (λ (b : OpenBranch). savedAt (changeAt w) (stateIn w n) (c .log) (b .mark)) ey
 
   module _ (n : ℕ) (b : Branch) (bs : List Branch) (e : machineOf w c n .branches ≡ b ∷ bs) where
@@ -238,13 +304,13 @@ module _ (w w₁ : List ℕ) (c : Control) (y : OpenBranch) (f : Fit w c) (h : 0
     target-is : y .target ≡ b .target
     target-is = ap (λ (x : OpenBranch). x .target) ey ∙ ap (λ (x : Branch). x .target) top-is
 
-    rolled : machineOf w₁ (after .control) n ≡ rolling (machineOf w c n) b bs .next
+    rolled : n ≤ limit → machineOf w₁ (after .control) n ≡ rolling (machineOf w c n) b bs .next
     unfolding rolling
-    rolled =
+    rolled hn =
         let E = branches-same w₁ w past in
         let G = log-same w₁ w past in
-        let S = state-back n ∙ ap (λ (x : Branch). x .saved) top-is in
-        let R = (λ t. branchesOf (E t) (G t) (state-back n t) (ey t .outer) (ey t .mark) (c .depth - 1)) ∙ others in
+        let S = state-back n hn ∙ ap (λ (x : Branch). x .saved) top-is in
+        let R = (λ t. branchesOf (E t) (G t) (state-back n hn t) (ey t .outer) (ey t .mark) (c .depth - 1)) ∙ others in
         λ t. record { state = S t; place = target-is t; branches = R t; opened = c .opened }
 
   pub roll-law : RollsBack w w₁ c after
@@ -252,7 +318,7 @@ module _ (w w₁ : List ℕ) (c : Control) (y : OpenBranch) (f : Fit w c) (h : 0
       let T = rest-bound (branchAt w) (c .window) (c .depth) (c .log) h (f .bound) in
       let E = branches-same w w₁ (sym past) in
       record {
-        machine = rolled;
+        machine = λ n b bs hn e. rolled n b bs e hn;
         id = id-is;
         target = target-is;
         fits = record {

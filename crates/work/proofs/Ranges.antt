@@ -1,19 +1,18 @@
 -- Words that a run of stores leaves as they were, and what is read there; and what is read where they were stored.
 -- Assumes nothing.
-use mathlib.Core.Path.{_≡_, refl, sym, ap, _∙_, fun-ext}
+use mathlib.Core.Path.{_≡_, refl, sym, ap, ap₂, _∙_, fun-ext}
 use mathlib.Core.List.{List, [], _∷_}
-use Prim.Native.Nat.{ℕ, zero, suc, _+_, _-_, _%_, _<_, _≤_}
+use Prim.Native.Nat.{ℕ, zero, suc, _+_, _-_, _<_, _≤_}
 use native.Mathlib.Nat.{add-zero, le-refl}
 use native.Mathlib.Numerals.{add-one}
 use native.Mathlib.Omega.{arith}
 use lib.Dec.{lit<}
 use lib.ListN.{length, getD, drop, set, length-set}
 use lib.Seq.{sets, getD-set-same, getD-set-other, getD-drop, drop-set-lt, drop-drop}
-use Rattle.location.specs.Sets.{limit}
 use Rattle.rules.specs.declared.Tagged.{Tagged}
 use Rattle.work.specs.declared.OpenBranch.{OpenBranch}
 use Rattle.work.specs.Layout.{changeBase, branchBase, logBase}
-use Rattle.work.specs.Words.{taggedIn, storedIn, changeAt, branchAt, branchStored, taggedWords}
+use Rattle.work.specs.Words.{taggedIn, storedIn, changeIn, changeAt, branchAt, branchStored, taggedWords}
 use Rattle.work.proofs.Laws.{four}
 
 -- the n words from one on are the same in both
@@ -62,7 +61,7 @@ drop-past w w′ m n h d =
     rw (e, ← drop-drop (n - m) m w, ← drop-drop (n - m) m w′, d)
 
 -- ---- what is read there
-first-same : {w w′ : List ℕ} {i n : ℕ} → SameRange w w′ i n → 0 < n → getD w i 0 ≡ getD w′ i 0
+pub first-same : {w w′ : List ℕ} {i n : ℕ} → SameRange w w′ i n → 0 < n → getD w i 0 ≡ getD w′ i 0
 first-same {w} {w′} {i} s h = ap (λ (j : ℕ). getD w j 0) (sym (add-zero i)) ∙ s .word 0 h ∙ ap (λ (j : ℕ). getD w′ j 0) (add-zero i)
 
 pub tagged-same : {w w′ : List ℕ} {i : ℕ} → SameRange w w′ i 5 → taggedIn w i ≡ taggedIn w′ i
@@ -79,7 +78,7 @@ change-same {w} {w′} k s =
     let e = first-same s (lit< tt) in
     let x : SameRange w w′ (changeBase k + 1) 5 = record
     { word = λ j l. let p : changeBase k + 1 + j ≡ changeBase k + (1 + j) = omega arith in rw p (s .word (1 + j) (omega arith)) } in
-    λ t. record { location = e t % limit; before = tagged-same x t }
+    λ t. changeIn (e t) (tagged-same x t)
 
 pub branch-same : {w w′ : List ℕ} (k : ℕ) → SameRange w w′ (branchBase k) 4 → branchAt w k ≡ branchAt w′ k
 branch-same k s =
@@ -111,16 +110,15 @@ tagged-stored w i v h f =
     let e = (λ t. e₀ t ∷ e₁ t ∷ e₂ t ∷ e₃ t ∷ []) ∙ four (v .deps .words) h in
     λ t. record { value = e₄ t; deps = record { words = e t } }
 
-pub change-stored : (w : List ℕ) (k l : ℕ) (v : Tagged) → l < limit → length (v .deps .words) ≡ 4 → changeBase k + 6 ≤ length w
-    → changeAt (sets w (changeBase k) (l ∷ taggedWords v)) k ≡ record { location = l; before = v }
-change-stored w k l v hl h f =
+pub change-stored : (w : List ℕ) (k l : ℕ) (v : Tagged) → length (v .deps .words) ≡ 4 → changeBase k + 6 ≤ length w
+    → changeAt (sets w (changeBase k) (l ∷ taggedWords v)) k ≡ changeIn l v
+change-stored w k l v h f =
     let i = changeBase k in
     let vs = l ∷ taggedWords v in
-    let m : l % limit ≡ l = omega arith in
-    let e₀ : getD (sets w i vs) i 0 % limit ≡ l = ap (λ (x : ℕ). x % limit) (first-in vs w i (omega arith) (omega arith)) ∙ m in
+    let e₀ : getD (sets w i vs) i 0 ≡ l = first-in vs w i (omega arith) (omega arith) in
     let e₁ : taggedIn (sets w i vs) (i + 1) ≡ v =
     ap (taggedIn (sets w i vs)) (add-one i) ∙ tagged-stored (set w i l) (suc i) v h (rw (length-set w i l) (omega arith)) in
-    λ t. record { location = e₀ t; before = e₁ t }
+    ap₂ changeIn e₀ e₁
 
 pub branch-stored : (w : List ℕ) (k : ℕ) (b : OpenBranch) → branchBase k + 4 ≤ length w → branchAt (branchStored w k b) k ≡ b
 branch-stored w k b f =

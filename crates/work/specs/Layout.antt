@@ -1,12 +1,26 @@
 -- Where each part of the state stands in the working words: the first word of each. src/lib.rt has the same numbers as constants.
 -- Assumes nothing.
 use Prim.Native.Nat.{ℕ, _+_, _-_, _*_}
+use Rattle.location.specs.Sets.{limit}
+use Rattle.rules.specs.Rules.Limits.{maxEntries}
 
--- words 0 to 1279: 256 operands of 5 words, by location: the four words of its set, then the value
+-- words 0 to 1599: 320 operands of 5 words, each the four words of a set, then the value. Operands 0 to 255 are those of the locations, the
+-- 64 after them those of the entries of the table outside the image.
 abbrev pub operandBase : ℕ → ℕ
-operandBase l = 5 * l
+operandBase k = 5 * k
 
--- words 1680 to 2885: the log of changes upwards, 6 words each: the location, then its operand of before
+abbrev pub operands : ℕ
+operands = limit + maxEntries
+
+-- word 1600: how many entries the table has; words 1601 to 1664: their addresses
+abbrev pub entryCount : ℕ
+entryCount = operandBase operands
+
+abbrev pub addressBase : ℕ → ℕ
+addressBase i = entryCount + 1 + i
+
+-- words 1680 to 2885: the log of changes upwards, 6 words each: the number of an operand, then that operand as it was before; or, where an
+-- entry was added, 320 + how many there were before it
 abbrev pub logBase : ℕ
 logBase = 1680
 
@@ -22,7 +36,7 @@ firstBranch = 1202
 abbrev pub branchBase : ℕ → ℕ
 branchBase k = logBase + (firstBranch - 4 * k)
 
--- words 3576 to 4087: the word of each of 512 labels; words 1280 to 1679, 2886 to 3575 and 4088 to 4095 are free
+-- words 3576 to 4087: the word of each of 512 labels; words 1665 to 1679, 2886 to 3575 and 4088 to 4095 are free
 abbrev pub labels : ℕ
 labels = 3576
 

@@ -2,25 +2,46 @@
 -- machine. What a branch saved is what undoing the changes since gives.
 -- Assumes nothing.
 use mathlib.Core.Path.{_≡_, refl, ap}
-use mathlib.Core.List.{List, [], _∷_}
+use mathlib.Core.Bool.{cond}
+use mathlib.Core.List.{List, [], _∷_, _++_}
 use Prim.Native.Nat.{ℕ, zero, suc, _+_, _-_, _<_, _≤_}
+use lib.Dec.{ltb}
 use lib.ListN.{length}
+use Rattle.location.specs.Sets.{limit}
+use Rattle.rules.specs.declared.Tagged.{Tagged}
 pub use Rattle.rules.specs.Rules.Limits.{maxWindow}
 use Rattle.rules.specs.Rules.Calls.{workingWords}
-use Rattle.rules.specs.Rules.Plain.{State}
+use Rattle.rules.specs.Rules.Plain.{State, Entry, put, withOutside}
 use Rattle.rules.specs.Rules.Mispredicting.{Branch, Machine}
-use Rattle.rules.specs.Rules.Changes.{Change, restore}
+use Rattle.rules.specs.Rules.Changes.{Change, reworded, restore}
 use Rattle.work.specs.declared.OpenBranch.{OpenBranch}
 use Rattle.work.specs.declared.machine.Control.{Control}
-use Rattle.work.specs.Words.{taggedAt, changeAt, branchAt}
+use Rattle.work.specs.Words.{taggedAt, countIn, entryAt, changeAt, branchAt}
 
--- the operands of n locations from l on, and of the first n
-abbrev pub stateFrom : List ℕ → ℕ → ℕ → State
-stateFrom w l zero = []
-stateFrom w l (suc n) = taggedAt w l ∷ stateFrom w (suc l) n
+-- the operands of n locations from l on
+abbrev pub locationsFrom : List ℕ → ℕ → ℕ → List Tagged
+locationsFrom w l zero = []
+locationsFrom w l (suc n) = taggedAt w l ∷ locationsFrom w (suc l) n
 
+-- n entries of the table from number i on, and all that there are
+abbrev pub entriesFrom : List ℕ → ℕ → ℕ → List Entry
+entriesFrom w i zero = []
+entriesFrom w i (suc n) = entryAt w i ∷ entriesFrom w (suc i) n
+
+abbrev pub tableIn : List ℕ → List Entry
+tableIn w = entriesFrom w 0 (countIn w)
+
+-- the state of the first n locations
 abbrev pub stateIn : List ℕ → ℕ → State
-stateIn w n = stateFrom w 0 n
+stateIn w n = record { inside = locationsFrom w 0 n; outside = tableIn w }
+
+-- a state with another word as operand number l: at a location, or in an entry of the table
+abbrev pub withOperand : State → ℕ → Tagged → State
+withOperand σ l v = cond (ltb l limit) (put σ l v) (withOutside σ (reworded (σ .outside) (l - limit) v))
+
+-- with one entry more
+abbrev pub withEntry : State → ℕ → Tagged → State
+withEntry σ a v = withOutside σ (σ .outside ++ (record { address = a; word = v } ∷ []))
 
 -- the last j of k changes, the last one first, where g i is change number i
 abbrev pub lastChanges : (ℕ → Change) → ℕ → ℕ → List Change

@@ -3,7 +3,7 @@
 use mathlib.Core.Path.{_≡_}
 use mathlib.Core.Bool.{Bool, false, _||_}
 use mathlib.Core.List.{List, [], _∷_}
-use Prim.Native.Nat.{ℕ, suc, _≤_}
+use Prim.Native.Nat.{ℕ, suc, _+_, _≤_}
 use lib.Dec.{eqb, leb}
 use lib.ListN.{drop}
 use Rattle.location.specs.Sets.{limit}
@@ -23,9 +23,13 @@ lowerTo v (b ∷ bs) = record { id = b .id; saved = b .saved; target = b .target
 abbrev pub ordinaryNext : Machine → State → ℕ → ℕ → Machine
 ordinaryNext M σ p v = record { state = σ; place = p; branches = lowerTo v (M .branches); opened = M .opened }
 
--- the control after it, where no location changes
+-- the control after it, where neither a location nor the table changes
 abbrev pub gone : Control → ℕ → ℕ → Control
 gone c p v = record { place = p; depth = c .depth; log = c .log; opened = c .opened; window = v }
+
+-- and where one of them does, which is logged
+abbrev pub loggedTo : Control → ℕ → ℕ → Control
+loggedTo c p v = record { place = p; depth = c .depth; log = c .log + 1; opened = c .opened; window = v }
 
 -- a new branch's window: with nothing open it is w, else what is left of the old top's
 abbrev pub windowOn : List Branch → ℕ → ℕ → ℕ
@@ -55,7 +59,7 @@ pub record MovesAt (n : ℕ) (w w′ : List ℕ) (c c′ : Control) (next : Mach
 
 -- Rule 1 on the top branch b.
 pub record RollsBack (w w′ : List ℕ) (c : Control) (r : RolledBack) : Type 0 where
-  pub machine : (n : ℕ) (b : Branch) (bs : List Branch) → machineOf w c n .branches ≡ b ∷ bs
+  pub machine : (n : ℕ) (b : Branch) (bs : List Branch) → n ≤ limit → machineOf w c n .branches ≡ b ∷ bs
       → machineOf w′ (r .control) n ≡ rolling (machineOf w c n) b bs .next
   pub id : (n : ℕ) (b : Branch) (bs : List Branch) → machineOf w c n .branches ≡ b ∷ bs → r .id ≡ b .id
   pub target : (n : ℕ) (b : Branch) (bs : List Branch) → machineOf w c n .branches ≡ b ∷ bs → r .target ≡ b .target

@@ -1,15 +1,19 @@
--- What stands in the working words, and the words after each store. Every number is read as something: a location in the log
--- is taken modulo 256.
+-- What stands in the working words, and the words after each store. Every number is read as something: a count of entries over 64 as 64,
+-- any number in the log as a change.
 -- Assumes nothing.
+use mathlib.Core.Bool.{cond}
 use mathlib.Core.List.{List, [], _∷_}
-use Prim.Native.Nat.{ℕ, zero, suc, _+_, _%_}
-use lib.ListN.{getD}
+use Prim.Native.Nat.{ℕ, zero, suc, _+_, _-_, min}
+use lib.Dec.{ltb}
+use lib.ListN.{getD, set}
 use lib.Seq.{sets}
 use Rattle.location.specs.Sets.{limit}
 use Rattle.rules.specs.declared.Tagged.{Tagged}
-use Rattle.rules.specs.Rules.Changes.{Change}
+use Rattle.rules.specs.Rules.Limits.{maxEntries}
+use Rattle.rules.specs.Rules.Plain.{Entry}
+use Rattle.rules.specs.Rules.Changes.{Change, located, replaced, added}
 use Rattle.work.specs.declared.OpenBranch.{OpenBranch}
-use Rattle.work.specs.Layout.{operandBase, changeBase, branchBase}
+use Rattle.work.specs.Layout.{operandBase, operands, entryCount, addressBase, changeBase, branchBase}
 
 -- ---- an operand: the four words of its set, then its value
 abbrev pub taggedIn : List ℕ → ℕ → Tagged
@@ -27,25 +31,55 @@ taggedWords v =
 abbrev pub storedIn : List ℕ → ℕ → Tagged → List ℕ
 storedIn w i v = sets w i (taggedWords v)
 
+-- operand number l
 abbrev pub taggedAt : List ℕ → ℕ → Tagged
 taggedAt w l = taggedIn w (operandBase l)
 
 abbrev pub stored : List ℕ → ℕ → Tagged → List ℕ
 stored w l v = storedIn w (operandBase l) v
 
--- ---- a change of a location, with its operand of before
-abbrev pub changeAt : List ℕ → ℕ → Change
-changeAt w k = record { location = getD w (changeBase k) 0 % limit; before = taggedIn w (changeBase k + 1) }
+-- ---- the table outside the image
+abbrev pub countIn : List ℕ → ℕ
+countIn w = min (getD w entryCount 0) maxEntries
 
--- location l given v, with its operand of before logged as change number k
+-- entry number i
+abbrev pub entryAt : List ℕ → ℕ → Entry
+entryAt w i = record { address = getD w (addressBase i) 0; word = taggedAt w (limit + i) }
+
+-- one entry more, after i that there are
+abbrev pub appended : List ℕ → ℕ → ℕ → Tagged → List ℕ
+appended w i a v = set (set (stored w (limit + i) v) (addressBase i) a) entryCount (i + 1)
+
+-- at most n entries left
+abbrev pub shortened : List ℕ → ℕ → List ℕ
+shortened w n = set w entryCount (min n (countIn w))
+
+-- ---- a change: an operand by its number, with what it was before; or, from 320 on, an entry that was added
+abbrev pub changeIn : ℕ → Tagged → Change
+changeIn x t = cond (ltb x limit) (located x t) (cond (ltb x operands) (replaced (x - limit) t) (added (x - operands)))
+
+abbrev pub changeAt : List ℕ → ℕ → Change
+changeAt w k = changeIn (getD w (changeBase k) 0) (taggedIn w (changeBase k + 1))
+
+-- operand l given v, with its operand of before logged as change number k
 abbrev pub changed : List ℕ → ℕ → ℕ → Tagged → List ℕ
 changed w k l v = stored (sets w (changeBase k) (l ∷ taggedWords (taggedAt w l))) l v
+
+-- one entry more, after i that there are, logged as change number k
+abbrev pub extended : List ℕ → ℕ → ℕ → ℕ → Tagged → List ℕ
+extended w k i a v = appended (set w (changeBase k) (operands + i)) i a v
+
+-- one change undone
+abbrev pub undoneBy : Change → List ℕ → List ℕ
+undoneBy (located l t) w = stored w l t
+undoneBy (replaced i t) w = stored w (limit + i) t
+undoneBy (added n) w = shortened w n
 
 -- the last j of k changes undone, the last one first
 abbrev pub undone : List ℕ → ℕ → ℕ → List ℕ
 undone w k zero = w
 undone w zero (suc j) = w
-undone w (suc k) (suc j) = undone (stored w (changeAt w k .location) (changeAt w k .before)) k j
+undone w (suc k) (suc j) = undone (undoneBy (changeAt w k) w) k j
 
 -- ---- an open branch
 abbrev pub branchAt : List ℕ → ℕ → OpenBranch

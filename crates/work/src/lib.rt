@@ -1,23 +1,33 @@
-// The state of a run in the working words that the caller lends: an operand for each location, the log of changes, the open
-// branches and the table of labels. specs/Layout.antt has the layout of the constants below for the proofs.
+// The state of a run in the working words that the caller lends: an operand for each location, the table of stores outside the image, the
+// log of changes, the open branches and the table of labels. specs/Layout.antt has the layout of the constants below for the proofs.
 pub mod machine;
 
 use location::Location;
 use location::LocationSet;
 use rules::Tagged;
+use rules::limits::MAX_ENTRIES;
 ghost use mathlib.Core.Path.{_≡_};
 ghost use Prim.Native.Nat.{_+_, _-_, _*_, _<_, _≤_};
-ghost use lib.ListN.{length, replicate};
+ghost use lib.ListN.{length, set, replicate};
 ghost use Rattle.location.specs.Sets.{limit, single};
 ghost use Rattle.rules.specs.Rules.Expressions.{tagged};
+ghost use Rattle.rules.specs.Rules.Limits.{maxEntries};
 ghost use Rattle.rules.specs.Rules.Calls.{written, workingWords};
-ghost use Rattle.work.specs.Layout.{operandBase, changeBase, firstBranch, branchBase};
-ghost use Rattle.work.specs.Words.{taggedIn, storedIn, taggedAt, stored, changed, undone, branchAt, branchStored};
+ghost use Rattle.work.specs.Layout.{operandBase, entryCount, addressBase, logBase, changeBase, firstBranch, branchBase};
+ghost use Rattle.work.specs.Words.{taggedIn, storedIn, taggedAt, stored, countIn, entryAt, appended, shortened};
+ghost use Rattle.work.specs.Words.{changeIn, changed, extended, undoneBy, undone, branchAt, branchStored};
 
-// Location l has its operand from OPERAND * l on: the words of the set, then the value. With the set first a load reads the same pairs
-// of words as the store before it wrote.
+// Operand k stands from OPERAND * k on: the words of the set, then the value. With the set first a load reads the same pairs of words as the
+// store before it wrote. Location l has operand l, entry i of the table outside the image operand LocationSet::LIMIT + i.
 pub const OPERAND: usize = 5;
-// Change k of the log stands from LOG + CHANGE * k on: the location, then its operand of before.
+// How many operands there are.
+pub const OPERANDS: usize = LocationSet::LIMIT + MAX_ENTRIES;
+// How many entries the table has; entry i has its address at ADDRESSES + i.
+pub const ENTRY_COUNT: usize = OPERAND * OPERANDS;
+
+pub const ADDRESSES: usize = ENTRY_COUNT + 1;
+// Change k of the log stands from LOG + CHANGE * k on: the number of an operand, then that operand as it was before; or, where an entry was
+// added, OPERANDS + how many there were before it.
 pub const LOG: usize = 1680;
 // How many words a change has.
 pub const CHANGE: usize = 6;
@@ -69,12 +79,13 @@ pub fn load(work: &[u64], l: Location) -> Tagged
     load_at(work, OPERAND * l.index())
 }
 
-pub fn store(work: &mut [u64], l: Location, v: Tagged)
-    requires { ⌜ operandBase (l .0) + 5 ≤ length (now work) ⌝ }
-    ensures { λ _. ⌜ now (work .exit) ≡ stored (now (work .entry)) (l .0) v ⌝ }
+// Operand k takes v.
+pub fn store(work: &mut [u64], k: usize, v: Tagged)
+    requires { ⌜ operandBase k + 5 ≤ length (now work) ⌝ }
+    ensures { λ _. ⌜ now (work .exit) ≡ stored (now (work .entry)) k v ⌝ }
 {
     let deps = v.deps;
-    store_at(&mut work[..], OPERAND * l.index(), v.value, deps);
+    store_at(&mut work[..], OPERAND * k, v.value, deps);
 }
 
 // Location l takes a value that rests on l alone: of its set only the word that has its bit is not 0.
@@ -89,18 +100,98 @@ pub fn store_own(work: &mut [u64], l: Location, value: u64)
     work[at + k / 64] = 1 << (k % 64);
 }
 
-// Location l takes v; its operand of before goes to the log as change number count.
-pub fn change(work: &mut [u64], count: usize, l: Location, v: Tagged)
-    requires { ⌜ operandBase (l .0) + 5 ≤ length (now work) ⌝ }
+// Operand k takes v; what it was before goes to the log as change number count.
+pub fn change(work: &mut [u64], count: usize, k: usize, v: Tagged)
+    requires { ⌜ operandBase k + 5 ≤ length (now work) ⌝ }
     requires { ⌜ changeBase count + 6 ≤ length (now work) ⌝ }
-    ensures { λ _. ⌜ now (work .exit) ≡ changed (now (work .entry)) count (l .0) v ⌝ }
+    ensures { λ _. ⌜ now (work .exit) ≡ changed (now (work .entry)) count k v ⌝ }
 {
     let at = LOG + CHANGE * count;
-    let old = load(&work[..], l);
+    let old = load_at(&work[..], OPERAND * k);
     let deps = old.deps;
-    work[at] = l.index() as u64;
+    work[at] = k as u64;
     store_at(&mut work[..], at + 1, old.value, deps);
-    store(&mut work[..], l, v);
+    store(&mut work[..], k, v);
+}
+
+// How many entries the table has: a count over the limit is read as the limit.
+pub fn entry_count(work: &[u64]) -> usize
+    requires { ⌜ entryCount < length (now work) ⌝ }
+    ensures { λ r. ⌜ r ≡ countIn (now (work .entry)) ⌝ }
+{
+    let count = work[ENTRY_COUNT];
+    if count < MAX_ENTRIES as u64 {
+        return count as usize;
+    }
+    MAX_ENTRIES
+}
+
+// The address of entry i.
+pub fn address_of(work: &[u64], i: usize) -> u64
+    requires { ⌜ addressBase i < length (now work) ⌝ }
+    ensures { λ r. ⌜ r ≡ entryAt (now (work .entry)) i .address ⌝ }
+{
+    work[ADDRESSES + i]
+}
+
+// The word of entry i.
+pub fn load_entry(work: &[u64], i: usize) -> Tagged
+    requires { ⌜ operandBase (limit + i) + 5 ≤ length (now work) ⌝ }
+    ensures { λ r. ⌜ r ≡ entryAt (now (work .entry)) i .word ⌝ }
+{
+    load_at(work, OPERAND * (LocationSet::LIMIT + i))
+}
+
+// The table has no entry.
+pub fn clear_table(work: &mut [u64])
+    requires { ⌜ entryCount < length (now work) ⌝ }
+    ensures { λ _. ⌜ now (work .exit) ≡ set (now (work .entry)) entryCount 0 ⌝ }
+{
+    work[ENTRY_COUNT] = 0;
+}
+
+// One entry more, after i that there are.
+pub fn append(work: &mut [u64], i: usize, address: u64, v: Tagged)
+    requires { ⌜ (i < maxEntries) × (logBase ≤ length (now work)) ⌝ }
+    ensures { λ _. ⌜ now (work .exit) ≡ appended (now (work .entry)) i address v ⌝ }
+{
+    store(&mut work[..], LocationSet::LIMIT + i, v);
+    work[ADDRESSES + i] = address;
+    work[ENTRY_COUNT] = (i + 1) as u64;
+}
+
+// The same, logged as change number count.
+pub fn extend(work: &mut [u64], count: usize, i: usize, address: u64, v: Tagged)
+    requires { ⌜ (i < maxEntries) × (changeBase count + 6 ≤ length (now work)) ⌝ }
+    ensures { λ _. ⌜ now (work .exit) ≡ extended (now (work .entry)) count i address v ⌝ }
+{
+    work[LOG + CHANGE * count] = (OPERANDS + i) as u64;
+    append(&mut work[..], i, address, v);
+}
+
+// At most n entries are left.
+fn shorten(work: &mut [u64], n: usize)
+    requires { ⌜ logBase ≤ length (now work) ⌝ }
+    ensures { λ _. ⌜ now (work .exit) ≡ shortened (now (work .entry)) n ⌝ }
+{
+    let count = entry_count(&work[..]);
+    if n < count {
+        work[ENTRY_COUNT] = n as u64;
+        return;
+    }
+    work[ENTRY_COUNT] = count as u64;
+}
+
+// The change that stands in the log as x and `before` is undone: an operand gets back what it was, or an entry that was added goes.
+fn undo_one(work: &mut [u64], x: usize, before: Tagged)
+    requires { ⌜ logBase ≤ length (now work) ⌝ }
+    ensures { λ _. ⌜ now (work .exit) ≡ undoneBy (changeIn x before) (now (work .entry)) ⌝ }
+{
+    if x < OPERANDS {
+        store(&mut work[..], x, before);
+        return;
+    }
+    shorten(&mut work[..], x - OPERANDS);
 }
 
 // The changes from the last of count down to number mark are undone.
@@ -113,9 +204,8 @@ pub fn undo(work: &mut [u64], count: usize, mark: usize)
         k -= 1;
         let at = LOG + CHANGE * k;
         let before = load_at(&work[..], at + 1);
-        let deps = before.deps;
-        let l = (work[at] as usize) % LocationSet::LIMIT;
-        store_at(&mut work[..], OPERAND * l, before.value, deps);
+        let x = work[at] as usize;
+        undo_one(&mut work[..], x, before);
     }
 }
 

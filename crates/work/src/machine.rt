@@ -1,15 +1,20 @@
 // The mispredicting machine in the working words: document 01's rules as moves from one control to the next. What is left of a
 // window is computed by the caller.
 use super::OpenBranch;
+use location::Address;
 use location::Location;
+use location::LocationSet;
 use rules::Tagged;
 ghost use mathlib.Core.Path.{_≡_};
 ghost use Prim.Native.Nat.{_+_, _^_, _<_, _≤_};
 ghost use Rattle.location.specs.Sets.{limit};
-ghost use Rattle.rules.specs.Rules.Plain.{put};
-ghost use Rattle.work.specs.Words.{windowAt};
-ghost use Rattle.work.specs.Machines.{maxWindow, Fit, Left};
-ghost use Rattle.work.specs.Moves.{Moves, RollsBack, ordinaryNext, gone, openingNext};
+ghost use Rattle.rules.specs.Rules.Limits.{maxEntries};
+ghost use Rattle.rules.specs.Rules.Plain.{put, withOutside};
+ghost use Rattle.rules.specs.Rules.Changes.{reworded};
+ghost use Rattle.work.specs.Layout.{operands};
+ghost use Rattle.work.specs.Words.{countIn, windowAt};
+ghost use Rattle.work.specs.Machines.{withOperand, withEntry, maxWindow, Fit, Left};
+ghost use Rattle.work.specs.Moves.{Moves, RollsBack, ordinaryNext, gone, loggedTo, openingNext};
 
 // The place, how many branches are open, how many changes are logged, how many branches were opened in all, and the window of the
 // top one; with none open it is kept, and is not 0.
@@ -28,7 +33,7 @@ pub struct RolledBack {
     pub target: usize,
 }
 
-// Rule 1: the top branch is dropped, and every location gets back what it held when the branch was opened.
+// Rule 1: the top branch is dropped, and every location and the table outside the image get back what they held when the branch was opened.
 pub fn roll_back(work: &mut [u64], c: Control) -> RolledBack
     requires { ⌜ Fit (now work) c ⌝ }
     requires { ⌜ 0 < c .depth ⌝ }
@@ -98,6 +103,42 @@ pub fn open_branch(
     }
 }
 
+// The control after a change that is logged.
+fn logged(c: Control, place: usize, remaining: usize) -> Control
+    requires { ⌜ c .log + 1 < 2 ^ 64 ⌝ }
+    ensures { λ r. ⌜ r ≡ loggedTo c place remaining ⌝ }
+{
+    Control {
+        place,
+        depth: c.depth,
+        log: c.log + 1,
+        opened: c.opened,
+        window: remaining,
+    }
+}
+
+// Rule 3 for an instruction that gives operand k the word v.
+fn give(
+    work: &mut [u64],
+    c: Control,
+    k: usize,
+    v: Tagged,
+    place: usize,
+    remaining: usize,
+) -> Control
+    requires { ⌜ Fit (now work) c × Left c remaining × (k < operands) ⌝ }
+    ensures { λ r. ⌜ Moves (now (work .entry)) (now (work .exit)) c r (λ M. ordinaryNext M (withOperand (M .state) k v) place remaining) ⌝ }
+{
+    let depth = c.depth;
+    let log = c.log;
+    if depth == 0 {
+        super::store(&mut work[..], k, v);
+        return go(c, place, remaining);
+    }
+    super::change(&mut work[..], log, k, v);
+    logged(c, place, remaining)
+}
+
 // Rule 3 for an instruction that gives location l the word v.
 pub fn assign(
     work: &mut [u64],
@@ -107,32 +148,57 @@ pub fn assign(
     place: usize,
     remaining: usize,
 ) -> Control
-    requires { ⌜ Fit (now work) c ⌝ }
-    requires { ⌜ Left c remaining ⌝ }
-    requires { ⌜ l .0 < limit ⌝ }
+    requires { ⌜ Fit (now work) c × Left c remaining × (l .0 < limit) ⌝ }
     ensures { λ r. ⌜ Moves (now (work .entry)) (now (work .exit)) c r (λ M. ordinaryNext M (put (M .state) (l .0) v) place remaining) ⌝ }
+{
+    give(&mut work[..], c, l.index(), v, place, remaining)
+}
+
+// Rule 3 for a store that replaces the word of entry i of the table outside the image.
+pub fn replace(
+    work: &mut [u64],
+    c: Control,
+    i: usize,
+    v: Tagged,
+    place: usize,
+    remaining: usize,
+) -> Control
+    requires { ⌜ Fit (now work) c × Left c remaining × (i < maxEntries) ⌝ }
+    ensures { λ r. ⌜ Moves (now (work .entry)) (now (work .exit)) c r
+        (λ M. ordinaryNext M (withOutside (M .state) (reworded (M .state .outside) i v)) place remaining) ⌝ }
+{
+    give(
+        &mut work[..],
+        c,
+        LocationSet::LIMIT + i,
+        v,
+        place,
+        remaining,
+    )
+}
+
+// Rule 3 for a store that adds an entry to the table, which has i.
+pub fn append(
+    work: &mut [u64],
+    c: Control,
+    i: usize,
+    a: Address,
+    v: Tagged,
+    place: usize,
+    remaining: usize,
+) -> Control
+    requires { ⌜ Fit (now work) c × Left c remaining × (i ≡ countIn (now work)) × (i < maxEntries) ⌝ }
+    ensures { λ r. ⌜ Moves (now (work .entry)) (now (work .exit)) c r (λ M. ordinaryNext M (withEntry (M .state) (a .0) v) place remaining) ⌝ }
 {
     let depth = c.depth;
     let log = c.log;
-    let opened = c.opened;
+    let address = a.value();
     if depth == 0 {
-        super::store(&mut work[..], l, v);
-        return Control {
-            place,
-            depth,
-            log,
-            opened,
-            window: remaining,
-        };
+        super::append(&mut work[..], i, address, v);
+        return go(c, place, remaining);
     }
-    super::change(&mut work[..], log, l, v);
-    Control {
-        place,
-        depth,
-        log: log + 1,
-        opened,
-        window: remaining,
-    }
+    super::extend(&mut work[..], log, i, address, v);
+    logged(c, place, remaining)
 }
 
 // Rule 3 for an instruction that changes no location: nor does it change a word.

@@ -7,6 +7,9 @@ use check_box_reference::{compare, plain_run, run, PairAnswer, PlainAnswer, RunA
 
 pub const WORK: usize = 4_096;
 
+/// The words of an end area after registers and cells: the count of the entries, then 64 pairs.
+pub const OUTSIDE: usize = 129;
+
 pub const START: u64 = 0;
 pub const ROLLBACK: u64 = 1;
 pub const PC: u64 = 2;
@@ -200,7 +203,10 @@ pub fn observed(text: &str) -> Trace {
 pub struct Ran<A> {
     pub answer: A,
     pub trace: Trace,
+    /// Registers, then cells.
     pub end: Vec<u64>,
+    /// Address and value of each remembered store outside, in order of first store.
+    pub outside: Vec<(u64, u64)>,
 }
 
 pub fn pairs(words: &[u64]) -> Trace {
@@ -215,16 +221,23 @@ pub fn written(after: &[u64], count: usize) -> Vec<u64> {
     after[..count].to_vec()
 }
 
+/// What an end area holds: registers and cells, and the entries of the table. Zeros come after.
+fn end_parts(after: &[u64], locations: usize) -> (Vec<u64>, Vec<(u64, u64)>) {
+    let words = written(after, locations + OUTSIDE);
+    let (image, table) = words.split_at(locations);
+    let (entries, zeros) = table[1..].split_at(2 * table[0] as usize);
+    assert!(zeros.iter().all(|&word| word == 0), "zeros after the entries");
+    (image.to_vec(), pairs(entries))
+}
+
 /// The mispredicting run in a trace area of that many words; other areas are longer than needed.
 pub fn run_in(parts: &JobParts, trace_words: usize) -> Ran<RunAnswer> {
-    let (mut trace, mut end, mut work) = (area(trace_words), area(300), area(WORK + 5));
+    let (mut trace, mut end, mut work) = (area(trace_words), area(400), area(WORK + 5));
     let answer = run(&parts.bytes(), &mut trace, &mut end, &mut work).expect("accepted");
     assert_eq!(written(&work, WORK), vec![0; WORK]);
-    Ran {
-        trace: pairs(&written(&trace, 2 * answer.observations as usize)),
-        end: written(&end, 16 + parts.cells.len()),
-        answer,
-    }
+    let (end, outside) = end_parts(&end, 16 + parts.cells.len());
+    let trace = pairs(&written(&trace, 2 * answer.observations as usize));
+    Ran { answer, trace, end, outside }
 }
 
 pub fn run_of(parts: &JobParts) -> Ran<RunAnswer> {
@@ -233,14 +246,12 @@ pub fn run_of(parts: &JobParts) -> Ran<RunAnswer> {
 
 /// The plain run in a trace area of that many words; other areas are longer than needed.
 pub fn plain_in(parts: &JobParts, trace_words: usize) -> Ran<PlainAnswer> {
-    let (mut trace, mut end, mut work) = (area(trace_words), area(300), area(WORK + 5));
+    let (mut trace, mut end, mut work) = (area(trace_words), area(400), area(WORK + 5));
     let answer = plain_run(&parts.bytes(), &mut trace, &mut end, &mut work).expect("accepted");
     assert_eq!(written(&work, WORK), vec![0; WORK]);
-    Ran {
-        trace: pairs(&written(&trace, 2 * answer.observations as usize)),
-        end: written(&end, 16 + parts.cells.len()),
-        answer,
-    }
+    let (end, outside) = end_parts(&end, 16 + parts.cells.len());
+    let trace = pairs(&written(&trace, 2 * answer.observations as usize));
+    Ran { answer, trace, end, outside }
 }
 
 pub fn plain_of(parts: &JobParts) -> Ran<PlainAnswer> {
@@ -266,11 +277,11 @@ pub fn pair_of(
 
 /// The refusal number of a run, with a check that no area changed; 0 if the job is accepted.
 pub fn refusal_of(bytes: &[u8]) -> u32 {
-    let (mut trace, mut end, mut work) = (area(64), area(256), area(WORK));
+    let (mut trace, mut end, mut work) = (area(64), area(400), area(WORK));
     match run(bytes, &mut trace, &mut end, &mut work) {
         Ok(_) => 0,
         Err(number) => {
-            assert_eq!((trace, end, work), (area(64), area(256), area(WORK)));
+            assert_eq!((trace, end, work), (area(64), area(400), area(WORK)));
             number
         }
     }

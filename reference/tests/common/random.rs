@@ -56,8 +56,28 @@ impl Random {
     }
 
     pub fn job(&mut self) -> JobParts {
-        let n = 1 + self.below(12);
-        let program = (0..n).map(|own| self.instruction(own, n)).collect();
+        self.job_after(Vec::new())
+    }
+
+    /// A job that first stores at 61 to 64 addresses outside, so that few entries are left,
+    /// and has more stores among its random instructions.
+    pub fn spilling_job(&mut self) -> JobParts {
+        let spill = |k| store((k % 5) as u8, &[C(1_000 + k)]);
+        let addresses = 61 + self.below(4);
+        let mut parts = self.job_after((0..addresses).map(spill).collect());
+        for instruction in &mut parts.program[addresses as usize..] {
+            if self.below(4) == 0 {
+                *instruction = store(self.register(), &self.expression());
+            }
+        }
+        parts
+    }
+
+    /// A job of the given instructions and random ones after them.
+    fn job_after(&mut self, mut program: Vec<Vec<u8>>) -> JobParts {
+        let first = program.len() as u64;
+        let n = first + 1 + self.below(12);
+        program.extend((first..n).map(|own| self.instruction(own, n)));
         let mut parts = job(program, self.below(6) as usize);
         for word in parts.registers.iter_mut().chain(&mut parts.cells) {
             *word = self.below(4);

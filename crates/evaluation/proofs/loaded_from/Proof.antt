@@ -6,16 +6,32 @@ use Rattle.evaluation.proofs.loaded_from.Tie as tie
 
 returns : tie.Need-returns
 returns c code e =
-    let b = c .before .before .before in
-    let a = b .before .before .before .before .args in
-    load-inside (a .work .now) (a .cells) (a .a) code e (b .before .if1 .taken) (b .new .ensures) (c .before .before .cell .ensures)
-    (c .before .load .ensures) (c .joined .ensures)
+    let at-load = c .before in
+    let at-cell = at-load .before in
+    let at-if1 = at-cell .before in
+    let at-new = at-if1 .before in
+    let a = at-new .before .before .before .args in
+    load-inside (a .work .now) (a .cells) (a .a) code e (at-if1 .if1 .taken) (at-new .new .ensures) (at-cell .cell .ensures)
+    (at-load .load .ensures) (c .joined .ensures)
 
 returns-2 : tie.Need-returns-2
 returns-2 c code e =
-    let a = c .before .before .before .args in
-    load-outside (a .work .now) (a .cells) (a .a) code e (c .if1 .left)
+    let at-recall = c .before in
+    let at-if1 = at-recall .before in
+    let at-new = at-if1 .before in
+    let a = at-new .before .before .before .args in
+    load-outside (a .work .now) (a .cells) (a .a) code e (at-if1 .if1 .left) (at-new .new .ensures) (at-recall .recall .ensures)
+    (c .joined2 .ensures)
 
 pub loaded-from-spec : {M : Type 1} → statement M
 loaded-from-spec =
-    tie.close (tie.spec (λ c κs. search needs) (λ c κs. search needs) (λ c κs. search needs) (λ c κs. search needs) returns returns-2)
+    tie.close
+    (tie.spec
+    (λ c κs. search needs)
+    (λ c κs. search needs)
+    (λ c κs. search needs)
+    (λ c κs. search needs)
+    returns
+    (λ c κs. search needs)
+    (λ c κs. search needs)
+    returns-2)

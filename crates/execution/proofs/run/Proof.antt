@@ -6,7 +6,7 @@ use lib.ListN.{length}
 use Rattle.stepping.specs.Progress.{standing}
 use Rattle.execution.specs.Running.{Ready, Running}
 use Rattle.execution.specs.Starts.{whole}
-use Rattle.execution.proofs.Running.{proceeds, halted, ready-start, running-start, running-ends}
+use Rattle.execution.proofs.Running.{proceeds, halted, overfull, ready-start, running-start, running-ends, unmade-ends}
 use borrow.Author.Needs.{needs}
 use Rattle.execution.proofs.run.Statement.{statement}
 use Rattle.execution.proofs.run.Tie as tie
@@ -38,18 +38,18 @@ halt-of-requires c κs =
 free-until-requires : tie.Need-free-until-requires Inv-loop μ-loop
 free-until-requires c κs =
     let at-enum-told = c .before in
-    let at-halt-of = at-enum-told .before .before in
+    let at-halt-of = at-enum-told .before .before .before in
     let at-loop = at-halt-of .before .before .before in
-    let o = proceeds _ _ _ (at-enum-told .enum-told .given .1) (at-halt-of .halt-of .ensures) in
-    (at-loop .loop .inv .2 .counted .room, o .left)
+    let o = proceeds _ _ _ _ (at-enum-told .enum-told .given .1) (at-halt-of .halt-of .ensures) in
+    (at-loop .loop .inv .2 .counted .room, o .fitting .left)
 
 make-steps-requires : tie.Need-make-steps-requires Inv-loop μ-loop
 make-steps-requires c κs =
     let at-free-until = c .before .before in
     let at-enum-told = at-free-until .before .before in
-    let at-halt-of = at-enum-told .before .before in
+    let at-halt-of = at-enum-told .before .before .before in
     let at-loop = at-halt-of .before .before .before in
-    let o = proceeds _ _ _ (at-enum-told .enum-told .given .1) (at-halt-of .halt-of .ensures) in
+    let o = proceeds _ _ _ _ (at-enum-told .enum-told .given .1) (at-halt-of .halt-of .ensures) in
     record { ready = at-loop .loop .inv .2; next = o; free = at-free-until .free-until .ensures _ }
 
 loop-less : tie.Need-loop-less Inv-loop μ-loop
@@ -62,21 +62,36 @@ loop-less c =
 loop-again : tie.Need-loop-again Inv-loop μ-loop
 loop-again c =
     let at-make-steps = c .before .before .before .before in
-    let at-loop = at-make-steps .before .before .before .before .before .before .before .before .before .before in
+    let at-loop = at-make-steps .before .before .before .before .before .before .before .before .before .before .before in
     (search needs, search needs, at-make-steps .make-steps .ensures .ready, at-make-steps .make-steps .ensures .kept _ _ _ (at-loop .loop .inv .3))
 
 report-requires : tie.Need-report-requires Inv-loop μ-loop
 report-requires c κs =
-    let at-loop = c .before .before .before .before .before .before in
+    let at-loop = c .before .before .before .before .before .before .before in
     at-loop .loop .inv .2 .steady .fits .opened
 
 returns : tie.Need-returns Inv-loop μ-loop
 returns c =
-    let at-stop = c .before .before in
-    let at-halt-of = at-stop .before .before in
+    let at-halt = c .before .before in
+    let at-halt-of = at-halt .before .before .before in
     let at-loop = at-halt-of .before .before .before in
     running-ends _ _ _ (c .report .ensures) (at-loop .loop .inv .2) (at-loop .loop .inv .3)
-    (halted _ _ _ (at-stop .stop .given .1) (at-halt-of .halt-of .ensures))
+    (halted _ _ _ _ (at-halt .halt .given .1) (at-halt-of .halt-of .ensures))
+
+report-requires-2 : tie.Need-report-requires-2 Inv-loop μ-loop
+report-requires-2 c κs =
+    let at-loop = c .before .before .before .before .before .before .before in
+    let h = at-loop .loop .inv .2 .steady .fits .opened in
+    rw (c .gather-unmade .ensures) h
+
+returns-2 : tie.Need-returns-2 Inv-loop μ-loop
+returns-2 c =
+    let at-gather-unmade = c .before in
+    let at-enum-told2 = at-gather-unmade .before in
+    let at-halt-of = at-enum-told2 .before .before .before in
+    let at-loop = at-halt-of .before .before .before in
+    unmade-ends _ _ _ (at-gather-unmade .gather-unmade .ensures) (c .report2 .ensures) (at-loop .loop .inv .2) (at-loop .loop .inv .3)
+    (overfull _ _ _ _ (at-enum-told2 .enum-told2 .given .1) (at-halt-of .halt-of .ensures))
 
 pub run-spec : {M : Type 1} → statement M
 run-spec =
@@ -96,4 +111,10 @@ run-spec =
     report-requires
     (λ c. search needs)
     (λ c. search needs)
-    returns)
+    returns
+    (λ c. search needs)
+    (λ c κs. search needs)
+    report-requires-2
+    (λ c. search needs)
+    (λ c. search needs)
+    returns-2)

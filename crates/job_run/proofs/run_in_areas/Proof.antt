@@ -1,4 +1,4 @@
--- `job_run::run_in_areas` meets its contract: the run is made, its values are saved, the working words are cleared. Assumes nothing.
+-- `job_run::run_in_areas` meets its contract: the run is made, its last state is saved, the working words are cleared. Assumes nothing.
 use native.Mathlib.Omega.{arith}
 use Rattle.job_run.specs.Accepted.{accepted-limits, accepted-list, accepted-length}
 use Rattle.job_run.proofs.Laws.{same-part, run-in}
@@ -35,8 +35,8 @@ locations-requires c κs =
     let at-start = at-load .before .before .before .before .before .before in
     let l = accepted-limits (at-start .pre .accepts) .cells in omega arith
 
-save-values-requires : tie.Need-save-values-requires
-save-values-requires c κs =
+save-state-requires : tie.Need-save-state-requires
+save-state-requires c κs =
     let at-run = c .before .before .before .before .before .before .before in
     let at-load = at-run .before .before .before .before .before .before in
     let at-start = at-load .before .before .before .before .before .before in
@@ -47,7 +47,7 @@ save-values-requires c κs =
     let s = o .size in
     let m = k .work in
     let n = k .end in
-    (omega arith, omega arith)
+    (omega arith, omega arith, omega arith)
 
 clear-requires : tie.Need-clear-requires
 clear-requires c κs =
@@ -63,15 +63,15 @@ clear-requires c κs =
 returns : tie.Need-returns
 returns c =
     let at-clear = c .before .before in
-    let at-save-values = at-clear .before .before .before .before in
-    let at-locations = at-save-values .before .before .before in
+    let at-save-state = at-clear .before .before .before .before in
+    let at-locations = at-save-state .before .before .before in
     let at-run = at-locations .before .before .before .before .before in
     let at-load = at-run .before .before .before .before .before .before in
     let at-start = at-load .before .before .before .before .before .before in
     let a = at-start .args in
     let o = at-load .load .ensures .runs (a .mode) _ _ _ _ _ (same-part (a .t .state) (a .job .now)) (at-run .run .ensures) in
     run-in (at-start .pre .accepts) (a .mode) o
-    (rw (at-locations .locations .ensures) at (at-save-values .save-values .ensures)) (at-clear .clear .ensures)
+    (rw (at-locations .locations .ensures) at (at-save-state .save-state .ensures)) (at-clear .clear .ensures)
 
 pub run-in-areas-spec : {M : Type 1} → statement M
 run-in-areas-spec =
@@ -83,7 +83,7 @@ run-in-areas-spec =
     part-run-end
     run-requires
     locations-requires
-    save-values-requires
+    save-state-requires
     clear-requires
     (λ c. search needs)
     (λ c. search needs)

@@ -21,6 +21,10 @@ put-text-requires-3 : tie.Need-put-text-requires-3
 unfolding line text
 put-text-requires-3 c κs = omega (arith, ap (λ (x : Stop). length (line (text "stop ") (stopWord x))) (c .before .before .enum-told3 .given .1))
 
+put-text-requires-4 : tie.Need-put-text-requires-4
+unfolding line text
+put-text-requires-4 c κs = omega (arith, ap (λ (x : Stop). length (line (text "stop ") (stopWord x))) (c .before .before .enum-told4 .given .1))
+
 returns : tie.Need-returns
 unfolding line text
 returns c =
@@ -42,6 +46,13 @@ returns-3 c =
     let at-enum-told3 = at-put-text3 .before .before .before in
     rw (at-enum-told3 .enum-told3 .given .1) (at-put-text3 .put-text3 .ensures)
 
+returns-4 : tie.Need-returns-4
+unfolding line text
+returns-4 c =
+    let at-put-text4 = c .before .before in
+    let at-enum-told4 = at-put-text4 .before .before .before in
+    rw (at-enum-told4 .enum-told4 .given .1) (at-put-text4 .put-text4 .ensures)
+
 pub put-stop-spec : {M : Type 1} → statement M
 put-stop-spec =
     tie.close
@@ -56,8 +67,13 @@ put-stop-spec =
     (λ c. search needs)
     put-text-requires-3
     (λ c. search needs)
+    (λ c. search needs)
+    put-text-requires-4
+    (λ c. search needs)
     returns
     (λ c. search needs)
     returns-2
     (λ c. search needs)
-    returns-3)
+    returns-3
+    (λ c. search needs)
+    returns-4)

@@ -1,6 +1,6 @@
 -- Job files for the tables, laid out byte by byte, and the rows of the tables.
 -- Assumes nothing.
-use mathlib.Core.Bool.{Bool}
+use mathlib.Core.Bool.{Bool, true}
 use mathlib.Core.List.{List, [], _∷_, _++_}
 use Prim.Native.Nat.{ℕ, _+_, _-_, _*_}
 use lib.ListN.{length, replicate}
@@ -19,11 +19,11 @@ use Rattle.rules.specs.declared.Tagged.{Tagged}
 use Prim.Native.String.{String}
 use Rattle.rules.specs.Rules.Answers.{text}
 use Rattle.rules.specs.Rules.Expressions.{tagged}
-use Rattle.rules.specs.Rules.Plain.{at}
+use Rattle.rules.specs.Rules.Plain.{Entry, at}
 use Rattle.rules.specs.Rules.Runs.{mispredictingRun, plainRun}
 use Rattle.rules.specs.Rules.JobFile.{Parsed, accepted, rejected, parse}
 use Rattle.rules.specs.Rules.Calls.{Areas, Called, runCall, plainCall}
-use Rattle.rules.specs.Rules.Pairs.{withState, sameTrace, PairAreas, pairCall}
+use Rattle.rules.specs.Rules.Pairs.{withState, sameWords, sameTrace, PairAreas, pairCall}
 use Rattle.rules.specs.Rules.TestLoads.{newWords, newState, TestLoadAreas, testLoadCall}
 use Rattle.rules.specs.Rules.Listing.{listing}
 use Rattle.rules.specs.Rules.Encoding.{bytesOf, wordBytes}
@@ -88,30 +88,37 @@ pub data Row : Type 0 where
   testLeaves : List ℕ → ℕ → TestLoadAreas → TestLoadAnswer → TestLoadAreas → Row
   -- the word with its set at a location after a run
   holds : List ℕ → ℕ → Tagged → Row
+  -- all areas before a run, the answer, and every word of the end area after it
+  ends : List ℕ → Areas → RunAnswer → List ℕ → Row
+  -- the entries of the table of stores outside the image after a run
+  keeps : List ℕ → List Entry → Row
   -- the words that are made from a seed
   makes : ℕ → List ℕ → Row
   -- the job, a seed, the stop of the job's own run, and whether the plain trace of the new state is the job's
   plainly : List ℕ → ℕ → Stop → Bool → Row
 
--- What is compared: an answer with trace areas, a listing, an answer with all areas, a word with its set, words that are made, a stop with
--- whether two traces are the same; or that the job is refused.
+-- What is compared: an answer with trace areas, whether a listing is the wanted one, an answer with all areas, an answer with whether the
+-- end area is the wanted one, a word with its set, a table, words that are made, a stop with whether two traces are the same; or that the
+-- job is refused. Where there are many words, whether they are the wanted ones computes in far fewer steps than the words side by side.
 pub data Seen : Type 0 where
   ranTo : RunAnswer → List ℕ → Seen
   plainTo : PlainAnswer → List ℕ → Seen
   pairedTo : PairAnswer → List ℕ → List ℕ → Seen
-  printed : List ℕ → Seen
+  printed : Bool → Seen
   left : RunAnswer → Areas → Seen
   plainLeft : PlainAnswer → Areas → Seen
   pairLeft : PairAnswer → PairAreas → Seen
   testLeft : Called TestLoadAnswer TestLoadAreas → Seen
+  endedAs : RunAnswer → Bool → Seen
   word : Tagged → Seen
+  table : List Entry → Seen
   made : List ℕ → Seen
   compared : Stop → Bool → Seen
   refused : Seen
 
--- the lent areas hold 7 before the call
+-- the lent areas hold 7 before the call; the end area is long enough for every job
 unfoldable pub areas : ℕ → Areas
-areas n = record { trace = replicate n 7; end = replicate 256 7; work = replicate 4096 7 }
+areas n = record { trace = replicate n 7; end = replicate 385 7; work = replicate 4096 7 }
 
 unfoldable pub pairAreas : ℕ → PairAreas
 pairAreas n = record { first = replicate n 7; second = replicate n 7; work = replicate 4096 7 }
@@ -125,6 +132,11 @@ unfoldable pub lastAt : Parsed → ℕ → Tagged
 lastAt (accepted job) l = at (mispredictingRun job 512 .last .state) l
 lastAt (rejected r) l = tagged 0 empty
 
+-- the table as the run of an accepted job leaves it
+unfoldable pub lastTable : Parsed → List Entry
+lastTable (accepted job) = mispredictingRun job 512 .last .state .outside
+lastTable (rejected r) = []
+
 -- what becomes of the plain trace under the rule for a new state, also where the job's own run has not finished
 unfoldable pub plainTraces : Parsed → ℕ → Seen
 plainTraces (rejected r) seed = refused
@@ -133,17 +145,32 @@ plainTraces (accepted job) seed =
     let new = withState job (newState job own seed) in
     compared (own .stop) (sameTrace (plainRun job 512 .gathered .trace) (plainRun new 512 .gathered .trace))
 
+-- each call is computed once
 unfoldable pub given : Row → Seen
-given (run job n trace answer) = ranTo (runCall job (areas n) .answer) (runCall job (areas n) .areas .trace)
+given (run job n trace answer) =
+    let c = runCall job (areas n) in
+    ranTo (c .answer) (c .areas .trace)
 given (pair job second n trace trace′ answer) =
-    pairedTo (pairCall job second (pairAreas n) .answer) (pairCall job second (pairAreas n) .areas .first)
-    (pairCall job second (pairAreas n) .areas .second)
-given (prints job bytes) = printed (listing job)
-given (plain job n trace answer) = plainTo (plainCall job (areas n) .answer) (plainCall job (areas n) .areas .trace)
-given (leaves job before answer after) = left (runCall job before .answer) (runCall job before .areas)
-given (plainLeaves job before answer after) = plainLeft (plainCall job before .answer) (plainCall job before .areas)
-given (pairLeaves job second before answer after) = pairLeft (pairCall job second before .answer) (pairCall job second before .areas)
+    let c = pairCall job second (pairAreas n) in
+    pairedTo (c .answer) (c .areas .first) (c .areas .second)
+given (prints job bytes) = printed (sameWords (listing job) bytes)
+given (plain job n trace answer) =
+    let c = plainCall job (areas n) in
+    plainTo (c .answer) (c .areas .trace)
+given (leaves job before answer after) =
+    let c = runCall job before in
+    left (c .answer) (c .areas)
+given (plainLeaves job before answer after) =
+    let c = plainCall job before in
+    plainLeft (c .answer) (c .areas)
+given (pairLeaves job second before answer after) =
+    let c = pairCall job second before in
+    pairLeft (c .answer) (c .areas)
+given (ends job before answer after) =
+    let c = runCall job before in
+    endedAs (c .answer) (sameWords (c .areas .end) after)
 given (holds job l t) = word (lastAt (parse job) l)
+given (keeps job es) = table (lastTable (parse job))
 given (testLeaves job seed before answer after) = testLeft (testLoadCall job seed before)
 given (makes seed ws) = made (newWords empty 0 seed (zeros (length ws)))
 given (plainly job seed stop same) = plainTraces (parse job) seed
@@ -151,12 +178,14 @@ given (plainly job seed stop same) = plainTraces (parse job) seed
 unfoldable pub wanted : Row → Seen
 wanted (run job n trace answer) = ranTo answer (front n trace)
 wanted (pair job second n trace trace′ answer) = pairedTo answer (front n trace) (front n trace′)
-wanted (prints job bytes) = printed bytes
+wanted (prints job bytes) = printed true
 wanted (plain job n trace answer) = plainTo answer (front n trace)
 wanted (leaves job before answer after) = left answer after
 wanted (plainLeaves job before answer after) = plainLeft answer after
 wanted (pairLeaves job second before answer after) = pairLeft answer after
+wanted (ends job before answer after) = endedAs answer true
 wanted (holds job l t) = word t
+wanted (keeps job es) = table es
 wanted (testLeaves job seed before answer after) = testLeft (record { answer = answer; areas = after })
 wanted (makes seed ws) = made ws
 wanted (plainly job seed stop same) = compared stop same

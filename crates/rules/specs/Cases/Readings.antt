@@ -123,7 +123,8 @@ readings =
     ∷ plain (job 1 10 100) 1024 (2 ∷ 4 ∷ []) (plainRan Finished 1 2 r01)
     ∷ plain (job 0 10 3) 1024 (2 ∷ 2 ∷ 3 ∷ 0 ∷ []) (plainRan Spent 2 3 r01)
     ∷ plain (job 0 10 100) 5 (2 ∷ 2 ∷ 3 ∷ 0 ∷ []) (plainRan TraceFull 2 3 r01)
-    -- the address's set in a load and in a store, and outside the memory: load r1 r0; load r1 r0 at 5; store r1 r0; store r1 r0 at 5
+    -- the address's set in a load and in a store, and outside the image: load r1 r0; load r1 r0 at 5, where nothing was stored;
+    -- store r1 r0; store r1 r0 at 1, which no cell takes
     ∷ holds (secretJob (2 ∷ 1 ∷ 1 ∷ 0 ∷ []) 1 (set zero17 16 9) 10) 1 (tagged 9 (setOf (0 ∷ 16 ∷ [])))
     ∷ holds (secretJob (2 ∷ 1 ∷ 1 ∷ 0 ∷ []) 1 (set (set zero17 0 5) 1 4) 10) 1 (tagged 0 (setOf (0 ∷ [])))
     ∷ holds (secretJob (3 ∷ 1 ∷ 1 ∷ 0 ∷ []) 1 (set zero17 1 9) 10) 16 (tagged 9 (setOf (0 ∷ 1 ∷ [])))
@@ -132,16 +133,16 @@ readings =
     ∷ holds (secretJob conditionally 2 (set zero17 3 5) 10) 1 (tagged 0 (setOf (1 ∷ 2 ∷ [])))
     ∷ holds (secretJob conditionally 2 (set (set zero17 3 5) 2 2) 10) 1 (tagged 5 (setOf (2 ∷ 3 ∷ [])))
     -- all areas after a run that stopped inside the wrong path, and after a refusal for a short end or working area
-    ∷ leaves (job 1 10 3) (record { trace = filled 9; end = filled 21; work = filled 4097 }) (ran Spent 3 3 0 r01 r01 Undecided)
+    ∷ leaves (job 1 10 3) (record { trace = filled 9; end = filled 150; work = filled 4097 }) (ran Spent 3 3 0 r01 r01 Undecided)
     (record {
       trace = 0 ∷ 0 ∷ 2 ∷ 2 ∷ 3 ∷ 1 ∷ filled 3;
-      end = 1 ∷ 1 ∷ 0 ∷ 1 ∷ zeros 13 ++ (1 ∷ zeros 2 ++ filled 1);
+      end = 1 ∷ 1 ∷ 0 ∷ 1 ∷ zeros 13 ++ (1 ∷ zeros 131 ++ filled 1);
       work = zeros 4096 ++ filled 1;
     })
-    ∷ leaves (job 1 10 3) (record { trace = filled 9; end = filled 19; work = filled 4096 }) (runRefused refusals.Areas)
-    (record { trace = filled 9; end = filled 19; work = filled 4096 })
-    ∷ leaves (job 1 10 3) (record { trace = filled 9; end = filled 20; work = filled 4095 }) (runRefused refusals.Areas)
-    (record { trace = filled 9; end = filled 20; work = filled 4095 })
+    ∷ leaves (job 1 10 3) (record { trace = filled 9; end = filled 148; work = filled 4096 }) (runRefused refusals.Areas)
+    (record { trace = filled 9; end = filled 148; work = filled 4096 })
+    ∷ leaves (job 1 10 3) (record { trace = filled 9; end = filled 149; work = filled 4095 }) (runRefused refusals.Areas)
+    (record { trace = filled 9; end = filled 149; work = filled 4095 })
     -- only a place is printed as "end"; locations ascend, cells by their address; a missing file is an empty job
     ∷ prints (secretJob (2 ∷ 1 ∷ 1 ∷ 0 ∷ 2 ∷ 2 ∷ 1 ∷ 1 ∷ []) 2 (set zero17 0 2) 10)
     (lines ("load 2" ∷ "load 0" ∷ "stop finished" ∷ "steps 2" ∷ "rollbacks 0" ∷ "depends r0" ∷ "plain r0" ∷ "verdict plain" ∷ []))
@@ -209,17 +210,17 @@ unfoldable pub areasLeft : List Row
 areasLeft =
     -- a second state one byte too long
     pair (job 1 10 100) (zeros 161) 12 [] [] (answers.Refused refusals.SecondState)
-    -- refusal 1 comes before 10; an end area of just 16 + m words is enough
+    -- refusal 1 comes before 10; an end area of just 16 + m + 129 words is enough
     ∷ leaves [] (lent (filled 3) [] []) (runRefused refusals.Length) (lent (filled 3) [] [])
-    ∷ leaves (job 1 10 3) (lent (filled 9) (filled 20) (filled 4096)) (ran Spent 3 3 0 r01 r01 Undecided)
-    (lent (0 ∷ 0 ∷ 2 ∷ 2 ∷ 3 ∷ 1 ∷ filled 3) (1 ∷ 1 ∷ 0 ∷ 1 ∷ zeros 13 ++ (1 ∷ zeros 2)) (zeros 4096))
+    ∷ leaves (job 1 10 3) (lent (filled 9) (filled 149) (filled 4096)) (ran Spent 3 3 0 r01 r01 Undecided)
+    (lent (0 ∷ 0 ∷ 2 ∷ 2 ∷ 3 ∷ 1 ∷ filled 3) (1 ∷ 1 ∷ 0 ∷ 1 ∷ zeros 13 ++ (1 ∷ zeros 131)) (zeros 4096))
     -- all areas after a plain run, and after its refusals
-    ∷ plainLeaves (job 0 10 3) (lent (filled 9) (filled 21) (filled 4097)) (plainRan Spent 2 3 r01)
-    (lent (2 ∷ 2 ∷ 3 ∷ 0 ∷ filled 5) (0 ∷ 1 ∷ 1 ∷ zeros 14 ++ (1 ∷ zeros 2 ++ filled 1)) (zeros 4096 ++ filled 1))
-    ∷ plainLeaves (job 1 10 3) (lent (filled 9) (filled 19) (filled 4096)) (plainRefused refusals.Areas)
-    (lent (filled 9) (filled 19) (filled 4096))
-    ∷ plainLeaves (job 1 10 3) (lent (filled 9) (filled 20) (filled 4095)) (plainRefused refusals.Areas)
-    (lent (filled 9) (filled 20) (filled 4095))
+    ∷ plainLeaves (job 0 10 3) (lent (filled 9) (filled 150) (filled 4097)) (plainRan Spent 2 3 r01)
+    (lent (2 ∷ 2 ∷ 3 ∷ 0 ∷ filled 5) (0 ∷ 1 ∷ 1 ∷ zeros 14 ++ (1 ∷ zeros 131 ++ filled 1)) (zeros 4096 ++ filled 1))
+    ∷ plainLeaves (job 1 10 3) (lent (filled 9) (filled 148) (filled 4096)) (plainRefused refusals.Areas)
+    (lent (filled 9) (filled 148) (filled 4096))
+    ∷ plainLeaves (job 1 10 3) (lent (filled 9) (filled 149) (filled 4095)) (plainRefused refusals.Areas)
+    (lent (filled 9) (filled 149) (filled 4095))
     ∷ plainLeaves [] (lent (filled 3) [] []) (plainRefused refusals.Length) (lent (filled 3) [] [])
     -- all areas after a pair, and after its refusals: 9 before 10, a short working area, unequal trace areas
     ∷ pairLeaves (job 1 10 100) (wordBytes (state 1 1 0)) (pairLent (filled 13) (filled 13) (filled 4097))

@@ -6,7 +6,7 @@ use Prim.Native.Nat.{ℕ}
 use Prim.Native.String.{String, [] as none, _∷_ as _then_}
 use Prim.Native.Char.{code}
 use Rattle.rules.specs.declared.Stop.{Stop}
-use Rattle.rules.specs.declared.Stop.the-variants.{Finished, Spent, TraceFull}
+use Rattle.rules.specs.declared.Stop.the-variants.{Finished, Spent, TraceFull, OutsideFull}
 use Rattle.rules.specs.declared.Verdict.{Verdict}
 use Rattle.rules.specs.declared.Verdict.the-variants as verdicts
 use Rattle.rules.specs.declared.PairWord.{PairWord}
@@ -35,11 +35,13 @@ abbrev pub stopNumber : Stop → ℕ
 stopNumber Finished = 0
 stopNumber Spent = 1
 stopNumber TraceFull = 2
+stopNumber OutsideFull = 3
 
 abbrev pub stopWord : Stop → List ℕ
 stopWord Finished = text "finished"
 stopWord Spent = text "spent"
 stopWord TraceFull = text "trace full"
+stopWord OutsideFull = text "outside full"
 
 abbrev pub verdictNumber : Verdict → ℕ
 verdictNumber verdicts.Undecided = 0

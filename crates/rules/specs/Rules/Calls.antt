@@ -2,7 +2,7 @@
 -- Assumes nothing.
 use mathlib.Core.Bool.{Bool, true, false, _&&_}
 use mathlib.Core.List.{List, [], _∷_, _++_}
-use Prim.Native.Nat.{ℕ, _/_}
+use Prim.Native.Nat.{ℕ, zero, suc, _+_, _*_, _/_}
 use lib.Dec.{leb}
 use lib.ListN.{length, drop, replicate}
 use Rattle.location.specs.Sets.{empty}
@@ -13,8 +13,9 @@ use Rattle.rules.specs.declared.RunOutcome.the-variants as runs
 use Rattle.rules.specs.declared.RunAnswer.{RunAnswer}
 use Rattle.rules.specs.declared.PlainOutcome.the-variants as plains
 use Rattle.rules.specs.declared.PlainAnswer.{PlainAnswer}
+use Rattle.rules.specs.Rules.Limits.{maxEntries}
 use Rattle.rules.specs.Rules.Instructions.{Observation}
-use Rattle.rules.specs.Rules.Plain.{values}
+use Rattle.rules.specs.Rules.Plain.{State, Entry, values}
 use Rattle.rules.specs.Rules.Runs.{Job, Result, mispredictingRun, plainRun, verdict}
 use Rattle.rules.specs.Rules.JobFile.{Parsed, accepted, rejected, parse}
 
@@ -26,8 +27,8 @@ unfoldable pub traceWords : List Observation → List ℕ
 traceWords [] = []
 traceWords (o ∷ os) = observationWords o ++ traceWords os
 
--- "A trace area of 64-bit words, two an observation, an odd last word untouched; an end area of 16 + m words; a working area of
--- 4,096 words."
+-- "A trace area of 64-bit words, two an observation, an odd last word untouched"; "The end area grows to 16 + m + 129 words"; "a working
+-- area of 4,096 words".
 pub record Areas : Type 0 where
   pub trace : List ℕ
   pub end : List ℕ
@@ -41,23 +42,46 @@ lent trace ends work = record { trace = trace; end = ends; work = work }
 unfoldable pub room : List ℕ → ℕ
 room area = length area / 2
 
+-- n words: those of a list, "zeros after"
+unfoldable pub padded : ℕ → List ℕ → List ℕ
+padded zero ws = []
+padded (suc n) [] = 0 ∷ padded n []
+padded (suc n) (w ∷ ws) = w ∷ padded n ws
+
+-- "each entry's address and value side by side, in order of first store"
+unfoldable pub entryWords : List Entry → List ℕ
+entryWords [] = []
+entryWords (e ∷ es) = e .address ∷ e .word .value ∷ entryWords es
+
+-- the words of a table in the end area, 129: the count, and two for each of 64 entries
+abbrev pub tableSize : ℕ
+tableSize = 1 + 2 * maxEntries
+
+-- "the entry count, then each entry's address and value side by side, in order of first store, zeros after"
+unfoldable pub tableWords : List Entry → List ℕ
+tableWords es = padded tableSize (length es ∷ entryWords es)
+
+-- "registers then cells as they are at that moment", then the table
+unfoldable pub endWords : State → List ℕ
+endWords σ = values (σ .inside) ++ tableWords (σ .outside)
+
 abbrev pub workingWords : ℕ
 workingWords = 4096
 
--- "working or end area too short"
+-- "working or end area too short": "the area test of 10 uses the new length"
 unfoldable pub longEnough : Job → Areas → Bool
-longEnough job a = leb workingWords (length (a .work)) && leb (length (job .init)) (length (a .end))
+longEnough job a = leb workingWords (length (a .work)) && leb (length (job .init) + tableSize) (length (a .end))
 
 -- an area with these words from the front: "All other words keep their contents."
 unfoldable pub written : List ℕ → List ℕ → List ℕ
 written ws area = ws ++ drop (length ws) area
 
--- "After it, written observations stand from the front, the end area holds registers then cells as they are at that moment, and
--- the 4,096 working words are 0."
+-- "After it, written observations stand from the front, the end area holds registers then cells as they are at that moment" and the
+-- table, "and the 4,096 working words are 0."
 unfoldable pub areasAfter : Result → Areas → Areas
 areasAfter r a = record {
   trace = written (traceWords (r .gathered .trace)) (a .trace);
-  end = written (values (r .last .state)) (a .end);
+  end = written (endWords (r .last .state)) (a .end);
   work = written (replicate workingWords 0) (a .work);
 }
 

@@ -5,11 +5,11 @@
 use mathlib.Core.Path.{_≡_}
 use mathlib.Core.Bool.{true}
 use Prim.{⊥}
-use mathlib.Core.List.{List}
-use Prim.Native.Nat.{ℕ, _*_, _<_, _≤_}
+use mathlib.Core.List.{List, [], _∷_}
+use Prim.Native.Nat.{ℕ, zero, suc, _+_, _*_, _<_, _≤_}
 use lib.ListN.{length, getD, take, drop}
 use Rattle.location.specs.declared.LocationSet.{LocationSet}
-use Rattle.location.specs.Sets.{member}
+use Rattle.location.specs.Sets.{empty, member, subset}
 use Rattle.rules.specs.declared.Stop.the-variants.{Finished}
 use Rattle.rules.specs.declared.Verdict.{Verdict}
 use Rattle.rules.specs.declared.Verdict.the-variants.{Clean}
@@ -25,8 +25,10 @@ use Rattle.rules.specs.declared.PairWord.the-variants as words
 use Rattle.rules.specs.declared.PairAnswer.{PairAnswer}
 use Rattle.rules.specs.declared.PairAnswer.the-variants as pairs
 use Rattle.rules.specs.Rules.Instructions.{Observation}
-use Rattle.rules.specs.Rules.JobFile.{trailer, locations, stateOf, publicOf, wordsAt}
-use Rattle.rules.specs.Rules.Calls.{Areas, Called, traceWords, workingWords, runCall, plainCall}
+use Rattle.rules.specs.Rules.Plain.{Entry}
+use Rattle.rules.specs.Rules.Runs.{mispredictingRun}
+use Rattle.rules.specs.Rules.JobFile.{Parsed, accepted, rejected, parse, trailer, locations, stateOf, publicOf, wordsAt}
+use Rattle.rules.specs.Rules.Calls.{Areas, Called, traceWords, room, tableSize, tableWords, workingWords, runCall, plainCall}
 use Rattle.rules.specs.Rules.Pairs.{PairAreas}
 use Rattle.rules.specs.Rules.Strike.{strike}
 
@@ -66,9 +68,13 @@ traceOf f a = traceIn (runCall f a .answer) (runCall f a .areas)
 unfoldable pub plainTraceOf : List ℕ → Areas → List ℕ
 plainTraceOf f a = take (2 * plainObservationCount (plainCall f a .answer .outcome)) (plainCall f a .areas .trace)
 
--- the words of an end area that a call writes: "registers then cells"
+-- the words of an end area that a call writes: "registers then cells", and the table
 unfoldable pub endOf : List ℕ → List ℕ → List ℕ
-endOf f area = take (locations (trailer f)) area
+endOf f area = take (locations (trailer f) + tableSize) area
+
+-- the table alone
+unfoldable pub tableIn : List ℕ → List ℕ → List ℕ
+tableIn f area = take tableSize (drop (locations (trailer f)) area)
 
 -- ---- demand 2: "When a run finishes, striking out all from each outermost start to its rollback gives the plain run's trace, and
 -- the end states are equal." The plain run is "of the same job, in areas of the same lengths".
@@ -99,23 +105,49 @@ pub record SameButState (f g : List ℕ) : Type 0 where
 pub record AlikeOn (s : LocationSet) (xs ys : List ℕ) : Type 0 where
   pub same : (l : ℕ) → member s l ≡ true → getD xs l 0 ≡ getD ys l 0
 
--- the same answer (stop, observation count, steps, rollbacks, both sets and verdict), and the same trace
-pub record SameCall (r : RunAnswer) (after : Areas) (g : List ℕ) (a′ : Areas) : Type 0 where
+-- The entries of the table with which a run of the file f in the areas a ends: the table in its end area shows their addresses and
+-- values, and no area shows their sets. A refused job has none.
+abbrev pub entriesOf : Parsed → ℕ → List Entry
+entriesOf (rejected n) k = []
+entriesOf (accepted job) k = mispredictingRun job k .last .state .outside
+
+unfoldable pub remembered : List ℕ → Areas → List Entry
+remembered f a = entriesOf (parse f) (room (a .trace))
+
+-- the set of entry number i
+unfoldable pub entrySet : List Entry → ℕ → LocationSet
+entrySet [] i = empty
+entrySet (e ∷ es) zero = e .word .deps
+entrySet (e ∷ es) (suc i) = entrySet es i
+
+-- "remembered cells whose set lies in D then hold the same in both": a run ended with the entries es, which its table t shows, and another
+-- run with the table t′. The tables have the same addresses in the same order.
+pub record SameOutside (full : LocationSet) (es : List Entry) (t t′ : List ℕ) : Type 0 where
+  pub shown : t ≡ tableWords es
+  pub count : getD t 0 0 ≡ getD t′ 0 0
+  pub address : (i : ℕ) → getD t (1 + 2 * i) 0 ≡ getD t′ (1 + 2 * i) 0
+  pub value : (i : ℕ) → subset (entrySet es i) full ≡ true → getD t (2 + 2 * i) 0 ≡ getD t′ (2 + 2 * i) 0
+
+-- The same answer (stop, observation count, steps, rollbacks, both sets and verdict), the same trace, and outside the image the same
+-- addresses, with the same words where they rest on the reported set. The first run is of the file f in the areas a, with the answer r.
+pub record SameCall (f : List ℕ) (a : Areas) (r : RunAnswer) (after : Areas) (g : List ℕ) (a′ : Areas) : Type 0 where
   pub answer : r ≡ runCall g a′ .answer
   pub trace : traceIn r after ≡ traceOf g a′
+  pub outside : SameOutside (r .full) (remembered f a) (tableIn f (after .end)) (tableIn g (runCall g a′ .areas .end))
 
 -- "Wherever the run ends, finished or stopped, every second state alike to the first on the reported set (same routine, memory
 -- size, public list, window, budget, area lengths) gives the same whole trace, counts, stop, both sets and verdict. If the verdict
--- is clean, so does every state alike on the public locations." The run's answer is r, and `after` are the areas after it.
+-- is clean, so does every state alike on the public locations." The run's answer is r, and `after` are the areas after it. "demand 3 stands
+-- for these runs" with stores outside the image; both start with nothing there.
 pub record Demand3 (f : List ℕ) (a : Areas) (r : RunAnswer) (after : Areas) : Type 0 where
   pub reported : {n : Counts} {v : Verdict} → r .outcome ≡ runs.Ran n v
       → (g : List ℕ) (a′ : Areas) → SameButState f g → SameLengths a a′
       → AlikeOn (r .full) (stateOf (trailer f) f) (stateOf (trailer f) g)
-      → SameCall r after g a′
+      → SameCall f a r after g a′
   pub clean : {n : Counts} → r .outcome ≡ runs.Ran n Clean
       → (g : List ℕ) (a′ : Areas) → SameButState f g → SameLengths a a′
       → AlikeOn (publicOf (trailer f) f) (stateOf (trailer f) f) (stateOf (trailer f) g)
-      → SameCall r after g a′
+      → SameCall f a r after g a′
 
 -- ---- the pair of states
 -- "the job's state and a second one": the words of the second state's bytes
@@ -133,7 +165,7 @@ pub record SecondJob (f second g : List ℕ) : Type 0 where
 -- areas for a run of either job: as much room for the trace as the pair has, and no shortage
 pub record RunAreas (f : List ℕ) (a : PairAreas) (p : Areas) : Type 0 where
   pub trace : length (p .trace) ≡ length (a .first)
-  pub end : locations (trailer f) ≤ length (p .end)
+  pub end : locations (trailer f) + tableSize ≤ length (p .end)
   pub work : workingWords ≤ length (p .work)
 
 -- the plain runs of the two jobs have one trace; or two

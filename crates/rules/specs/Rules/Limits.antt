@@ -1,4 +1,4 @@
--- The limits of a job file, and the bytes of its parts.
+-- The limits of a job file and of a run, and the bytes of a file's parts.
 -- Assumes nothing.
 use Prim.Native.Nat.{ℕ}
 
@@ -21,6 +21,10 @@ maxBudget = 1000000
 -- "An expression is a byte with its token count, 1 to 16"
 abbrev pub maxTokens : ℕ
 maxTokens = 16
+
+-- F-4: "A store at m or above is now remembered, with its set, for up to 64 addresses"
+abbrev pub maxEntries : ℕ
+maxEntries = 64
 
 -- "16 registers", "8 bytes each"; "32 bytes of public list"; "a trailer of 16 bytes"
 abbrev pub registersSize : ℕ

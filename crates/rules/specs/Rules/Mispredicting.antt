@@ -1,7 +1,7 @@
 -- One step of the mispredicting run, after document 01's three rules, and one step of the plain run. The machine's frame (branches,
 -- windows, rollbacks) is the same for any type W of words; the steps are over words with their sets.
 -- Assumes nothing.
-use mathlib.Core.Bool.{Bool, _||_, cond}
+use mathlib.Core.Bool.{Bool, false, _||_, cond}
 use mathlib.Core.List.{List, [], _∷_}
 use Prim.Native.Nat.{ℕ, suc, _-_}
 use lib.Dec.{eqb, leb}
@@ -32,12 +32,14 @@ pub record MachineOf (W : Type 0) : Type 0 where
 abbrev pub Machine : Type 0
 Machine = MachineOf Tagged
 
--- the machine after a step, its observations, the set of what is observed, and 1 for a rollback
+-- the machine after a step, its observations, the set of what is observed, 1 for a rollback, and whether it is a store that needs one
+-- address too many
 pub record StepOf (W : Type 0) : Type 0 where
   pub next : MachineOf W
   pub obs : List Observation
   pub seen : LocationSet
   pub back : ℕ
+  pub overfull : Bool
 
 abbrev pub Step : Type 0
 Step = StepOf Tagged
@@ -62,6 +64,7 @@ stepWith code M i x = record {
   obs = x .obs;
   seen = x .seen;
   back = 0;
+  overfull = x .overfull;
 }
 
 -- Rule 3: "Any other instruction: as in the plain run; the top's window is lowered". With nothing open it is the plain step.
@@ -85,19 +88,22 @@ opening code M r l =
       obs = start (M .opened) ∷ pc (branchTo t next l) ∷ [];
       seen = t .deps;
       back = 0;
+      overfull = false;
     }
 
 -- rules 2 and 3: "beqz", and "any other instruction"
 unfoldable pub forward : Code → Machine → Instr → Step
 forward code M i = elim (branchView i) [ branching r l ↦ opening code M r l | other ↦ ordinary code M i ]
 
--- Rule 1: "restore the top's registers and memory, go to its true target, drop it." "Rollback restores sets too."
+-- Rule 1: "restore the top's registers and memory, go to its true target, drop it." "Rollback restores sets too."; "a rollback restores
+-- the table too".
 unfoldable pub rolling : {W : Type 0} → MachineOf W → BranchOf W → List (BranchOf W) → StepOf W
 rolling M b bs = record {
   next = record { state = b .saved; place = b .target; branches = bs; opened = M .opened };
   obs = rollback (b .id) ∷ pc (b .target) ∷ [];
   seen = empty;
   back = 1;
+  overfull = false;
 }
 
 -- "Top window 0, or END with a branch open"

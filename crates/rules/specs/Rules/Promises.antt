@@ -5,7 +5,8 @@
 --   plainly    demand 2: where a run finishes, its trace with each outermost wrong path struck out is the plain run's trace, and the
 --              end states are equal;
 --   secret     demand 3: a second state that is alike on the reported set (with a clean verdict: on the public list) gives the same
---              trace, counts, stop, sets and verdict;
+--              trace, counts, stop, sets and verdict, and remembers the same addresses outside the image, with the same values where
+--              their sets lie in the reported set;
 --   meaning    what each word on a pair says of the two traces and of the two plain runs.
 -- Assumes nothing.
 use mathlib.Core.List.{List}

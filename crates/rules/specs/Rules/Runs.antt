@@ -8,13 +8,13 @@ use lib.ListN.{length}
 use Rattle.location.specs.declared.LocationSet.{LocationSet}
 use Rattle.location.specs.Sets.{empty, union, subset}
 use Rattle.rules.specs.declared.Stop.{Stop}
-use Rattle.rules.specs.declared.Stop.the-variants.{Finished, Spent, TraceFull}
+use Rattle.rules.specs.declared.Stop.the-variants.{Finished, Spent, TraceFull, OutsideFull}
 use Rattle.rules.specs.declared.Verdict.{Verdict}
 use Rattle.rules.specs.declared.Verdict.the-variants as verdicts
 use Rattle.rules.specs.Rules.Instructions.{Observation}
-use Rattle.rules.specs.Rules.Plain.{Code, endPlace, ownFrom}
+use Rattle.rules.specs.Rules.Plain.{Code, endPlace, firstState}
 use Rattle.rules.specs.Rules.Mispredicting.{Branch, Machine, Step, step, plainStep}
-use Rattle.rules.specs.Rules.Loop.{Halt, ifRoom, Ended, loop}
+use Rattle.rules.specs.Rules.Loop.{Halt, proceed, halted, Ended, loop}
 
 -- What a run gathers: "A run's trace is the list of all its observations in order"; the steps made, the rollbacks among them,
 -- the full set D and the plain set.
@@ -44,6 +44,17 @@ note M s g = record {
   plain = gather (M .branches) (g .plain) (s .seen);
 }
 
+-- "That store's address set still joins D, and the plain set with nothing open.": of a store that stops the run; nothing else is counted,
+-- as the step is not made
+unfoldable pub noteUnmade : Machine → Step → Gathered → Gathered
+noteUnmade M s g = record {
+  trace = g .trace;
+  steps = g .steps;
+  rollbacks = g .rollbacks;
+  full = union (g .full) (s .seen);
+  plain = gather (M .branches) (g .plain) (s .seen);
+}
+
 -- "Finished: END with nothing open."
 unfoldable pub overOn : Code → ℕ → List Branch → Bool
 overOn code p [] = leb (endPlace code) p
@@ -56,11 +67,19 @@ over code M = overOn code (M .place) (M .branches)
 unfoldable pub fits : ℕ → Step → Gathered → Bool
 fits room s g = leb (length (g .trace) + length (s .obs)) room
 
-unfoldable pub halt : (Machine → Step) → ℕ → Machine → Gathered → Halt
-halt f room M g = ifRoom (fits room (f M) g)
+-- By whether the next step's observations fit, and whether it needs one address too many: "A run that would need a 65th address stops as
+-- "outside full", before that step; this is tried after "spent" and after "trace full"". What the run has gathered is g with the one
+-- stop, and h with the other.
+abbrev pub haltBy : {G : Type 0} → Bool → Bool → G → G → Halt G
+haltBy false overfull g h = halted TraceFull g
+haltBy true false g h = proceed
+haltBy true true g h = halted OutsideFull h
+
+unfoldable pub halt : (Machine → Step) → ℕ → Machine → Gathered → Halt Gathered
+halt f room M g = haltBy (fits room (f M) g) (f M .overfull) g (noteUnmade M (f M) g)
 
 -- A run by the step function f, of at most k steps more, with room for so many observations in all. "Otherwise the run stops
--- as "spent" when b steps are made": the loop tries finished, then spent, then trace full.
+-- as "spent" when b steps are made": the loop tries finished, then spent, then trace full, then outside full.
 unfoldable pub run : (Machine → Step) → Code → ℕ → ℕ → Machine → Gathered → Result
 run f code room k M g = loop (over code) (halt f room) (λ (N : Machine). f N .next) (λ (N : Machine) (h : Gathered). note N (f N) h) k M g
 
@@ -73,7 +92,7 @@ pub record Job : Type 0 where
 
 -- "Execution starts at label 0."
 unfoldable pub first : Job → Machine
-first job = record { state = ownFrom 0 (job .init); place = 0; branches = []; opened = 0 }
+first job = record { state = firstState (job .init); place = 0; branches = []; opened = 0 }
 
 unfoldable pub blank : Gathered
 blank = record { trace = []; steps = 0; rollbacks = 0; full = empty; plain = empty }
@@ -88,6 +107,7 @@ abbrev pub isFinished : Stop → Bool
 isFinished Finished = true
 isFinished Spent = false
 isFinished TraceFull = false
+isFinished OutsideFull = false
 
 -- "undecided if not finished; else clean if D lies within the public list; speculative if some location is in D but neither
 -- public nor in the plain set; else plain"

@@ -16,7 +16,7 @@ use Rattle.rules.specs.Rules.Plain.{State, at, Code, endPlace, fetch, br
 use Rattle.rules.specs.Rules.Mispredicting.{Branch, Machine, Step, remaining, lower, ordinary, newWindow, opening, forward, rolling, expired, stepOn, step}
 use Rattle.rules.specs.Rules.Runs.{gather, overOn, over}
 use Rattle.rules.specs.Theorems.StepLaws.{forward-both}
-use Rattle.rules.specs.Theorems.Alike.{Alike, agree-eval, agree-loadedFrom, agree-chosen, alike-put, alike-storedTo}
+use Rattle.rules.specs.Theorems.Alike.{Alike, agree-eval, agree-loadedFrom, agree-chosen, alike-put, alike-storedTo, same-storeOverfull}
 
 -- ---- one instruction: "D gathers the set of every observed address, jump value and branch register", so what is observed is
 -- the same where its set lies within D
@@ -25,6 +25,7 @@ record SameEffect (D : LocationSet) (x y : Effect) : Type 0 where
   place : x .place ≡ y .place
   obs : x .obs ≡ y .obs
   seen : x .seen ≡ y .seen
+  overfull : x .overfull ≡ y .overfull
 
 module _ (code : Code) {D : LocationSet} {σ τ : State} (h : Alike D σ τ) where
   same-value : (e : Expr) → Within (eval (at σ) e .deps) D → eval (at σ) e ≡ eval (at τ) e
@@ -32,9 +33,9 @@ module _ (code : Code) {D : LocationSet} {σ τ : State} (h : Alike D σ τ) whe
 
   same-exec : (p : ℕ) (i : Instr) → Within (exec code σ p i .seen) D → SameEffect D (exec code σ p i) (exec code τ p i)
   unfolding exec
-  same-exec p skip w = record { state = h; place = refl; obs = refl; seen = refl }
+  same-exec p skip w = record { state = h; place = refl; obs = refl; seen = refl; overfull = refl }
   same-exec p (assign r e) w = record
-      { state = alike-put r h (agree-eval (at σ) (at τ) (h .here) e); place = refl; obs = refl; seen = refl }
+      { state = alike-put r h (agree-eval (at σ) (at τ) (h .here) e); place = refl; obs = refl; seen = refl; overfull = refl }
   same-exec p (load r e) w =
       let q = same-value e w in
       record {
@@ -42,6 +43,7 @@ module _ (code : Code) {D : LocationSet} {σ τ : State} (h : Alike D σ τ) whe
         place = refl;
         obs = ap (λ (t : Tagged). loaded (t .value) ∷ []) q;
         seen = ap (λ (t : Tagged). t .deps) q;
+        overfull = refl;
       }
   same-exec p (store r e) w =
       let q = same-value e w in
@@ -50,6 +52,7 @@ module _ (code : Code) {D : LocationSet} {σ τ : State} (h : Alike D σ τ) whe
         place = refl;
         obs = ap (λ (t : Tagged). stored (t .value) ∷ []) q;
         seen = ap (λ (t : Tagged). t .deps) q;
+        overfull = rw (← q) (same-storeOverfull code h (eval (at σ) e));
       }
   same-exec p (jmp e) w =
       let q = same-value e w in
@@ -58,6 +61,7 @@ module _ (code : Code) {D : LocationSet} {σ τ : State} (h : Alike D σ τ) whe
         place = ap (λ (t : Tagged). min (t .value) (endPlace code)) q;
         obs = ap (λ (t : Tagged). pc (min (t .value) (endPlace code)) ∷ []) q;
         seen = ap (λ (t : Tagged). t .deps) q;
+        overfull = refl;
       }
   same-exec p (beqz r l) w =
       let q = h .here r .left w in
@@ -66,14 +70,16 @@ module _ (code : Code) {D : LocationSet} {σ τ : State} (h : Alike D σ τ) whe
         place = ap (λ (t : Tagged). branchTo t l (suc p)) q;
         obs = ap (λ (t : Tagged). pc (branchTo t l (suc p)) ∷ []) q;
         seen = ap (λ (t : Tagged). t .deps) q;
+        overfull = refl;
       }
   same-exec p (cassign r c e) w = record {
     state = alike-put r h (agree-chosen (agree-eval (at σ) (at τ) (h .here) c) (agree-eval (at σ) (at τ) (h .here) e) (h .here r));
     place = refl;
     obs = refl;
     seen = refl;
+    overfull = refl;
   }
-  same-exec p spbarr w = record { state = h; place = refl; obs = refl; seen = refl }
+  same-exec p spbarr w = record { state = h; place = refl; obs = refl; seen = refl; overfull = refl }
 
 -- how many observations an instruction makes does not rest on the state
 count-exec : (code : Code) (σ τ : State) (p q : ℕ) (i : Instr) → length (exec code σ p i .obs) ≡ length (exec code τ q i .obs)
@@ -109,6 +115,7 @@ pub record SameStep (D : LocationSet) (s t : Step) : Type 0 where
   pub obs : s .obs ≡ t .obs
   pub seen : s .seen ≡ t .seen
   pub back : s .back ≡ t .back
+  pub overfull : s .overfull ≡ t .overfull
 
 module _ (code : Code) {D : LocationSet} where
   same-lower : (i : Instr) {xs ys : List Branch} → SameBranches D xs ys → SameBranches D (lower code i xs) (lower code i ys)
@@ -143,6 +150,7 @@ module _ (code : Code) {D : LocationSet} where
           obs = x .obs;
           seen = x .seen;
           back = refl;
+          overfull = x .overfull;
         }
 
     same-opening : (r l : ℕ) → Within (opening code M r l .seen) D → SameStep D (opening code M r l) (opening code N r l)
@@ -162,6 +170,7 @@ module _ (code : Code) {D : LocationSet} where
           obs = ap₂ (λ (i p : ℕ). start i ∷ pc p ∷ []) (h .opened) wrong;
           seen = ap (λ (t : Tagged). t .deps) q;
           back = refl;
+          overfull = refl;
         }
 
     same-forward : (i : Instr) → Within (forward code M i .seen) D → SameStep D (forward code M i) (forward code N i)
@@ -183,6 +192,7 @@ module _ (code : Code) {D : LocationSet} where
       obs = ap₂ (λ (i p : ℕ). rollback i ∷ pc p ∷ []) (b .id) (b .target);
       seen = refl;
       back = refl;
+      overfull = refl;
     }
 
     pub same-over : over code M ≡ over code N

@@ -1,22 +1,23 @@
 -- Demand 2 of the calls on job files: where a run finishes, the plain run of the same file in areas of the same lengths finishes,
--- has the struck-out trace, leaves the same registers and cells, and reports the same plain set.
+-- has the struck-out trace, leaves the same registers, cells and table, and reports the same plain set.
 -- Assumes nothing.
 use mathlib.Core.Path.{_≡_, sym, ap, _∙_}
 use mathlib.Core.List.{List}
-use Prim.Native.Nat.{ℕ}
+use Prim.Native.Nat.{ℕ, _+_}
 use lib.ListN.{length}
 use lib.Seq.{take-at}
 use Rattle.rules.specs.declared.Stop.the-variants.{Finished}
 use Rattle.rules.specs.declared.Verdict.{Verdict}
 use Rattle.rules.specs.declared.Counts.{Counts}
 use Rattle.rules.specs.declared.RunOutcome.the-variants as runs
-use Rattle.rules.specs.Rules.Plain.{State, values}
+use Rattle.rules.specs.Rules.Plain.{State}
 use Rattle.rules.specs.Rules.Runs.{Result, verdict}
 use Rattle.rules.specs.Rules.JobFile.{trailer, locations}
-use Rattle.rules.specs.Rules.Calls.{traceWords, Areas, room, written, areasAfter, counts, runReport, runCall, plainReport}
+use Rattle.rules.specs.Rules.Calls.{traceWords, Areas, room, tableSize, endWords, written, areasAfter, counts, runReport, runCall, plainReport}
 use Rattle.rules.specs.Rules.Demands.{SameLengths, traceOf, endOf, PlainMatch, Demand2}
 use Rattle.rules.specs.Theorems.PlainRun.{PlainMatches, demand2}
-use Rattle.rules.specs.Theorems.Sizes.{values-length, plain-length}
+use Rattle.rules.specs.Theorems.Sizes.{end-length}
+use Rattle.rules.specs.Theorems.EveryState.{plain-length}
 use Rattle.rules.specs.Theorems.JobLaws.{passed, job-init, length-stateOf}
 use Rattle.rules.specs.Theorems.CallLaws.{Runs, result, call-runs, trace-runs, plainResult, plain-call-runs, plain-trace-runs, view, runs-of, same-room, enough-same}
 
@@ -34,17 +35,17 @@ module _ {f : List ℕ} {a a′ : Areas} (r : Runs f a) (h : SameLengths a a′)
   unfolding other
   run-matches e = rw (same-room h) (demand2 (r .job) (room (a .trace)) e)
 
-  -- both end areas begin with the values of one state
-  front : (σ : State) (area : List ℕ) → length σ ≡ length (r .job .init) → endOf f (written (values σ) area) ≡ values σ
+  -- both end areas begin with the words of one state
+  front : (σ : State) (area : List ℕ) → length (σ .inside) ≡ length (r .job .init) → endOf f (written (endWords σ) area) ≡ endWords σ
   unfolding endOf written
   front σ area e =
-      take-at (values σ) _ (locations (trailer f))
-      (values-length σ ∙ e ∙ ap length (job-init (passed f (r .job) (r .parsed))) ∙ length-stateOf (trailer f) f)
+      let n = e ∙ ap length (job-init (passed f (r .job) (r .parsed))) ∙ length-stateOf (trailer f) f in
+      take-at (endWords σ) _ (locations (trailer f) + tableSize) (end-length σ ∙ ap (λ (k : ℕ). k + tableSize) n)
 
   matches : PlainMatches (result r) plain → PlainMatch f (runCall f a .answer) (runCall f a .areas) a′
   unfolding plainReport areasAfter runReport other
   matches m =
-      let size : length (plain .last .state) ≡ length (r .job .init) = plain-length (r .job) (room (a′ .trace)) in
+      let size : length (plain .last .state .inside) ≡ length (r .job .init) = plain-length (r .job) (room (a′ .trace)) in
       record {
         counts = record { stop = plain .stop; observations = length (plain .gathered .trace); steps = plain .gathered .steps };
         finishes = rw (plain-call-runs other);

@@ -1,5 +1,6 @@
 -- Demand 3 of the calls on job files: a second file that differs only in the state's bytes, with a state alike in the reported
--- set, in areas of the same lengths, gets the same answer and has the same words written to its trace area.
+-- set, in areas of the same lengths, gets the same answer and has the same words written to its trace area; the tables have the same
+-- addresses, and the same values where an entry's set lies within the reported one.
 -- Assumes nothing.
 use mathlib.Core.Path.{_≡_, sym, ap, _∙_}
 use mathlib.Core.List.{List}
@@ -10,17 +11,19 @@ use Rattle.rules.specs.declared.Verdict.the-variants as verdicts
 use Rattle.rules.specs.declared.Counts.{Counts}
 use Rattle.rules.specs.declared.RunOutcome.the-variants as runs
 use Rattle.rules.specs.Rules.Runs.{Job, Result, mispredictingRun, verdict}
-use Rattle.rules.specs.Rules.JobFile.{accepted, parse, trailer, stateOf, publicOf}
-use Rattle.rules.specs.Rules.Calls.{traceWords, Areas, room, counts, runReport, runCall}
+use Rattle.rules.specs.Rules.JobFile.{accepted, parse, trailer, locations, stateOf, publicOf}
+use Rattle.rules.specs.Rules.Calls.{traceWords, Areas, room, tableWords, areasAfter, counts, runReport, runCall}
 use Rattle.rules.specs.Rules.Pairs.{withState}
-use Rattle.rules.specs.Rules.Demands.{SameLengths, traceIn, traceOf, SameButState, AlikeOn, SameCall, Demand3}
+use Rattle.rules.specs.Rules.Demands.{SameLengths, traceIn, traceOf, tableIn, SameButState, AlikeOn, remembered, SameOutside, SameCall, Demand3}
 use Rattle.rules.specs.Theorems.Secrecy.{SameReport, demand3, demand3-clean}
 use Rattle.rules.specs.Theorems.JobLaws.{passed, job-init, job-public, init-most, length-stateOf, parse-other}
+use Rattle.rules.specs.Theorems.EveryState.{mispredicting-length}
+use Rattle.rules.specs.Theorems.Tables.{same-tables, table-in}
 use Rattle.rules.specs.Theorems.CallLaws.{Runs, result, call-runs, trace-runs, view, runs-of, same-room, same-enough}
 
 -- ---- two calls
 abbrev SameCalls : List ℕ → Areas → List ℕ → Areas → Type 0
-SameCalls f a g a′ = SameCall (runCall f a .answer) (runCall f a .areas) g a′
+SameCalls f a g a′ = SameCall f a (runCall f a .answer) (runCall f a .areas) g a′
 
 -- the same set and the same words, written otherwise
 alike-as : {s s′ : LocationSet} {xs xs′ ys : List ℕ} → s ≡ s′ → xs ≡ xs′ → AlikeOn s′ xs′ ys → AlikeOn s xs ys
@@ -39,6 +42,17 @@ same-answer x = λ i. record {
   plain = x .plain i;
 }
 
+-- the table that a call leaves, and the entries that it shows
+table-runs : {f : List ℕ} {a : Areas} (r : Runs f a) → tableIn f (runCall f a .areas .end) ≡ tableWords (result r .last .state .outside)
+unfolding areasAfter
+table-runs {f} {a} r =
+    let n = ap length (job-init (passed f (r .job) (r .parsed))) ∙ length-stateOf (trailer f) f in
+    rw (call-runs r) (table-in f (result r .last .state) (a .end) (mispredicting-length (r .job) (room (a .trace)) ∙ n))
+
+remembered-runs : {f : List ℕ} {a : Areas} (r : Runs f a) → remembered f a ≡ result r .last .state .outside
+unfolding remembered
+remembered-runs r = rw (r .parsed)
+
 module _ {f g : List ℕ} {a a′ : Areas} (r : Runs f a) (s : SameButState f g) (h : SameLengths a a′) where
   abbrev other : Job
   other = withState (r .job) (stateOf (trailer f) g)
@@ -51,10 +65,11 @@ module _ {f g : List ℕ} {a a′ : Areas} (r : Runs f a) (s : SameButState f g)
   }
 
   same-call : SameReport (r .job) other (result r) (mispredictingRun other (room (a .trace))) → SameCalls f a g a′
-  unfolding other-runs traceIn traceOf
+  unfolding other-runs traceIn traceOf runReport
   same-call x = record {
     answer = rw (call-runs r, call-runs other-runs, same-room h) (same-answer x);
     trace = rw (trace-runs r, trace-runs other-runs, same-room h) (ap traceWords (x .trace));
+    outside = rw (table-runs r, table-runs other-runs, remembered-runs r, call-runs r, same-room h) (same-tables (x .outside));
   }
 
   -- states alike in the reported set

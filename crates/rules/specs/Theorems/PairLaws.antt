@@ -14,7 +14,7 @@ use Rattle.location.specs.declared.LocationSet.{LocationSet}
 use Rattle.location.specs.Sets.{member}
 use Rattle.location.specs.SetLaws.{and-left, and-right}
 use Rattle.rules.specs.declared.Stop.{Stop}
-use Rattle.rules.specs.declared.Stop.the-variants.{Finished, Spent, TraceFull}
+use Rattle.rules.specs.declared.Stop.the-variants.{Finished, Spent, TraceFull, OutsideFull}
 use Rattle.rules.specs.declared.PairWord.{PairWord}
 use Rattle.rules.specs.declared.PairWord.the-variants as words
 use Rattle.rules.specs.declared.Refusal.{Refusal}
@@ -25,7 +25,7 @@ use Rattle.rules.specs.Rules.Instructions.{Observation}
 use Rattle.rules.specs.Rules.Runs.{Job, Result, mispredictingRun, plainRun, isFinished}
 use Rattle.rules.specs.Rules.Answers.{pairRefusal}
 use Rattle.rules.specs.Rules.JobFile.{Parsed, accepted, rejected, parse, trailer, locations, wordsAt}
-use Rattle.rules.specs.Rules.Calls.{Areas, traceWords, room, workingWords, written, counts, longEnough}
+use Rattle.rules.specs.Rules.Calls.{Areas, traceWords, room, tableSize, workingWords, written, counts, longEnough}
 use Rattle.rules.specs.Rules.Pairs.{withState, alikeFrom, sameWords, sameTrace, firstThatFits, pairWord, PairAreas, pairAfter, pairRefused, secondFits, pairFits, pairAccepted, pairParsed, pairCall}
 use Rattle.rules.specs.Rules.Demands.{AlikeOn, plainTraceOf, Unaltered, secondState, AlikePublic, SecondJob, RunAreas, SamePlain, OtherPlain, BothFinished, SameTraces, Means, PairMeaning}
 use Rattle.rules.specs.Theorems.JobLaws.{passed, job-init, job-public, init-locations, length-wordsAt, parse-other}
@@ -109,7 +109,7 @@ module _ {f : List ℕ} {a : PairAreas} {p : Areas} (h : RunAreas f a p) where
   long-enough job e =
       let w = h .work in
       let n = h .end in
-      rw (le-leb workingWords (length (p .work)) w, le-leb (length (job .init)) (length (p .end)) (omega arith))
+      rw (le-leb workingWords (length (p .work)) w, le-leb (length (job .init) + tableSize) (length (p .end)) (omega arith))
 
   pub run-room : room (p .trace) ≡ room (a .first)
   unfolding room
@@ -126,6 +126,7 @@ pub finished-stop : (x : Stop) → isFinished x ≡ true → x ≡ Finished
 finished-stop Finished e = refl
 finished-stop Spent e = absurd (true≢false (sym e))
 finished-stop TraceFull e = absurd (true≢false (sym e))
+finished-stop OutsideFull e = absurd (true≢false (sym e))
 
 module _ {f second : List ℕ} {a : PairAreas} (r : Pairs f second a) where
   abbrev vs : List ℕ

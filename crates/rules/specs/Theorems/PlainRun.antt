@@ -14,14 +14,14 @@ use lib.ListN.{length, length-append}
 use borrow.Author.Tests.{leb-true, le-leb, eq-eqb, ne-eqb}
 use Rattle.location.specs.declared.LocationSet.{LocationSet}
 use Rattle.location.specs.Sets.{registerLocation, union}
-use Rattle.rules.specs.declared.Stop.the-variants.{Finished, Spent, TraceFull}
+use Rattle.rules.specs.declared.Stop.the-variants.{Finished, Spent, TraceFull, OutsideFull}
 use Rattle.rules.specs.Rules.Instructions.{Instr, skip, assign, load, store, jmp, beqz, cassign, spbarr, Observation, rollback, pc}
 use Rattle.rules.specs.Rules.Plain.{State, at, Code, fetch, branchTo, exec}
 use Rattle.rules.specs.Rules.Mispredicting.{Branch, Machine, Step, lower, ordinary, opening, forward, rolling, step, plainStep}
 use Rattle.rules.specs.Rules.Loop.{ended}
 use Rattle.rules.specs.Rules.Runs.{Gathered, Result, gather, note, overOn, over, fits, run, Job, first, blank, mispredictingRun, plainRun}
 use Rattle.rules.specs.Rules.Strike.{strike, strikeTo}
-use Rattle.rules.specs.Theorems.RunLaws.{run-over, run-step, run-ind}
+use Rattle.rules.specs.Theorems.RunLaws.{Makes, run-over, run-step, run-ind}
 use Rattle.rules.specs.Theorems.StepLaws.{machineWith, branchWith, forward-cases, step-empty, step-open}
 
 -- ---- the simulation relation
@@ -213,7 +213,7 @@ module _ (code : Code) where
 
     -- the plain step of x is made beside the step s
     record Beside (room : ℕ) (x : Instr) (s : Step) : Type 0 where
-      fit : fits room (ordinary code (machineWith σ p [] n′) x) q ≡ true
+      makes : Makes room (ordinary code (machineWith σ p [] n′) x) q
       simulates : (let N = machineWith σ p [] n′ in let u = ordinary code N x in
           Simulates (s .next) (note (machineWith σ p [] n) s g) (u .next) (note N u q))
 
@@ -221,35 +221,41 @@ module _ (code : Code) where
         → leb (length (q .trace) + k′) room ≡ true
     fits-less room k k′ h e = le-leb (length (q .trace) + k′) room (omega (arith, leb-true (length (g .trace) + k) room e, a .shorter))
 
-    beside-ordinary : (room : ℕ) (x : Instr) → fits room (ordinary code (machineWith σ p [] n) x) g ≡ true
+    beside-ordinary : (room : ℕ) (x : Instr) → Makes room (ordinary code (machineWith σ p [] n) x) g
         → Beside room x (ordinary code (machineWith σ p [] n) x)
     unfolding fits ordinary
-    beside-ordinary room x e = record { fit = fits-less room _ _ (le-refl _) e; simulates = closed-ordinary x }
+    beside-ordinary room x e = record {
+      makes = record { fit = fits-less room _ _ (le-refl _) (e .fit); storable = e .storable };
+      simulates = closed-ordinary x;
+    }
 
-    beside-opening : (room r l : ℕ) → fits room (opening code (machineWith σ p [] n) r l) g ≡ true
+    beside-opening : (room r l : ℕ) → Makes room (opening code (machineWith σ p [] n) r l) g
         → Beside room (beqz r l) (opening code (machineWith σ p [] n) r l)
     unfolding fits ordinary opening exec
-    beside-opening room r l e = record { fit = fits-less room 2 1 (omega arith) e; simulates = closed-opening r l }
+    beside-opening room r l e = record {
+      makes = record { fit = fits-less room 2 1 (omega arith) (e .fit); storable = refl };
+      simulates = closed-opening r l;
+    }
 
-    closed-forward : (room : ℕ) (x : Instr) → fits room (forward code (machineWith σ p [] n) x) g ≡ true
+    closed-forward : (room : ℕ) (x : Instr) → Makes room (forward code (machineWith σ p [] n) x) g
         → Beside room x (forward code (machineWith σ p [] n) x)
     closed-forward room =
-        forward-cases code (machineWith σ p [] n) (λ x s. fits room s g ≡ true → Beside room x s)
+        forward-cases code (machineWith σ p [] n) (λ x s. Makes room s g → Beside room x s)
         (λ x e. beside-ordinary room x) (beside-opening room)
 
   -- ---- one step: the plain machine waits, or makes a step of its own
   data Simulated (room : ℕ) (M : Machine) (g : Gathered) (N : Machine) (q : Gathered) : Type 0 where
     waits : Waits M g N q (step code M) → Simulated room M g N q
-    steps : over code N ≡ false → fits room (plainStep code N) q ≡ true
+    steps : over code N ≡ false → Makes room (plainStep code N) q
         → Simulates (step code M .next) (note M (step code M) g) (plainStep code N .next) (note N (plainStep code N) q)
         → Simulated room M g N q
 
-  simulated : (room : ℕ) {M N : Machine} {g q : Gathered} → over code M ≡ false → fits room (step code M) g ≡ true
+  simulated : (room : ℕ) {M N : Machine} {g q : Gathered} → over code M ≡ false → Makes room (step code M) g
       → Simulates M g N q → Simulated room M g N q
   unfolding plainStep over overOn
   simulated room {g = g} e f (nothing-open {σ = σ} {p = p} {n = n} {n′ = n′} a) =
       let b = closed-forward σ p n n′ a room (fetch code p) (rw (step-empty code σ p n) at f) in
-      steps e (b .fit) (rw (step-empty code σ p n) (b .simulates))
+      steps e (b .makes) (rw (step-empty code σ p n) (b .simulates))
   simulated room {g = g} {q = q} e f (branch-open {σ = σ} {τ = τ} {i = i} {p = p} {t = t} {n = n} {n′ = n′} (bottom {v = v}) lt a) =
       let M = machineWith τ t (branchWith i σ p v ∷ []) n in
       waits (step-open code τ t n (branchWith i σ p v) [] (Waits M g (machineWith σ p [] n′) q) (rolling-bottom σ τ t n n′ lt a v)
@@ -276,6 +282,9 @@ spent≢finished e = let z : _≡_ {A = ℕ} 0 1 = cc in omega arith
 full≢finished : TraceFull ≢ Finished
 full≢finished e = let z : _≡_ {A = ℕ} 0 1 = cc in omega arith
 
+outside≢finished : OutsideFull ≢ Finished
+outside≢finished e = let z : _≡_ {A = ℕ} 0 1 = cc in omega arith
+
 module _ (code : Code) (room : ℕ) where
   -- a plain run of at least as many steps, from any machine that stands beside M
   abbrev Matched : ℕ → Machine → Gathered → Result → Type 0
@@ -299,7 +308,7 @@ module _ (code : Code) (room : ℕ) where
       rw (run-over (plainStep code) code room k′ (machineWith σ p [] n′) q e) (closed-end σ p n n′ a)
   at-end k M g e d k′ N q le (branch-open {t = t} o lt a) = absurd (true≢false (sym e ∙ bottom-over code t o))
 
-  at-step : (k : ℕ) (M : Machine) (g : Gathered) → over code M ≡ false → fits room (step code M) g ≡ true
+  at-step : (k : ℕ) (M : Machine) (g : Gathered) → over code M ≡ false → Makes room (step code M) g
       → (let M′ = step code M .next in let g′ = note M (step code M) g in
       Matched k M′ g′ (run (step code) code room k M′ g′) → Matched (suc k) M g (run (step code) code room k M′ g′))
   at-step k M g e f ih d k′ N q le h = go k′ le (simulated code room e f h)
@@ -320,6 +329,7 @@ module _ (code : Code) (room : ℕ) where
       run-ind (step code) code room Matched at-end
       (λ M g e d k′ N q le h. absurd (spent≢finished d))
       (λ k M g e f d k′ N q le h. absurd (full≢finished d))
+      (λ k M g e f o d k′ N q le h. absurd (outside≢finished d))
       at-step
 
 -- Demand 2: "When a run finishes, striking out all from each outermost start to its rollback gives the plain run's trace, and the end

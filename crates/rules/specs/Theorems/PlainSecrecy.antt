@@ -10,7 +10,7 @@ use Rattle.location.specs.SetLaws.{Within, within-refl}
 use Rattle.rules.specs.Rules.Plain.{Code, fetch}
 use Rattle.rules.specs.Rules.Mispredicting.{Machine, Step, lower, ordinary, plainStep}
 use Rattle.rules.specs.Rules.Loop.{ended}
-use Rattle.rules.specs.Rules.Runs.{Gathered, gather, note, run, Job, first, blank, plainRun}
+use Rattle.rules.specs.Rules.Runs.{Gathered, gather, note, noteUnmade, run, Job, first, blank, plainRun}
 use Rattle.rules.specs.Rules.Pairs.{withState}
 use Rattle.rules.specs.Rules.Demands.{AlikeOn}
 use Rattle.rules.specs.Theorems.RunLaws.{run-ind}
@@ -29,13 +29,18 @@ module _ (code : Code) where
   unfolding note gather
   closed-gather M s g b e = rw (b, e)
 
+  closed-unmade : (M : Machine) (s : Step) (g : Gathered) → M .branches ≡ [] → g .full ≡ g .plain
+      → noteUnmade M s g .full ≡ noteUnmade M s g .plain
+  unfolding noteUnmade gather
+  closed-unmade M s g b e = rw (b, e)
+
   full-is-plain : (room k : ℕ) (M : Machine) (g : Gathered) → M .branches ≡ [] → g .full ≡ g .plain
       → run (plainStep code) code room k M g .gathered .full ≡ run (plainStep code) code room k M g .gathered .plain
   unfolding ended
   full-is-plain room =
       run-ind (plainStep code) code room
       (λ k M g r. M .branches ≡ [] → g .full ≡ g .plain → r .gathered .full ≡ r .gathered .plain)
-      (λ k M g o b e. e) (λ M g o b e. e) (λ k M g o f b e. e)
+      (λ k M g o b e. e) (λ M g o b e. e) (λ k M g o f b e. e) (λ k M g o f x b e. closed-unmade M (plainStep code M) g b e)
       (λ k M g o f p b e. p (stays-closed M b) (closed-gather M (plainStep code M) g b e))
 
 pub plain-full : (job : Job) (room : ℕ) → plainRun job room .gathered .full ≡ plainRun job room .gathered .plain

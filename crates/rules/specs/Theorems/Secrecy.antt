@@ -1,5 +1,5 @@
 -- Demand 3 of the definitions: two runs of one job, whose states are alike in the set D that the first run reports, have the same
--- trace, steps, rollbacks, stop, sets and verdict, finished or not.
+-- trace, steps, rollbacks, stop, sets and verdict, finished or not, and outside the image the same addresses with words that agree.
 -- Assumes nothing.
 use mathlib.Core.Path.{_≡_, refl, sym, ap, ap₂, _∙_}
 use mathlib.Core.Bool.{Bool, true, false, not, cond}
@@ -15,18 +15,18 @@ use Rattle.location.specs.declared.LocationSet.{LocationSet}
 use Rattle.location.specs.Sets.{empty, single, union, subset}
 use Rattle.location.specs.SetLaws.{Within, within-refl, within-trans, union-within-right, subset-within, member-single}
 use Rattle.rules.specs.declared.Stop.{Stop}
-use Rattle.rules.specs.declared.Stop.the-variants.{Finished, Spent, TraceFull}
+use Rattle.rules.specs.declared.Stop.the-variants.{Finished, Spent, TraceFull, OutsideFull}
 use Rattle.rules.specs.declared.Verdict.the-variants as verdicts
 use Rattle.rules.specs.Rules.Expressions.{tagged}
-use Rattle.rules.specs.Rules.Plain.{at, ownFrom, Code}
+use Rattle.rules.specs.Rules.Plain.{at, ownFrom, firstState, Code}
 use Rattle.rules.specs.Rules.Mispredicting.{Machine, Step, step}
 use Rattle.rules.specs.Rules.Loop.{ended}
-use Rattle.rules.specs.Rules.Runs.{Gathered, Result, note, fits, run, Job, first, blank, mispredictingRun, isFinished, judge, verdict}
+use Rattle.rules.specs.Rules.Runs.{Gathered, Result, note, noteUnmade, fits, run, Job, first, blank, mispredictingRun, isFinished, judge, verdict}
 use Rattle.rules.specs.Rules.Pairs.{withState}
 use Rattle.rules.specs.Rules.Demands.{AlikeOn}
-use Rattle.rules.specs.Theorems.RunLaws.{run-over, run-spent, run-full, run-step, run-ind, full-grows}
+use Rattle.rules.specs.Theorems.RunLaws.{run-over, run-spent, run-full, run-outside, run-step, run-ind, full-grows}
 use Rattle.rules.specs.Theorems.Sizes.{own-length}
-use Rattle.rules.specs.Theorems.Alike.{Agree, Alike, agree-refl}
+use Rattle.rules.specs.Theorems.Alike.{Agree, AlikeOutside, none as nothing-outside, Alike, agree-refl}
 use Rattle.rules.specs.Theorems.AlikeSteps.{none, Same, SameStep, same-over, same-gather, same-step, count-step}
 
 -- ---- runs: "Demand 3 compares two whole runs."
@@ -47,6 +47,15 @@ module _ (f : Machine → Step) (code : Code) (room : ℕ) (D : LocationSet)
   same-note : {M N : Machine} {s t : Step} (g : Gathered) → Same D M N → SameStep D s t → note M s g ≡ note N t g
   unfolding note
   same-note {M} {N} {s} {t} g h x = rw (x .obs, x .seen, x .back, same-gather code (g .plain) (t .seen) (h .branches))
+
+  same-unmade : {M N : Machine} {s t : Step} (g : Gathered) → Same D M N → SameStep D s t → noteUnmade M s g ≡ noteUnmade N t g
+  unfolding noteUnmade
+  same-unmade {M} {N} {s} {t} g h x = rw (x .seen, same-gather code (g .plain) (t .seen) (h .branches))
+
+  -- the set of a store that stops the run has joined D
+  unmade-within : (M : Machine) (g : Gathered) → Within (noteUnmade M (f M) g .full) D → Within (f M .seen) D
+  unfolding noteUnmade
+  unmade-within M g w = union-within-right (g .full) (f M .seen) w
 
   seen-within : (M : Machine) (g : Gathered) → Within (note M (f M) g .full) D → Within (f M .seen) D
   unfolding note
@@ -76,38 +85,46 @@ module _ (f : Machine → Step) (code : Code) (room : ℕ) (D : LocationSet)
       (λ M g e N h w. rw (run-spent f code room N g (sym (same-over code h) ∙ e)) (same-ended Spent g h))
       (λ k M g e x N h w.
       rw (run-full f code room k N g (sym (same-over code h) ∙ e) (sym (same-fits g h) ∙ x)) (same-ended TraceFull g h))
+      (λ k M g e x o N h w.
+      let s = same M N h (unmade-within M g (unfold ended in w)) in
+      rw (run-outside f code room k N g (sym (same-over code h) ∙ e) (sym (same-fits g h) ∙ x) (sym (s .overfull) ∙ o), ← same-unmade g h s)
+      (same-ended OutsideFull (noteUnmade M (f M) g) h))
       (λ k M g e x ih N h w.
-      rw (run-step f code room k N g (sym (same-over code h) ∙ e) (sym (same-fits g h) ∙ x)) (follows-step k M g ih N h w))
+      let s = same M N h (seen-within M g (within-trans (full-grows f code room k (f M .next) (note M (f M) g)) w)) in
+      rw (run-step f code room k N g (sym (same-over code h) ∙ e)
+      (record { fit = sym (same-fits g h) ∙ x .fit; storable = sym (s .overfull) ∙ x .storable }))
+      (follows-step k M g ih N h w))
 
 -- ---- the start: "Each register and cell carries a set of locations, at first itself alone."
-own-at : (i : ℕ) (vs : List ℕ) (l : ℕ) → l < length vs → at (ownFrom i vs) l ≡ tagged (getD vs l 0) (single (i + l))
-unfolding ownFrom at
+own-at : (i : ℕ) (vs : List ℕ) (l : ℕ) → l < length vs → getD (ownFrom i vs) l (tagged 0 empty) ≡ tagged (getD vs l 0) (single (i + l))
+unfolding ownFrom
 own-at i [] l h = absurd (omega arith)
 own-at i (v ∷ vs) zero h = rw (add-zero i)
 own-at i (v ∷ vs) (suc l) h = own-at (suc i) vs l (omega arith) ∙ ap (λ (n : ℕ). tagged (getD vs l 0) (single n)) (omega arith)
 
-own-out : (vs : List ℕ) (l : ℕ) → length vs ≤ l → at (ownFrom 0 vs) l ≡ tagged 0 empty
-unfolding at
+own-out : (vs : List ℕ) (l : ℕ) → length vs ≤ l → getD (ownFrom 0 vs) l (tagged 0 empty) ≡ tagged 0 empty
 own-out vs l h = List·getD-eq-default (ownFrom 0 vs) (tagged 0 empty) (rw (own-length 0 vs) h)
 
 module _ (D : LocationSet) (xs ys : List ℕ) (bound : length xs ≤ 256) (size : length xs ≡ length ys) (h : AlikeOn D xs ys) where
-  own-agree : (l : ℕ) → Dec (l < length xs) → Agree D (at (ownFrom 0 xs) l) (at (ownFrom 0 ys) l)
+  own-agree : (l : ℕ) → Dec (l < length xs) → Agree D (getD (ownFrom 0 xs) l (tagged 0 empty)) (getD (ownFrom 0 ys) l (tagged 0 empty))
   own-agree l (yes lt) =
       let p : Within (single l) D → tagged (getD xs l 0) (single l) ≡ tagged (getD ys l 0) (single l) =
       λ w. ap (λ (v : ℕ). tagged v (single l)) (h .same l (w .each l (member-single l (omega arith)))) in
       rw (own-at 0 xs l lt, own-at 0 ys l (omega arith), zero-add l) (record { left = p; right = p })
   own-agree l (no n) = rw (own-out xs l (omega arith), own-out ys l (omega arith)) (agree-refl (tagged 0 empty))
 
-  own-alike : Alike D (ownFrom 0 xs) (ownFrom 0 ys)
+  own-alike : Alike D (firstState xs) (firstState ys)
+  unfolding at firstState
   own-alike = record {
     lengths = own-length 0 xs ∙ size ∙ sym (own-length 0 ys);
     here = λ l. own-agree l (decLt l (length xs));
+    outside = nothing-outside;
   }
 
 -- ---- the theorems
 -- "A run's trace is the list of all its observations in order, each with its kind and value; the observation count is that list's
 -- length. Steps are the steps made, and rollbacks those among them made by rule 1. The reported set is D as it is when the run
--- ends."
+-- ends." "remembered cells whose set lies in D then hold the same in both".
 pub record SameReport (job job′ : Job) (r s : Result) : Type 0 where
   pub stop : r .stop ≡ s .stop
   pub trace : r .gathered .trace ≡ s .gathered .trace
@@ -116,6 +133,7 @@ pub record SameReport (job job′ : Job) (r s : Result) : Type 0 where
   pub full : r .gathered .full ≡ s .gathered .full
   pub plain : r .gathered .plain ≡ s .gathered .plain
   pub word : verdict job r ≡ verdict job′ s
+  pub outside : AlikeOutside (r .gathered .full) (r .last .state .outside) (s .last .state .outside)
 
 undecided≢clean : verdicts.Undecided ≢ verdicts.Clean
 undecided≢clean e = let z : _≡_ {A = ℕ} 0 1 = cc in omega arith
@@ -166,6 +184,7 @@ module _ (job : Job) (room : ℕ) (vs : List ℕ) (bound : length (job .init) �
         full = ap (λ (g : Gathered). g .full) (x .gathered);
         plain = ap (λ (g : Gathered). g .plain) (x .gathered);
         word = ap₂ (λ (s : Stop) (g : Gathered). judge (job .public) s (g .full) (g .plain)) (x .stop) (x .gathered);
+        outside = x .last .outside;
       }
 
   -- under a clean verdict ("clean if D lies within the public list"), with states alike in the public list

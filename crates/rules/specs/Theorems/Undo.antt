@@ -1,25 +1,28 @@
 -- The bounds of a wrong path: "At most w + 1 branches are open, and a live wrong path holds at most w changes of a place." The changes
 -- that are live are an undo log, which takes the state back to each open branch's saved one in turn.
 -- Assumes nothing.
-use mathlib.Core.Path.{_≡_, refl}
+use mathlib.Core.Path.{_≡_, refl, ap}
 use mathlib.Core.Bool.{Bool, true, false, cond}
 use mathlib.Core.List.{List, [], _∷_, _++_}
 use mathlib.Core.Logic.{_≢_}
 use Prim.Native.Nat.{ℕ, suc, _+_, _-_, _≤_}
 use native.Mathlib.Omega.{arith}
 use lib.Dec.{ltb}
-use lib.ListN.{length, getD, length-append}
+use lib.ListN.{length, getD, take, length-append}
 use lib.Seq.{set-set, set-getD}
-use Rattle.location.specs.Sets.{registerLocation, cellLocation}
+use Rattle.location.specs.Sets.{registerLocation, cellLocation, empty}
 use Rattle.rules.specs.declared.Tagged.{Tagged}
-use Rattle.rules.specs.Rules.Expressions.{eval}
+use Rattle.rules.specs.Rules.Expressions.{tagged, eval}
 use Rattle.rules.specs.Rules.Instructions.{Instr, skip, assign, load, store, jmp, beqz, cassign, spbarr, kind, isBarrier, other, branchView, windowCosts}
-use Rattle.rules.specs.Rules.Plain.{State, at, put, Code, fetch, joined, storedTo, branchTo, exec}
+use Rattle.rules.specs.Rules.Plain.{State, Entry, at, put, withOutside, Code, fetch, joined, storedTo, branchTo, exec}
 use Rattle.rules.specs.Rules.Mispredicting.{Branch, Machine, Step, remaining, lowered, lower, ordinary, newWindow, opening, forward, rolling, step}
-use Rattle.rules.specs.Rules.Changes.{Change, changeOf, changes, restore, UndoLog, size, added, dropped, logForward, logBy, logAfter}
+use Rattle.rules.specs.Rules.Outside.{recall, remember, remembers}
+use Rattle.rules.specs.Rules.Changes.{Change, replaced, added, changeOf, position, tableChange, changes, revert, restore}
+use Rattle.rules.specs.Rules.Changes.{UndoLog, size, withChanges, dropped, logForward, logBy, logAfter}
 use Rattle.rules.specs.Rules.Loop.{ended}
 use Rattle.rules.specs.Rules.Runs.{over, Job, first, blank, mispredictingRun}
 use Rattle.rules.specs.Theorems.RunLaws.{run-ind}
+use Rattle.rules.specs.Theorems.Outside.{replaced-back, added-back}
 use Rattle.rules.specs.Theorems.StepLaws.{machineWith, branchWith, forward-cases, forward-back, expired-false, step-cases}
 
 -- ---- the machines that a run comes to
@@ -33,12 +36,24 @@ pub last-reached : (job : Job) (room : ℕ) → Reached job (mispredictingRun jo
 unfolding mispredictingRun ended
 last-reached job room =
     run-ind (step (job .code)) (job .code) room (λ k M g r. Reached job M → Reached job (r .last)) (λ k M g e x. x) (λ M g e x. x)
-    (λ k M g e h x. x) (λ k M g e h p x. p (at-next e x)) (job .budget) (first job) blank at-first
+    (λ k M g e h x. x) (λ k M g e h o x. x) (λ k M g e h p x. p (at-next e x)) (job .budget) (first job) blank at-first
 
 -- ---- undoing
 pub put-back : (σ : State) (l : ℕ) (t : Tagged) → put (put σ l t) l (at σ l) ≡ σ
 unfolding put at
-put-back σ l t = simp (set-set, set-getD)
+put-back σ l t = ap (λ (ts : List Tagged). record { inside = ts; outside = σ .outside }) (simp (set-set, set-getD))
+
+-- a store outside the image
+table-back : (σ : State) (a : ℕ) (t : Tagged) → revert (tableChange (σ .outside) a) (withOutside σ (remember (σ .outside) a t)) ≡ σ
+unfolding tableChange
+table-back σ a t = go (remembers (σ .outside) a) refl
+  where
+    go : (b : Bool) → remembers (σ .outside) a ≡ b
+        → revert (cond b (replaced (position (σ .outside) a) (recall (tagged 0 empty) (σ .outside) a)) (added (length (σ .outside))))
+        (withOutside σ (remember (σ .outside) a t))
+        ≡ σ
+    go true h = ap (withOutside σ) (replaced-back (σ .outside) a t h)
+    go false h = ap (withOutside σ) (added-back (σ .outside) a t h)
 
 -- an instruction that is undone leaves the state as it was
 pub restore-exec : (code : Code) (σ : State) (p : ℕ) (i : Instr) (us : List Change)
@@ -50,9 +65,12 @@ restore-exec code σ p (load r e) us = rw put-back
 restore-exec code σ p (store r e) us = go (ltb (eval (at σ) e .value) (code .cells))
   where
     go : (x : Bool) → (let a = eval (at σ) e in let l = cellLocation (a .value) in let t = joined (at σ (registerLocation r)) (a .deps) in
-        restore (cond x (changeOf σ l ∷ []) [] ++ us) (cond x (put σ l t) σ) ≡ restore us σ)
+        restore (cond x (changeOf σ l) (tableChange (σ .outside) (a .value)) ∷ us)
+        (cond x (put σ l t) (withOutside σ (remember (σ .outside) (a .value) t)))
+        ≡ restore us σ)
     go true = rw put-back
-    go false = refl
+    go false =
+        let a = eval (at σ) e in ap (restore us) (table-back σ (a .value) (joined (at σ (registerLocation r)) (a .deps)))
 restore-exec code σ p (jmp e) us = refl
 restore-exec code σ p (beqz r l) us = refl
 restore-exec code σ p (cassign r c e) us = rw put-back
@@ -64,11 +82,7 @@ unfolding changes
 changes-one code σ skip = omega arith
 changes-one code σ (assign r e) = omega arith
 changes-one code σ (load r e) = omega arith
-changes-one code σ (store r e) = go (ltb (eval (at σ) e .value) (code .cells))
-  where
-    go : (x : Bool) → length (cond x (changeOf σ (cellLocation (eval (at σ) e .value)) ∷ []) []) ≤ 1
-    go true = omega arith
-    go false = omega arith
+changes-one code σ (store r e) = omega arith
 changes-one code σ (jmp e) = omega arith
 changes-one code σ (beqz r l) = omega arith
 changes-one code σ (cassign r c e) = omega arith
@@ -146,7 +160,7 @@ KeepsOn code M i s =
 module _ (code : Code) (positive : PositiveCosts (code .costs)) (σ : State) (p n : ℕ) where
   -- ---- with nothing open
   empty-ordinary : (i : Instr) → branchView i ≡ other → (let M = machineWith σ p [] n in KeepsOn code M i (ordinary code M i))
-  unfolding ordinary lower logForward added
+  unfolding ordinary lower logForward withChanges
   empty-ordinary i e us none = rw (logForward, e) none
 
   empty-opening : (r l : ℕ) → (let M = machineWith σ p [] n in KeepsOn code M (beqz r l) (opening code M r l))
@@ -157,7 +171,7 @@ module _ (code : Code) (positive : PositiveCosts (code .costs)) (σ : State) (p 
   module _ (b : Branch) (bs : List Branch) (ne : b .window ≢ 0) where
     open-ordinary : (i : Instr) → branchView i ≡ other
         → (let M = machineWith σ p (b ∷ bs) n in KeepsOn code M i (ordinary code M i))
-    unfolding ordinary lower logForward added size
+    unfolding ordinary lower logForward withChanges size
     open-ordinary i e us (more u vs s h r) =
         let one = changes-one code σ i in
         let less = remaining-less code positive i (b .window) ne in

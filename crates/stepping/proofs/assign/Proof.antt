@@ -16,7 +16,7 @@ assign-requires c κs =
     let p = at-start .pre in
     let r = at-register .register .ensures in
     let h = p .3 in
-    (p .0 .fits, (at-remaining-window .remaining-window .ensures .left (p .0 .window), omega arith))
+    (p .0 .fits, at-remaining-window .remaining-window .ensures .left (p .0 .window), omega arith)
 
 count-step-requires : tie.Need-count-step-requires
 count-step-requires c κs =

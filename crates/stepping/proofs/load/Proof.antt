@@ -19,7 +19,7 @@ assign-requires c κs =
     let p = at-start .pre in
     let r = at-register .register .ensures in
     let h = p .1 in
-    (p .0 .unexpired .fits, (at-remaining-window .remaining-window .ensures .left (p .0 .unexpired .window), omega arith))
+    (p .0 .unexpired .fits, at-remaining-window .remaining-window .ensures .left (p .0 .unexpired .window), omega arith)
 
 count-step-requires : tie.Need-count-step-requires
 count-step-requires c κs =

@@ -42,16 +42,25 @@ loop-again c =
     let l = at-new .new in
     let store = at-store .store-own in
     loading-more (a .bytes .now) (a .at) (a .n) (a .work .now) (v .work) (store .last .0) (v .loaded) (v .inv) (l .result .0) (word .result)
-    (omega arith) (start .pre .1) (l .ensures) (word .ensures) (store .ensures)
+    (omega arith) (start .pre .2) (start .pre .1) (l .ensures) (word .ensures) (store .ensures)
+
+clear-table-requires : tie.Need-clear-table-requires Inv-loop μ-loop
+clear-table-requires c κs =
+    let s = c .before .before .loop .inv .size in
+    omega arith
 
 same-length : tie.Need-same-length Inv-loop μ-loop
-same-length c = c .before .loop .inv .size
+same-length c = search (needs, c .before .before .before .before .before .loop .inv .size)
 
 returns : tie.Need-returns Inv-loop μ-loop
 returns c =
-    let a = c .before .before .before .before .args in
-    let v = c .before .loop in
-    loading-all (a .bytes .now) (a .at) (a .n) (a .work .now) _ (v .loaded) (v .inv) (omega arith)
+    let at-clear = c .before .before in
+    let at-loop = at-clear .before .before .before in
+    let start = at-loop .before .before .before in
+    let a = start .args in
+    let v = at-loop .loop in
+    loading-all (a .bytes .now) (a .at) (a .n) (a .work .now) (v .work) _ (v .loaded) (v .inv) (omega arith) (start .pre .2) (start .pre .1)
+    (at-clear .clear-table .ensures)
 
 pub load-state-spec : {M : Type 1} → statement M
 load-state-spec =
@@ -66,5 +75,6 @@ load-state-spec =
     add-loaded
     loop-less
     loop-again
+    clear-table-requires
     same-length
     returns)

@@ -8,14 +8,15 @@ use borrow.Author.Needs.{needs}
 use lib.ListN.{length, length-set}
 use lib.Seq.{sets}
 use Rattle.rules.specs.Rules.Plain.{values}
-use Rattle.work.specs.Machines.{stateFrom, stateIn}
+use Rattle.work.specs.Machines.{locationsFrom}
 use Rattle.transfer.proofs.Laws.{save-more, save-all}
 use Rattle.transfer.proofs.save_values.Statement.{statement}
 use Rattle.transfer.proofs.save_values.Tie as tie
 
 abbrev Inv-loop : tie.InvT-loop
 Inv-loop work n area₀ saved₀ area saved =
-    (saved ≤ n) × (length area ≡ length area₀) × (sets area saved (values (stateFrom work saved (n - saved))) ≡ sets area₀ 0 (values (stateIn work n)))
+    (saved ≤ n) × (length area ≡ length area₀)
+    × (sets area saved (values (locationsFrom work saved (n - saved))) ≡ sets area₀ 0 (values (locationsFrom work 0 n)))
 
 abbrev μ-loop : tie.MeasureT-loop
 μ-loop work n area₀ saved₀ area saved = n - saved
@@ -43,7 +44,8 @@ loop-again c =
     let a = c .before .before .before .before .before .before .args in
     let v = c .before .before .before .loop in
     let new = c .before .new in
-    let e = save-more (a .work .now) (v .area) _ (a .n) (v .saved) (new .result .0) (c .load .result .value) (omega arith) (new .ensures) (ap (λ t. t .value) (c .load .ensures)) refl in
+    let e = save-more (a .work .now) (v .area) _ (a .n) (v .saved) (new .result .0) (c .load .result .value) (omega arith) (new .ensures)
+    (ap (λ t. t .value) (c .load .ensures)) refl in
     (omega arith, simp length-set (v .inv .1), e ∙ v .inv .2)
 
 same-length : tie.Need-same-length Inv-loop μ-loop

@@ -17,13 +17,13 @@ same-length c = omega (arith, c .before .before .store .kept .0, simp length-set
 
 returns : tie.Need-returns
 returns c =
-    let a = c .before .before .before .before .before .before .before .before .before .before .before .before .before .args in
-    let j = c .before .before .before .before .before .before .before .before .index in
-    let x = c .before .before .before .before .before .before .before .before .before .before .load in
-    let g₁ = c .before .before .before .before .before .before .store-at in
-    let g₂ = c .before .before .store in
-    change-law (a .work .now) (g₁ .last .0) (g₂ .last .0) (a .count) (a .l .0) (j .result) (a .v) (x .result) (j .ensures) (x .ensures) (g₁ .ensures)
-    (g₂ .ensures)
+    let at-store = c .before .before in
+    let at-store-at = at-store .before .before .before .before in
+    let at-load-at = at-store-at .before .before .before in
+    let a = at-load-at .before .before .before .args in
+    let x = at-load-at .load-at in
+    change-law (a .work .now) (at-store-at .store-at .last .0) (at-store .store .last .0) (a .count) (a .k) (a .v) (x .result) (x .ensures)
+    (at-store-at .store-at .ensures) (at-store .store .ensures)
 
 pub change-spec : {M : Type 1} → statement M
 change-spec =
@@ -31,7 +31,7 @@ change-spec =
     (tie.spec
     (λ c. search needs)
     (λ c. search needs)
-    (λ c κs. search needs)
+    (λ c. search needs)
     (λ c κs. search needs)
     (λ c. search needs)
     (λ c. search needs)

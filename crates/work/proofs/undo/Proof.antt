@@ -1,10 +1,9 @@
 -- `undo` meets its contract. The invariant: undoing what is left gives what undoing all gives at first. Assumes nothing.
 use mathlib.Core.Path.{_≡_, refl, ap, _∙_}
-use Prim.Native.Nat.{ℕ, _+_, _-_, _%_, _≤_}
+use Prim.Native.Nat.{ℕ, _+_, _-_, _≤_}
 use native.Mathlib.Omega.{arith}
 use borrow.Author.Needs.{needs}
 use lib.ListN.{length, getD}
-use Rattle.location.specs.Sets.{limit}
 use Rattle.work.specs.Layout.{changeBase}
 use Rattle.work.specs.Words.{undone}
 use Rattle.work.proofs.Laws.{undo-law}
@@ -35,32 +34,32 @@ add-load-at c = omega arith
 load-at-requires : tie.Need-load-at-requires Inv-loop μ-loop
 load-at-requires c κs = omega arith
 
-mul-l : tie.Need-mul-l Inv-loop μ-loop
-mul-l c = omega arith
+mul-x : tie.Need-mul-x Inv-loop μ-loop
+mul-x c = omega arith
 
-slice-read-l : tie.Need-slice-read-l Inv-loop μ-loop
-slice-read-l c = omega arith
+slice-read-x : tie.Need-slice-read-x Inv-loop μ-loop
+slice-read-x c = omega arith
 
-mul-store-at : tie.Need-mul-store-at Inv-loop μ-loop
-mul-store-at c = omega arith
-
-store-at-requires : tie.Need-store-at-requires Inv-loop μ-loop
-store-at-requires c κs = omega arith
+undo-one-requires : tie.Need-undo-one-requires Inv-loop μ-loop
+undo-one-requires c κs = omega arith
 
 loop-less : tie.Need-loop-less Inv-loop μ-loop
 loop-less c = omega arith
 
 loop-again : tie.Need-loop-again Inv-loop μ-loop
 loop-again c =
-    let a = c .before .before .before .before .before .before .before .before .before .before .before .args in
-    let v = c .before .before .before .before .before .before .before .before .before .loop in
+    let at-undo-one = c .before .before in
+    let at-load-at = at-undo-one .before .before .before in
+    let at-loop = at-load-at .before .before .before in
+    let a = at-loop .before .before .args in
+    let v = at-loop .loop in
     let k = v .k - 1 in
     let s : k + 1 ≡ v .k = omega arith in
-    let l = getD (v .work) (changeBase k) 0 % limit in
-    let x = c .before .before .before .before .before .before .load-at in
-    let g = c .before .before .store-at in
-    let t = undo-law (v .work) (g .last .0) k (a .mark) l (x .result) (omega arith) refl (x .ensures) (g .ensures) in
-    (omega arith, omega (arith, g .kept .0), t ∙ ap (λ (j : ℕ). undone (v .work) j (j - a .mark)) s ∙ v .inv .2)
+    let x = getD (v .work) (changeBase k) 0 in
+    let t = at-load-at .load-at in
+    let g = at-undo-one .undo-one in
+    let q = undo-law (v .work) (g .last .0) k (a .mark) x (t .result) (omega arith) refl (t .ensures) (g .ensures) in
+    (omega arith, omega (arith, g .kept .0), q ∙ ap (λ (j : ℕ). undone (v .work) j (j - a .mark)) s ∙ v .inv .2)
 
 same-length : tie.Need-same-length Inv-loop μ-loop
 same-length c = c .before .loop .inv .1
@@ -83,10 +82,9 @@ undo-spec =
     add-at
     add-load-at
     load-at-requires
-    mul-l
-    slice-read-l
-    mul-store-at
-    store-at-requires
+    mul-x
+    slice-read-x
+    undo-one-requires
     loop-less
     loop-again
     same-length

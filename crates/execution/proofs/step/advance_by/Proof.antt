@@ -13,7 +13,8 @@ use Rattle.work.specs.Machines.{machineOf}
 use Rattle.evaluation.proofs.Laws.{register-value}
 use Rattle.execution.specs.Running.{codeIn}
 use Rattle.execution.proofs.Machine.{still-going}
-use Rattle.execution.proofs.Running.{locations-most, made-as, code-of, fetched-valid, fetched-same, branch-step, other-step, branch-room, other-room}
+use Rattle.execution.proofs.Running.{locations-most, tried-as, opened-tried, code-of, fetched-valid, fetched-same}
+use Rattle.execution.proofs.Running.{branch-step, other-step, branch-room, other-room}
 use borrow.Author.Needs.{needs}
 use Rattle.execution.proofs.step.advance_by.Statement.{statement}
 use Rattle.execution.proofs.step.advance_by.Tie as tie
@@ -118,7 +119,7 @@ returns c =
     let most = locations-most limits in
     let s = code-of (a .p .now) (a .t) (drop labels w) in
     let step = branch-step (a .p .now) (a .t) (a .mode) w k (still-going (at-start .pre .0 .inside) (at-start .pre .0 .window)) same o in
-    made-as step (at-open-branch .open-branch .ensures .made n _ (omega arith) most (s .window) (s .costs))
+    tried-as step (opened-tried _ _ _ _ (at-open-branch .open-branch .ensures .made n _ (omega arith) most (s .window) (s .costs)))
 
 returns-2 : tie.Need-returns-2
 returns-2 c =
@@ -139,7 +140,7 @@ returns-2 c =
     let code = codeIn (a .p .now) (a .t) (drop labels w) in
     let step = other-step (a .p .now) (a .t) (a .mode) w k (still-going (at-start .pre .0 .inside) (at-start .pre .0 .window)) same o in
     let e = ap (ordinary code (machineOf w k n)) (at-instruction-of .instruction-of .ensures) in
-    made-as (e ∙ step) (at-carry-out .carry-out .ensures .made code (code-of (a .p .now) (a .t) (drop labels w)))
+    tried-as (e ∙ step) (at-carry-out .carry-out .ensures .tried code (code-of (a .p .now) (a .t) (drop labels w)))
 
 pub advance-by-spec : {M : Type 1} → statement M
 advance-by-spec =

@@ -1,11 +1,13 @@
--- `make_steps` meets its contract: each step is the rules', and may be made. Assumes nothing.
-use mathlib.Core.Path.{_≡_, refl}
+-- `make_steps` meets its contract: each step is the rules', and may be made; a store that cannot be made ends them. Assumes nothing.
+use mathlib.Core.Path.{_≡_, refl, _∙_}
 use Prim.Native.Nat.{_-_}
 use native.Mathlib.Omega.{arith}
 use lib.ListN.{length}
 use Rattle.stepping.specs.Progress.{standing}
 use Rattle.execution.proofs.Machine.{closed-window, open-back, place-inside, window-left}
-use Rattle.execution.proofs.Running.{Stepping, rolled, rolls-two, stepping-starts, stepping-on, stepping-made, stepping-over, back-next, advance-next}
+use Rattle.execution.proofs.Running.{Stepping, rolled, rolls-two, rolls-fitting}
+use Rattle.execution.proofs.Running.{stepping-starts, stepping-on, stepping-made, stepping-over, stepping-stuck}
+use Rattle.execution.proofs.Running.{moved-made, back-next, advance-next}
 use borrow.Author.Needs.{needs}
 use Rattle.execution.proofs.step.make_steps.Statement.{statement}
 use Rattle.execution.proofs.step.make_steps.Tie as tie
@@ -24,7 +26,9 @@ loop-holds c =
     (refl, refl, stepping-starts (at-start .args .p .now) (at-start .args .t) (at-start .args .mode) (q .ready) (q .next) (q .free))
 
 rule-of-requires : tie.Need-rule-of-requires Inv-loop μ-loop
-rule-of-requires c κs = closed-window _ (c .before .before .loop .inv .2 .ready .steady .fits)
+rule-of-requires c κs =
+    let at-loop = c .before .before in
+    closed-window _ (at-loop .loop .inv .2 .ready .steady .fits)
 
 returns : tie.Need-returns Inv-loop μ-loop
 returns c =
@@ -67,7 +71,8 @@ loop-again c =
     let at-loop = at-if1 .before .before in
     let s = at-loop .loop .inv .2 in
     let g = back-next _ _ _ (at-loop .loop .inv .2) (at-rule-of .rule-of .ensures) (at-enum-told2 .enum-told2 .given .1) in
-    (search needs, search needs, stepping-on _ _ _ s (at-if1 .if1 .taken) (g .on) (rolled _ _ _ _ _ (s .ready) g (at-roll-back .roll-back .ensures)))
+    let f = rolls-fitting _ _ _ _ _ (s .ready .steady) g in
+    (search needs, search needs, stepping-on _ _ _ s (at-if1 .if1 .taken) (g .on) f (rolled _ _ _ _ _ (s .ready) g (at-roll-back .roll-back .ensures)))
 
 advance-requires : tie.Need-advance-requires Inv-loop μ-loop
 advance-requires c κs =
@@ -80,27 +85,51 @@ advance-requires c κs =
     let room = s .room (at-if1 .if1 .taken) in
     record { ready = s .ready; inside = place-inside g; window = window-left (s .ready .steady .fits) g; room = omega arith }
 
+same-length-3 : tie.Need-same-length-3 Inv-loop μ-loop
+same-length-3 c =
+    let at-advance = c .before .before .before .before .before .before .before in
+    let at-loop = at-advance .before .before .before .before .before .before .before .before in
+    at-advance .advance .kept .1 .1 .1 .0 ∙ at-loop .loop .inv .0
+
+same-length-4 : tie.Need-same-length-4 Inv-loop μ-loop
+same-length-4 c =
+    let at-advance = c .before .before .before .before .before .before .before in
+    let at-loop = at-advance .before .before .before .before .before .before .before .before in
+    at-advance .advance .kept .1 .1 .1 .1 .0 ∙ at-loop .loop .inv .1
+
+returns-2 : tie.Need-returns-2 Inv-loop μ-loop
+returns-2 c =
+    let at-advance = c .before .before .before .before .before .before .before in
+    let at-loop = at-advance .before .before .before .before .before .before .before .before in
+    stepping-stuck _ _ _ (at-loop .loop .inv .2) (at-advance .advance .ensures) (c .if2 .taken)
+
 loop-less-2 : tie.Need-loop-less-2 Inv-loop μ-loop
 loop-less-2 c =
-    let at-advance = c .before .before .before .before in
+    let at-advance = c .before .before .before .before .before .before .before in
     let at-if1 = at-advance .before .before .before .before .before .before in
-    let more = at-advance .advance .ensures .steps in
+    let at-loop = at-if1 .before .before in
+    let m = moved-made _ _ _ (at-loop .loop .inv .2) (at-advance .advance .ensures) (c .if2 .left) in
+    let more = m .1 .steps in
     let h = at-if1 .if1 .taken in
     omega arith
 
 loop-again-2 : tie.Need-loop-again-2 Inv-loop μ-loop
 loop-again-2 c =
-    let at-advance = c .before .before .before .before in
+    let at-advance = c .before .before .before .before .before .before .before in
     let at-enum-told3 = at-advance .before .before .before in
     let at-rule-of = at-enum-told3 .before .before in
     let at-if1 = at-rule-of .before in
     let at-loop = at-if1 .before .before in
     let s = at-loop .loop .inv .2 in
     let g = advance-next _ _ _ (at-loop .loop .inv .2) (at-rule-of .rule-of .ensures) (at-enum-told3 .enum-told3 .given .1) in
-    (search needs, search needs, stepping-on _ _ _ s (at-if1 .if1 .taken) (g .on) (at-advance .advance .ensures))
+    let m = moved-made _ _ _ s (at-advance .advance .ensures) (c .if2 .left) in (
+      at-advance .advance .kept .1 .1 .1 .0 ∙ at-loop .loop .inv .0,
+      at-advance .advance .kept .1 .1 .1 .1 .0 ∙ at-loop .loop .inv .1,
+      stepping-on _ _ _ s (at-if1 .if1 .taken) (g .on) (m .0) (m .1),
+    )
 
-returns-2 : tie.Need-returns-2 Inv-loop μ-loop
-returns-2 c =
+returns-3 : tie.Need-returns-3 Inv-loop μ-loop
+returns-3 c =
     let at-loop = c .before .before in
     stepping-made _ _ _ (at-loop .loop .inv .2) (c .if1 .left)
 
@@ -122,8 +151,11 @@ make-steps-spec =
     loop-again
     (λ c. search needs)
     advance-requires
+    same-length-3
+    same-length-4
+    returns-2
     loop-less-2
     loop-again-2
     (λ c. search needs)
     (λ c. search needs)
-    returns-2)
+    returns-3)
