@@ -1,4 +1,5 @@
-//! An optimised Rust implementation of document 01's mispredicting run, written to be fast.
+//! An optimised Rust implementation of document 01's mispredicting run, with the shifts of request F-2 and the stores
+//! outside memory of request F-4, written to be fast.
 //!
 //! - The program is decoded once into instructions of fixed size; short expressions have shapes of
 //!   their own, and in long ones an operand is joined to the operator that follows it.
@@ -6,15 +7,19 @@
 //!   along token by token.
 //! - Sets have as many words as the job's locations need, not always four.
 //! - A wrong path keeps an undo log instead of copies of the state.
+//! - A store outside memory is found by a hash of its address. Entries are added at the end and taken away from there,
+//!   so that for a new one the log holds the count alone.
 //! - The state, the log and the open branches stand in the lent working area. Nothing is allocated
 //!   in a run; the buffers of the decoded program are kept from one job to the next.
 
 mod decode;
 mod expression;
 mod machine;
+mod outside;
 
 use decode::{Decoded, Header};
 use machine::{Machine, Outcome};
+use outside::OUTSIDE_WORDS;
 
 pub const ANSWER_WORDS: usize = 13;
 const WORKING_WORDS: usize = 4_096;
@@ -53,11 +58,12 @@ impl Checker {
         let header = Header::read(job)?;
         self.decoded.read(&job[..header.state], header.instructions)?;
         let public = header.public(job)?;
-        if work.len() < WORKING_WORDS || end.len() < header.locations {
+        let end_words = header.locations + OUTSIDE_WORDS;
+        if work.len() < WORKING_WORDS || end.len() < end_words {
             return Err(AREAS);
         }
         let work = &mut work[..WORKING_WORDS];
-        let end = &mut end[..header.locations];
+        let end = &mut end[..end_words];
         let outcome = match header.locations.div_ceil(64) {
             1 => self.run_with::<1>(job, &header, trace, end, work),
             2 => self.run_with::<2>(job, &header, trace, end, work),
@@ -81,7 +87,7 @@ impl Checker {
         let state = &job[header.state..header.list];
         let mut machine = Machine::<WORDS>::new(&self.decoded, header, state, trace, work);
         let stop = machine.run();
-        end.copy_from_slice(machine.values(header.locations));
+        machine.write_end(header.locations, end);
         machine.outcome(stop, header.budget)
     }
 }

@@ -1,6 +1,6 @@
 //! The jobs that are measured.
 
-use checker_tests::examples;
+use checker_tests::examples::{barrier, nested, printed, r0_zero, seldom};
 use checker_tests::job_file::{
     assign, beqz, conditional, jmp, load, skip, spbarr, store, Instruction, Parts, Token, ADD, AND,
     MUL, NOT, SHL, SHR, SUB, XOR,
@@ -20,12 +20,23 @@ pub const STEPS: u32 = 20_000;
 
 const CELLS: usize = 128;
 
+/// The bits of a register that are one of 64 addresses outside memory, if the topmost of them is set.
+const OUTSIDE: u64 = 1 << 32 | 63;
+
 pub fn workloads() -> Vec<Workload> {
     let mut all = vec![
         one("deep nesting, w 200, branches only", nesting(branches_only(), 200)),
         one("deep nesting, w 200, with changes", nesting(branches_and_changes(), 200)),
         one("deep nesting, w 200, m 240", with_cells(nesting(branches_and_changes(), 200), 240)),
+        one(
+            "deep nesting, w 200, 64 addresses outside",
+            pointing_outside(nesting(branches_outside(), 200)),
+        ),
         one("loads and stores, nothing open", spent_job(loads_and_stores())),
+        one(
+            "loads and stores outside, nothing open",
+            pointing_outside(spent_job(loads_and_stores_outside())),
+        ),
         one("long expressions, operand by operand", spent_job(long_chains())),
         one("long expressions, eight values held", spent_job(long_stacks())),
     ];
@@ -104,6 +115,41 @@ pub fn branches_and_changes() -> Vec<Instruction> {
         beqz(0, 0),
         jmp(&[c(0)]),
     ]
+}
+
+/// The last 16 of the addresses, then a branch back for each of the others: 48 of these deep there are 64 remembered,
+/// and from there on they are replaced.
+fn branches_outside() -> Vec<Instruction> {
+    let address = [r(2), c(OUTSIDE), AND];
+    let mut program: Vec<Instruction> =
+        (48..64).map(|number| store(1, &[c(1 << 32 | number)])).collect();
+    program.extend([
+        store(2, &address),
+        load(3, &address),
+        assign(2, &[r(2), c(1), ADD]),
+        beqz(0, 16),
+        jmp(&[c(16)]),
+    ]);
+    program
+}
+
+fn loads_and_stores_outside() -> Vec<Instruction> {
+    vec![
+        load(1, &[r(2), c(OUTSIDE), AND]),
+        store(1, &[r(4), c(OUTSIDE), AND]),
+        load(3, &[r(4), c(OUTSIDE), AND]),
+        store(2, &[r(2), c(OUTSIDE), AND]),
+        assign(2, &[r(2), c(1), ADD]),
+        assign(4, &[r(4), c(3), ADD]),
+        jmp(&[c(0)]),
+    ]
+}
+
+/// With r2 and r4 such that their bits are an address outside memory.
+fn pointing_outside(mut parts: Parts) -> Parts {
+    parts.state[2] = 1 << 32;
+    parts.state[4] = 1 << 32;
+    parts
 }
 
 fn loads_and_stores() -> Vec<Instruction> {
@@ -203,10 +249,10 @@ fn skips() -> Vec<Instruction> {
     program
 }
 
-/// The four example jobs, of four or five steps each.
+/// Five example jobs, of four to six steps each.
 fn short_jobs() -> Workload {
-    let jobs = examples::files().into_iter().map(|(_, job)| job).collect();
-    Workload { name: "short jobs back to back".to_string(), jobs, repeats: 50 }
+    let jobs = [printed(), barrier(), nested(), r0_zero(), seldom()].map(|parts| parts.bytes());
+    Workload { name: "short jobs back to back".to_string(), jobs: jobs.to_vec(), repeats: 50 }
 }
 
 /// A small job: one instruction, one step, 16 cells.

@@ -19,6 +19,7 @@ use checker_bench::jobs::{small_job, workloads, Workload};
 use checker_bench::texts::measure_texts;
 use checker_bench::timing::{best_of, processor};
 use checker_bench::verify::agrees_with_reference;
+use checker_tests::cases::{MOST_END_WORDS, WORKING_WORDS};
 use checker_tests::library;
 
 const VERIFIED_JOBS: u64 = 20_000;
@@ -43,8 +44,8 @@ impl Areas {
     fn with_trace(words: usize) -> Areas {
         Areas {
             trace: vec![1; words],
-            end: vec![1; 256],
-            work: vec![1; 4_096],
+            end: vec![1; MOST_END_WORDS],
+            work: vec![1; WORKING_WORDS],
             answer: [0; ANSWER_WORDS],
         }
     }

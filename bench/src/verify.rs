@@ -1,12 +1,15 @@
 //! The optimised implementation against the reference: answer and areas compared whole.
 
-use checker_tests::calls::{Call, Operation};
+use checker_tests::calls::{exactly, Operation};
 use checker_tests::cases::{random_case, Case};
 use checker_tests::fixed;
-use checker_tests::lend::{Area, Fill};
+use checker_tests::lend::Area;
 use checker_tests::random::case_seed;
 
-use crate::fast::{Checker, ANSWER_WORDS};
+use crate::fast::Checker;
+
+/// Words kept around each area.
+const MARGIN: usize = 4;
 
 /// Runs the fixed cases and so many random ones; says which case differs.
 pub fn agrees_with_reference(jobs: u64, seed: u64) -> Result<u64, String> {
@@ -21,19 +24,11 @@ pub fn agrees_with_reference(jobs: u64, seed: u64) -> Result<u64, String> {
 }
 
 fn check(case: &Case, checker: &mut Checker) -> Result<(), String> {
-    let fill = Fill { salt: case.salt, margin: 4 };
-    let (operation, lengths) = (Operation::Run, case.lengths);
-    let call = Call { operation, job: &case.job, second: &case.second, lengths, fill };
-    let expected = call.by_reference();
-    let area = |length| Area::filled(length, fill);
-    let [mut trace, mut end, mut work] = [lengths.trace, lengths.end, lengths.work].map(area);
-    let mut answer = area(ANSWER_WORDS);
-    let words = answer.lent().try_into().expect("an answer's length");
-    let number = checker.run(&case.job, trace.lent(), end.lent(), work.lent(), words);
-    let same = number == expected.number
-        && answer == expected.answer
-        && [trace, end, work] == expected.areas;
-    if same {
+    let call = case.call(Operation::Run, MARGIN);
+    let mut made = call.prepared();
+    let [trace, end, work] = made.areas.each_mut().map(Area::lent);
+    made.number = checker.run(&case.job, trace, end, work, exactly(made.answer.lent()));
+    if made == call.by_reference() {
         Ok(())
     } else {
         Err(format!(

@@ -1,5 +1,7 @@
 //! Decoded expressions: shapes for the short ones, joined tokens for the others.
 
+use super::outside::ENTRIES;
+
 /// A binary operator, in the order of the token bytes from 19 on.
 #[derive(Clone, Copy, PartialEq, Eq)]
 pub enum Operator {
@@ -78,8 +80,11 @@ pub enum Expression {
     },
 }
 
+/// The registers, the cells, from 256 on the stores outside memory, and last how many of these there are.
+pub const OPERANDS: usize = 256 + ENTRIES + 1;
+
 /// The registers stand at the front of the values.
-pub type Values = [u64; 256];
+pub type Values = [u64; OPERANDS];
 
 #[inline(always)]
 pub fn register(values: &Values, register: u8) -> u64 {

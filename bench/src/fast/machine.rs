@@ -1,7 +1,8 @@
 //! The mispredicting run on a decoded program.
 
 use super::decode::{Decoded, Header, Instruction};
-use super::expression::{evaluate, register, Expression, Step, Values};
+use super::expression::{evaluate, register, Expression, Step, Values, OPERANDS};
+use super::outside::{Found, Outside, ENTRIES};
 use super::ANSWER_WORDS;
 
 const START: u64 = 0;
@@ -12,6 +13,10 @@ const STORE: u64 = 4;
 
 const REGISTERS: usize = 16;
 
+/// The stores outside memory stand behind all locations, and behind them their count, whose set is of no use.
+const FIRST_OUTSIDE: usize = 256;
+const COUNT: usize = FIRST_OUTSIDE + ENTRIES;
+
 /// A set of locations in as many words as the job needs.
 type Set<const WORDS: usize> = [u64; WORDS];
 
@@ -20,6 +25,7 @@ pub enum Stop {
     Finished,
     Spent,
     TraceFull,
+    OutsideFull,
 }
 
 /// The answer of a run, with sets of four words, but for the verdict.
@@ -32,13 +38,14 @@ pub struct Outcome {
     plain: [u64; 4],
 }
 
-/// A run in progress. All tables have 256 entries, so that a byte is always a valid index.
+/// A run in progress. All tables have 256 entries or more, so that a byte is always a valid index.
 pub struct Machine<'a, const WORDS: usize> {
     instructions: &'a [Instruction],
     steps: &'a [Step],
     values: &'a mut Values,
-    sets: &'a mut [Set<WORDS>; 256],
-    /// The undo log: location, old value and old set of each change on the open paths.
+    sets: &'a mut [Set<WORDS>; OPERANDS],
+    outside: Outside<'a>,
+    /// The undo log: operand, old value and old set of each change on the open paths.
     logged: &'a mut [u64; 256],
     old_values: &'a mut [u64; 256],
     old_sets: &'a mut [Set<WORDS>; 256],
@@ -59,6 +66,8 @@ pub struct Machine<'a, const WORDS: usize> {
     /// Observed with nothing open, and with a branch open.
     plain: Set<WORDS>,
     wrong: Set<WORDS>,
+    /// Why a step was not made.
+    unmade: Stop,
 }
 
 /// An open branch in one word: id, true target, the window left to the branch below, and the length
@@ -82,7 +91,7 @@ fn join<const WORDS: usize>(set: &mut Set<WORDS>, other: &Set<WORDS>) {
 }
 
 /// The union of the sets of the registers whose bits are set.
-fn set_of<const WORDS: usize>(registers: u16, sets: &[Set<WORDS>; 256]) -> Set<WORDS> {
+fn set_of<const WORDS: usize>(registers: u16, sets: &[Set<WORDS>; OPERANDS]) -> Set<WORDS> {
     let mut result = [0; WORDS];
     let mut left = registers;
     while left != 0 {
@@ -92,18 +101,20 @@ fn set_of<const WORDS: usize>(registers: u16, sets: &[Set<WORDS>; 256]) -> Set<W
     result
 }
 
-/// A table of 256 sets at the front of the words, and the words behind it.
-fn set_table<const WORDS: usize>(words: &mut [u64]) -> (&mut [Set<WORDS>; 256], &mut [u64]) {
-    let (front, rest) = words.split_at_mut(256 * WORDS);
+/// A table of so many sets at the front of the words, and the words behind it.
+fn set_table<const WORDS: usize, const SETS: usize>(
+    words: &mut [u64],
+) -> (&mut [Set<WORDS>; SETS], &mut [u64]) {
+    let (front, rest) = words.split_at_mut(SETS * WORDS);
     let (sets, _) = front.as_chunks_mut::<WORDS>();
-    (sets.try_into().expect("256 sets"), rest)
+    (sets.try_into().expect("so many sets"), rest)
 }
 
 /// Each location has its word of the job's state, and depends on itself alone.
 fn start_state<const WORDS: usize>(
     state: &[u8],
     values: &mut Values,
-    sets: &mut [Set<WORDS>; 256],
+    sets: &mut [Set<WORDS>; OPERANDS],
 ) {
     let (initial, _) = state.as_chunks::<8>();
     for (location, bytes) in initial.iter().enumerate().take(256) {
@@ -113,7 +124,7 @@ fn start_state<const WORDS: usize>(
     }
 }
 
-fn word_table(words: &mut [u64]) -> (&mut [u64; 256], &mut [u64]) {
+fn word_table<const LENGTH: usize>(words: &mut [u64]) -> (&mut [u64; LENGTH], &mut [u64]) {
     words.split_first_chunk_mut().expect("the working area is long enough")
 }
 
@@ -132,13 +143,15 @@ impl<'a, const WORDS: usize> Machine<'a, WORDS> {
         let (old_values, rest) = word_table(rest);
         let (frames, rest) = word_table(rest);
         let (sets, rest) = set_table(rest);
-        let (old_sets, _) = set_table(rest);
+        let (old_sets, rest) = set_table(rest);
         start_state(state, values, sets);
+        values[COUNT] = 0;
         Machine {
             instructions: &decoded.instructions,
             steps: &decoded.steps,
             values,
             sets,
+            outside: Outside::new(rest),
             logged,
             old_values,
             old_sets,
@@ -156,12 +169,26 @@ impl<'a, const WORDS: usize> Machine<'a, WORDS> {
             log_length: 0,
             plain: [0; WORDS],
             wrong: [0; WORDS],
+            unmade: Stop::TraceFull,
         }
     }
 
+    /// Registers and cells; the count of stores outside, the address and the value of each, zeros after.
     #[inline(always)]
-    pub fn values(&self, locations: usize) -> &[u64] {
-        &self.values[..locations]
+    pub fn write_end(&self, locations: usize, end: &mut [u64]) {
+        let (image, table) = end.split_at_mut(locations);
+        image.copy_from_slice(&self.values[..locations]);
+        let count = self.values[COUNT];
+        table[0] = count;
+        let (pairs, _) = table[1..].as_chunks_mut::<2>();
+        let (entries, rest) = pairs.split_at_mut(count as usize);
+        let values = &self.values[FIRST_OUTSIDE..];
+        for ((pair, &address), &value) in
+            entries.iter_mut().zip(&*self.outside.addresses).zip(values)
+        {
+            *pair = [address, value];
+        }
+        rest.fill([0; 2]);
     }
 
     #[inline(always)]
@@ -206,7 +233,7 @@ impl<'a, const WORDS: usize> Machine<'a, WORDS> {
                 return Some(Stop::Spent);
             }
             if !self.carry_out::<false>(instruction) {
-                return Some(Stop::TraceFull);
+                return Some(self.unmade);
             }
             self.left -= 1;
             if self.depth != 0 {
@@ -229,7 +256,7 @@ impl<'a, const WORDS: usize> Machine<'a, WORDS> {
                 self.carry_out::<true>(instruction)
             };
             if !made {
-                return Some(Stop::TraceFull);
+                return Some(self.unmade);
             }
             self.left -= 1;
             if self.depth == 0 {
@@ -238,7 +265,7 @@ impl<'a, const WORDS: usize> Machine<'a, WORDS> {
         }
     }
 
-    /// Rules 2 and 3; false if the observations do not fit. Every window cost is 1.
+    /// Rules 2 and 3; false if the step is not made. Every window cost is 1.
     #[inline(always)]
     fn carry_out<const OPEN: bool>(&mut self, instruction: &Instruction) -> bool {
         match *instruction {
@@ -247,7 +274,7 @@ impl<'a, const WORDS: usize> Machine<'a, WORDS> {
             Instruction::Barrier => self.window = 1,
             Instruction::Assign { register, value } => {
                 let (value, set) = self.evaluate(value);
-                self.change::<OPEN>(register, value, set);
+                self.change::<OPEN>(usize::from(register), value, set);
             }
             Instruction::Conditional { register, condition, value } => {
                 self.assign_if::<OPEN>(register, condition, value);
@@ -298,13 +325,12 @@ impl<'a, const WORDS: usize> Machine<'a, WORDS> {
         join(if OPEN { &mut self.wrong } else { &mut self.plain }, set);
     }
 
-    /// Changes a location; on a wrong path the old contents are logged first.
+    /// Changes an operand; on a wrong path the old contents are logged first.
     #[inline(always)]
-    fn change<const OPEN: bool>(&mut self, location: u8, value: u64, set: Set<WORDS>) {
-        let at = usize::from(location);
+    fn change<const OPEN: bool>(&mut self, at: usize, value: u64, set: Set<WORDS>) {
         if OPEN {
             let log = usize::from(self.log_length);
-            self.logged[log] = u64::from(location);
+            self.logged[log] = at as u64;
             self.old_values[log] = self.values[at];
             self.old_sets[log] = self.sets[at];
             self.log_length = self.log_length.wrapping_add(1);
@@ -319,10 +345,10 @@ impl<'a, const WORDS: usize> Machine<'a, WORDS> {
         if condition != 0 {
             let (value, more) = self.evaluate(value);
             join(&mut set, &more);
-            self.change::<OPEN>(to, value, set);
+            self.change::<OPEN>(usize::from(to), value, set);
         } else {
             join(&mut set, &self.sets[usize::from(to)]);
-            self.change::<OPEN>(to, register(self.values, to), set);
+            self.change::<OPEN>(usize::from(to), register(self.values, to), set);
         }
     }
 
@@ -365,8 +391,11 @@ impl<'a, const WORDS: usize> Machine<'a, WORDS> {
             let cell = usize::from(address as u8 + REGISTERS as u8);
             value = self.values[cell];
             join(&mut set, &self.sets[cell]);
+        } else if let Found::Entry(index) = self.outside.find(address, self.values[COUNT]) {
+            value = self.values[FIRST_OUTSIDE + index % ENTRIES];
+            join(&mut set, &self.sets[FIRST_OUTSIDE + index % ENTRIES]);
         }
-        self.change::<OPEN>(to, value, set);
+        self.change::<OPEN>(usize::from(to), value, set);
         self.go_on::<OPEN>(self.place + 1);
         true
     }
@@ -374,14 +403,53 @@ impl<'a, const WORDS: usize> Machine<'a, WORDS> {
     #[inline(always)]
     fn store<const OPEN: bool>(&mut self, from: u8, address: Expression) -> bool {
         let (address, mut set) = self.evaluate(address);
+        if address >= self.cells {
+            return self.store_outside::<OPEN>(from, address, set);
+        }
         if !self.observe(STORE, address) {
             return false;
         }
         self.gather::<OPEN>(&set);
-        if address < self.cells {
-            join(&mut set, &self.sets[usize::from(from)]);
-            let value = register(self.values, from);
-            self.change::<OPEN>(address as u8 + REGISTERS as u8, value, set);
+        join(&mut set, &self.sets[usize::from(from)]);
+        let cell = usize::from(address as u8 + REGISTERS as u8);
+        self.change::<OPEN>(cell, register(self.values, from), set);
+        self.go_on::<OPEN>(self.place + 1);
+        true
+    }
+
+    /// Of a new entry on a wrong path the log holds the count.
+    #[inline(always)]
+    fn store_outside<const OPEN: bool>(
+        &mut self,
+        from: u8,
+        address: u64,
+        mut set: Set<WORDS>,
+    ) -> bool {
+        let count = self.values[COUNT];
+        let found = self.outside.find(address, count);
+        let needs_room = matches!(found, Found::Slot(_)) && count == ENTRIES as u64;
+        if needs_room && self.count < self.trace.len() {
+            self.gather::<OPEN>(&set);
+            self.unmade = Stop::OutsideFull;
+            return false;
+        }
+        if !self.observe(STORE, address) {
+            return false;
+        }
+        self.gather::<OPEN>(&set);
+        join(&mut set, &self.sets[usize::from(from)]);
+        let value = register(self.values, from);
+        match found {
+            Found::Entry(index) => {
+                self.change::<OPEN>(FIRST_OUTSIDE + index % ENTRIES, value, set);
+            }
+            Found::Slot(slot) => {
+                let index = count as usize % ENTRIES;
+                self.outside.put(address, index, slot);
+                self.values[FIRST_OUTSIDE + index] = value;
+                self.sets[FIRST_OUTSIDE + index] = set;
+                self.change::<OPEN>(COUNT, count + 1, [0; WORDS]);
+            }
         }
         self.go_on::<OPEN>(self.place + 1);
         true
@@ -441,7 +509,7 @@ impl<'a, const WORDS: usize> Machine<'a, WORDS> {
         while self.log_length > length {
             self.log_length -= 1;
             let log = usize::from(self.log_length);
-            let at = usize::from(self.logged[log] as u8);
+            let at = self.logged[log] as usize;
             self.values[at] = self.old_values[log];
             self.sets[at] = self.old_sets[log];
         }
