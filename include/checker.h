@@ -250,9 +250,9 @@ enum checker_stop {
 };
 
 /* What a mispredicting run shows. D is the set of all locations that an
- * observation depended on, or the store that found the table of stores outside
- * full; the plain set is the part of them from outside every wrongly guessed
- * path. */
+ * observation depended on, and those of the address whose store stopped the run
+ * as outside full; the plain set is the part of them from outside every wrongly
+ * guessed path. */
 enum checker_verdict {
     /* The run did not finish. */
     CHECKER_VERDICT_UNDECIDED = 0,
