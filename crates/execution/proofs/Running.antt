@@ -455,7 +455,7 @@ module _ (p : List ℕ) (t : Trailer) where
     pub ready-start : (w a : List ℕ) → Loaded p t w → workingWords ≤ length w → Ready p t mode (standing w a beginning)
     unfolding beginning
     ready-start w a l h = record {
-      steady = record { loaded = l; fits = record { room = h; bound = (refl, omega arith); opened = omega arith }; closed = λ e. refl };
+      steady = record { loaded = l; fits = record { room = h; bound = (refl, omega arith); opened = omega arith; log = tt }; closed = λ e. refl };
       counted = record { opened = omega arith; steps = omega arith; room = omega arith };
       budget = omega arith;
     }

@@ -2,21 +2,23 @@
 -- Assumes nothing.
 use mathlib.Core.Path.{_≡_, refl, sym, ap, _∙_, subst}
 use mathlib.Core.List.{List, [], _∷_}
-use Prim.Native.Nat.{ℕ, zero, suc, _+_, _-_, _*_, _<_, _≤_}
+use Prim.Native.Nat.{ℕ, zero, suc, _+_, _-_, _*_, _<_, _≤_, min}
 use native.Mathlib.Nat.{le-refl}
 use native.Mathlib.Omega.{arith}
+use lib.Dec.{lit<}
 use lib.ListN.{length}
 use Rattle.location.specs.Sets.{limit}
+use Rattle.rules.specs.Rules.Limits.{maxEntries}
 use Rattle.rules.specs.Rules.Calls.{workingWords}
 use Rattle.rules.specs.Rules.Plain.{State}
 use Rattle.rules.specs.Rules.Changes.{Change, restore}
 use Rattle.work.specs.declared.OpenBranch.{OpenBranch}
-use Rattle.work.specs.Layout.{changeBase, branchBase, firstBranch}
-use Rattle.work.specs.Words.{changeAt, branchAt, branchStored}
-use Rattle.work.specs.Machines.{stateIn, lastChanges, savedAt, branchesOf, maxWindow, WindowBound}
+use Rattle.work.specs.Layout.{entryCount, changeBase, branchBase, firstBranch}
+use Rattle.work.specs.Words.{countIn, numberAt, changeAt, branchAt, branchStored}
+use Rattle.work.specs.Machines.{stateIn, lastChanges, savedAt, branchesOf, maxWindow, WindowBound, LogBound}
 use Rattle.work.specs.Moves.{lowerTo}
-use Rattle.work.proofs.Ranges.{same-before, same-after, change-same, branch-same, branch-stored}
-use Rattle.work.proofs.States.{state-past, changes-agree, Logged, logged-saved}
+use Rattle.work.proofs.Ranges.{same-before, same-after, first-same, change-same, branch-same, branch-stored}
+use Rattle.work.proofs.States.{state-past, log-agree, changes-agree, Logged, logged-saved}
 
 -- ---- branches with the same entries, and with the same changes below the log's length, are the same
 pub branches-agree : (e e′ : ℕ → OpenBranch) (g g′ : ℕ → Change) (σ : State) (v k d : ℕ) → ((j : ℕ) → j < d → e j ≡ e′ j)
@@ -132,3 +134,12 @@ module _ (w : List ℕ) (n k d : ℕ) (b : OpenBranch) (hn : n ≤ limit) (room 
       let m : b .mark ≤ k = omega arith in
       let H = subst (WindowBound (branchAt w₂) (b .outer) d) (sym mark) (bound-agree (branchAt w) (branchAt w₂) (b .outer) k d old h) in
       subst (λ (x : OpenBranch). (x .mark ≤ k) × (k + d + v ≤ maxWindow) × WindowBound (branchAt w₂) (x .outer) d (x .mark)) (sym new) (m, l, H)
+
+  pub pushed-log : LogBound (numberAt w) (changeAt w) k (countIn w) → LogBound (numberAt w₂) (changeAt w₂) k (countIn w₂)
+  pushed-log l =
+      let numbers : (j : ℕ) → j < k → numberAt w j ≡ numberAt w₂ j = λ j i.
+      sym (first-same (same-before vs w (branchBase d) (changeBase j) 1 (omega arith)) (lit< tt)) in
+      let count : countIn w ≡ countIn w₂ =
+      ap (λ (x : ℕ). min x maxEntries) (sym (first-same (same-before vs w (branchBase d) entryCount 1 (omega arith)) (lit< tt))) in
+      subst (LogBound (numberAt w₂) (changeAt w₂) k) count
+      (log-agree (numberAt w) (numberAt w₂) (changeAt w) (changeAt w₂) k (countIn w) numbers logs l)

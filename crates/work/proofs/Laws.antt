@@ -1,24 +1,20 @@
 -- What the leaves' stores make of the words.
 -- Assumes nothing.
 use mathlib.Core.Path.{_≡_, refl, ap, _∙_}
-use mathlib.Core.Bool.{Bool, true, false, cond}
 use mathlib.Core.List.{List, [], _∷_}
 use Prim.Native.Nat.{ℕ, zero, suc, _+_, _-_, _*_, _/_, _%_, _^_, _<_, _≤_}
 use native.Mathlib.Nat.{add-zero, le-refl}
 use native.Mathlib.Numerals.{add-one, add-two, add-three, add-four}
 use native.Mathlib.Omega.{arith}
-use lib.Dec.{ltb}
 use lib.ListN.{length, getD, set}
-use borrow.Author.Tests.{ltb-false, lt-ltb, le-ltb}
 use lib.Seq.{sets, length-sets, set-set, set-comm}
 use Rattle.location.specs.declared.LocationSet.{LocationSet}
 use Rattle.location.specs.Sets.{limit, empty, single, only, none}
 use Rattle.location.proofs.Laws.{word-bit}
 use Rattle.rules.specs.declared.Tagged.{Tagged}
 use Rattle.rules.specs.Rules.Expressions.{tagged}
-use Rattle.rules.specs.Rules.Changes.{located, replaced, added}
-use Rattle.work.specs.Layout.{operandBase, operands, changeBase}
-use Rattle.work.specs.Words.{taggedIn, taggedAt, storedIn, stored, shortened, countIn, changeIn, changeAt, changed, undoneBy, undone, taggedWords}
+use Rattle.work.specs.Layout.{operandBase, changeBase}
+use Rattle.work.specs.Words.{taggedIn, taggedAt, storedIn, stored, numberAt, operandLogged, changed, undone, taggedWords}
 
 -- a list of four is its four elements
 pub four : (l : List ℕ) → length l ≡ 4 → getD l 0 0 ∷ getD l 1 0 ∷ getD l 2 0 ∷ getD l 3 0 ∷ [] ≡ l
@@ -72,36 +68,20 @@ own-law w w₁ v l k s h ek es e =
     let vs = taggedWords (tagged v empty) in
     rw (e, es, ek, word-bit (l % 64) (omega arith)) (set-sets vs w i q x (omega arith) ∙ ap (sets w i) (own-words q x v (omega arith)))
 
--- a change, of what the code read and of the words after each of its stores
-pub change-law : (w w₁ w₂ : List ℕ) (k l : ℕ) (v x : Tagged) → x ≡ taggedAt w l
-    → w₁ ≡ storedIn (set w (changeBase k) l) (changeBase k + 1) x → w₂ ≡ stored w₁ l v → w₂ ≡ changed w k l v
-change-law w w₁ w₂ k l v x ex e₁ e₂ =
-    e₂ ∙ ap (λ (u : List ℕ). stored u l v) (e₁ ∙ (λ i. storedIn (set w (changeBase k) l) (add-one (changeBase k) i) (ex i)))
+-- an operand logged, of what the code read and of the words after its stores
+pub log-law : (w w₁ : List ℕ) (k l : ℕ) (x : Tagged) → x ≡ taggedAt w l
+    → w₁ ≡ storedIn (set w (changeBase k) l) (changeBase k + 1) x → w₁ ≡ operandLogged w k l
+log-law w w₁ k l x ex e₁ = e₁ ∙ (λ i. storedIn (set w (changeBase k) l) (add-one (changeBase k) i) (ex i))
+
+pub length-operandLogged : (w : List ℕ) (k l : ℕ) → length (operandLogged w k l) ≡ length w
+length-operandLogged w k l = length-sets w (changeBase k) (l ∷ taggedWords (taggedAt w l))
 
 pub length-changed : (w : List ℕ) (k l : ℕ) (v : Tagged) → length (changed w k l v) ≡ length w
-length-changed w k l v =
-    let x = taggedAt w l in
-    let logged = sets w (changeBase k) (l ∷ taggedWords x) in
-    length-sets logged (operandBase l) (taggedWords v) ∙ length-sets w (changeBase k) (l ∷ taggedWords x)
+length-changed w k l v = length-sets (operandLogged w k l) (operandBase l) (taggedWords v) ∙ length-operandLogged w k l
 
--- one change undone: of an operand, or of an entry that was added
-pub undo-operand : (w : List ℕ) (x : ℕ) (t : Tagged) → x < operands → stored w x t ≡ undoneBy (changeIn x t) w
-undo-operand w x t h = go (ltb x limit) refl
-  where
-    go : (b : Bool) → ltb x limit ≡ b
-        → stored w x t ≡ undoneBy (cond b (located x t) (cond (ltb x operands) (replaced (x - limit) t) (added (x - operands)))) w
-    go true e = refl
-    go false e =
-        let l = ltb-false x limit e in
-        let s : x ≡ limit + (x - limit) = omega arith in
-        rw (lt-ltb x operands h) (ap (λ (i : ℕ). stored w i t) s)
-
-pub undo-added : (w : List ℕ) (x : ℕ) (t : Tagged) → operands ≤ x → shortened w (x - operands) ≡ undoneBy (changeIn x t) w
-undo-added w x t h = let h′ : limit ≤ x = omega arith in rw (le-ltb x limit h′, le-ltb x operands h)
-
--- and then those before it
-pub undo-law : (w w₁ : List ℕ) (k mark l : ℕ) (x : Tagged) → mark ≤ k → l ≡ getD w (changeBase k) 0 → x ≡ taggedIn w (changeBase k + 1)
-    → w₁ ≡ undoneBy (changeIn l x) w → undone w₁ k (k - mark) ≡ undone w (k + 1) (k + 1 - mark)
+-- one change undone, and then those before it; l and x are what the code read
+pub undo-law : (w w₁ : List ℕ) (k mark l : ℕ) (x : Tagged) → mark ≤ k → l ≡ numberAt w k → x ≡ taggedIn w (changeBase k + 1)
+    → w₁ ≡ stored w l x → undone w₁ k (k - mark) ≡ undone w (k + 1) (k + 1 - mark)
 undo-law w w₁ k mark l x h el ex e =
     let s : k + 1 - mark ≡ suc (k - mark) = omega arith in
-    rw (s, add-one) (ap (λ (u : List ℕ). undone u k (k - mark)) (e ∙ (λ i. undoneBy (changeIn (el i) (ex i)) w)))
+    rw (s, add-one) (ap (λ (u : List ℕ). undone u k (k - mark)) (e ∙ (λ i. stored w (el i) (ex i))))

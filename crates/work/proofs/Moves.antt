@@ -20,15 +20,15 @@ use Rattle.work.specs.declared.OpenBranch.{OpenBranch}
 use Rattle.work.specs.declared.machine.Control.{Control}
 use Rattle.work.specs.declared.machine.RolledBack.{RolledBack}
 use Rattle.work.specs.Layout.{operandBase, operands, changeBase, branchBase, labels, logBase, firstBranch}
-use Rattle.work.specs.Words.{taggedAt, stored, countIn, appended, changeAt, changed, extended, undone, branchAt, branchStored, windowAt, taggedWords}
-use Rattle.work.specs.Machines.{stateIn, withOperand, withEntry, savedAt, branchesOf, machineOf, maxWindow, WindowBound, Fit, Left}
+use Rattle.work.specs.Words.{taggedAt, stored, countIn, appended, numberAt, changeAt, changed, extended, undone, branchAt, branchStored, windowAt, taggedWords}
+use Rattle.work.specs.Machines.{stateIn, withOperand, withEntry, savedAt, branchesOf, machineOf, maxWindow, WindowBound, LogBound, Fit, Left}
 use Rattle.work.specs.Moves.{lowerTo, windowOn, ordinaryNext, gone, loggedTo, openingNext, Moves, RollsBack}
 use Rattle.work.proofs.Ranges.{drop-sets, drop-past, log-same, branches-same}
-use Rattle.work.proofs.States.{state-stored, drop-undone, length-undone, state-undone, Logged, changed-state, changed-branch, changed-logged}
+use Rattle.work.proofs.States.{state-stored, log-agree, Restored, undone-restores, Logged, changed-state, changed-log, changed-branch, changed-logged}
 use Rattle.work.proofs.States.{appended-drop, appended-length, appended-state}
-use Rattle.work.proofs.States.{extended-length, extended-branch, extended-state, extended-logged, extended-frame}
+use Rattle.work.proofs.States.{extended-length, extended-log, extended-branch, extended-state, extended-logged, extended-frame}
 use Rattle.work.proofs.Laws.{length-changed}
-use Rattle.work.proofs.Branches.{top-left, bound-left, logged-branches, logged-bound, pushed-state, pushed-branches, pushed-bound}
+use Rattle.work.proofs.Branches.{top-left, bound-left, logged-branches, logged-bound, pushed-state, pushed-branches, pushed-bound, pushed-log}
 
 together-bound : (e : ℕ → OpenBranch) (v d k : ℕ) → WindowBound e v d k → k + d ≤ maxWindow + 1
 together-bound e v zero k h = let z = h .0 in omega arith
@@ -62,6 +62,7 @@ go-law w c p v f b =
         room = f .room;
         bound = bound-left (branchAt w) (c .window) v (c .depth) (c .log) (b .less) (b .some) (f .bound);
         opened = f .opened;
+        log = f .log;
       };
       frame = refl;
     }
@@ -98,15 +99,17 @@ module _ (w w₁ : List ℕ) (c : Control) (p v : ℕ) (next : State → State) 
           room = long;
           bound = subst (λ (d : ℕ). WindowBound (branchAt w₁) v d k) (sym z) (h .0, b .some z);
           opened = f .opened;
+          log = subst (λ (j : ℕ). LogBound (numberAt w₁) (changeAt w₁) j (countIn w₁)) (sym (h .0)) tt;
         };
         frame = frame;
       }
 
   -- with a branch open the change is logged; the branches stand past the log
   pub stored-open : (c .depth ≡ 0 → ⊥) → ((n : ℕ) → n ≤ limit → Logged w w₁ n k)
+      → LogBound (numberAt w₁) (changeAt w₁) (k + 1) (countIn w₁)
       → ((j : ℕ) → changeBase k + 6 ≤ branchBase j → branchAt w₁ j ≡ branchAt w j)
       → Moves w w₁ c (loggedTo c p v) (λ M. ordinaryNext M (next (M .state)) p v)
-  stored-open o logged others =
+  stored-open o logged log others =
       let d = c .depth - 1 in
       let s : c .depth ≡ suc d = omega (arith, pos-of-ne-zero o) in
       let b₁ = b .less (pos-of-ne-zero o) in
@@ -123,6 +126,7 @@ module _ (w w₁ : List ℕ) (c : Control) (p v : ℕ) (next : State → State) 
           room = long;
           bound = subst (λ (j : ℕ). WindowBound (branchAt w₁) v j (k + 1)) (sym s) H;
           opened = f .opened;
+          log = log;
         };
         frame = frame;
       }
@@ -151,7 +155,8 @@ module _ (w : List ℕ) (c : Control) (l p v : ℕ) (x : Tagged) (f : Fit w c) (
       (length-changed w (c .log) l x)
       (drop-sets (taggedWords x) (sets w (changeBase (c .log)) old) (operandBase l) labels (omega arith)
       ∙ drop-sets old w (changeBase (c .log)) labels (omega arith))
-      o (λ n hn. changed-logged w n (c .log) l x hn hl room e) (changed-branch w 0 (c .log) l x (omega arith) hl room e)
+      o (λ n hn. changed-logged w n (c .log) l x hn hl room e) (changed-log w 0 (c .log) l x (omega arith) hl room e (f .log))
+      (changed-branch w 0 (c .log) l x (omega arith) hl room e)
 
 -- of an operand's number l that the code has: a location's, or an entry's
 pub location-moved : {w w₁ : List ℕ} {c r : Control} {p v : ℕ} (j l : ℕ) (x : Tagged) → j ≡ l → l < limit
@@ -186,7 +191,8 @@ module _ (w : List ℕ) (c : Control) (i a p v : ℕ) (x : Tagged) (f : Fit w c)
       let r : changeBase (c .log) + 6 ≤ length w = omega (arith, f .room) in
       stored-open w (extended w (c .log) i a x) c p v (λ σ. withEntry σ a x) f b (λ n hn. extended-state w n (c .log) i a x hn hi hc r e)
       (extended-length w 0 (c .log) i a x (omega arith) hi hc r e) (extended-frame w 0 (c .log) i a x (omega arith) hi hc r e labels q)
-      o (λ n hn. extended-logged w n (c .log) i a x hn hi hc r e) (extended-branch w 0 (c .log) i a x (omega arith) hi hc r e)
+      o (λ n hn. extended-logged w n (c .log) i a x hn hi hc r e) (extended-log w 0 (c .log) i a x (omega arith) hi hc r e (f .log))
+      (extended-branch w 0 (c .log) i a x (omega arith) hi hc r e)
 
 -- ---- rule 2
 new-window : (e : ℕ → OpenBranch) (g : ℕ → Change) (σ : State) (x k d u v : ℕ) → windowAt d u v ≡ windowOn (branchesOf e g σ x k d) u v
@@ -233,6 +239,7 @@ module _ (w : List ℕ) (c : Control) (p t u v : ℕ) (f : Fit w c) (b : Left c 
           room = rw (length-sets w (branchBase d) ns) r;
           bound = subst (λ (j : ℕ). WindowBound (branchAt w₁) x j k) (sym (add-one d)) H;
           opened = let o = f .opened in omega arith;
+          log = pushed-log w 0 k d new (omega arith) r i refl h (f .log);
         };
         frame = drop-sets ns w (branchBase d) labels (omega arith);
       }
@@ -256,6 +263,10 @@ rest-bound : (e : ℕ → OpenBranch) (v d k : ℕ) → 0 < d → WindowBound e 
 rest-bound e v zero k h t = absurd (omega arith)
 rest-bound e v (suc d) k h t = let s : suc d - 1 ≡ d = omega arith in rw s (t .2)
 
+mark-below : (e : ℕ → OpenBranch) (v d k : ℕ) → 0 < d → WindowBound e v d k → e (d - 1) .mark ≤ k
+mark-below e v zero k h t = absurd (omega arith)
+mark-below e v (suc d) k h t = let s : suc d - 1 ≡ d = omega arith in rw s (t .0)
+
 heads : {x y : Branch} {xs ys : List Branch} → x ∷ xs ≡ y ∷ ys → x ≡ y
 heads e = cc
 
@@ -275,14 +286,16 @@ module _ (w w₁ : List ℕ) (c : Control) (y : OpenBranch) (f : Fit w c) (h : 0
     target = y .target;
   }
 
+  restored : Restored w w₁ (c .log) (c .log - y .mark)
+  restored =
+      subst (λ (u : List ℕ). Restored w u (c .log) (c .log - y .mark)) (sym ew)
+      (undone-restores w (c .log) (c .log - y .mark) (omega (arith, f .room)) (f .log))
+
   past : drop logBase w₁ ≡ drop logBase w
-  past = ap (drop logBase) ew ∙ drop-undone w (c .log) (c .log - y .mark)
+  past = restored .past
 
   state-back : (n : ℕ) → n ≤ limit → stateIn w₁ n ≡ savedAt (changeAt w) (stateIn w n) (c .log) (top .mark)
-  state-back n hn =
-      ap (λ (u : List ℕ). stateIn u n) ew
-      ∙ state-undone w n (c .log) (c .log - y .mark) hn (omega (arith, f .room))
-      ∙ ap (λ (b : OpenBranch). savedAt (changeAt w) (stateIn w n) (c .log) (b .mark)) ey
+  state-back n hn = restored .state n hn ∙ ap (λ (b : OpenBranch). savedAt (changeAt w) (stateIn w n) (c .log) (b .mark)) ey
 
   module _ (n : ℕ) (b : Branch) (bs : List Branch) (e : machineOf w c n .branches ≡ b ∷ bs) where
     abbrev σ : State
@@ -317,14 +330,18 @@ module _ (w w₁ : List ℕ) (c : Control) (y : OpenBranch) (f : Fit w c) (h : 0
   roll-law =
       let T = rest-bound (branchAt w) (c .window) (c .depth) (c .log) h (f .bound) in
       let E = branches-same w w₁ (sym past) in
+      let m = mark-below (branchAt w) (c .window) (c .depth) (c .log) h (f .bound) in
+      let q : y .mark ≡ top .mark = ap (λ (b : OpenBranch). b .mark) ey in
+      let left : c .log - (c .log - y .mark) ≡ y .mark = omega arith in
       record {
         machine = λ n b bs hn e. rolled n b bs e hn;
         id = id-is;
         target = target-is;
         fits = record {
-          room = rw (ew, length-undone w (c .log) (c .log - y .mark)) (f .room);
+          room = rw (restored .size) (f .room);
           bound = subst₂ (λ (e : ℕ → OpenBranch) (b : OpenBranch). WindowBound e (b .outer) (c .depth - 1) (b .mark)) E (sym ey) T;
           opened = let o = f .opened in omega arith;
+          log = subst (λ (j : ℕ). LogBound (numberAt w₁) (changeAt w₁) j (countIn w₁)) left (restored .log);
         };
         frame = drop-past w₁ w logBase labels (omega arith) past;
       }

@@ -12,7 +12,7 @@ use lib.Seq.{sets, getD-set-same, getD-set-other, getD-drop, drop-set-lt, drop-d
 use Rattle.rules.specs.declared.Tagged.{Tagged}
 use Rattle.work.specs.declared.OpenBranch.{OpenBranch}
 use Rattle.work.specs.Layout.{changeBase, branchBase, logBase}
-use Rattle.work.specs.Words.{taggedIn, storedIn, changeIn, changeAt, branchAt, branchStored, taggedWords}
+use Rattle.work.specs.Words.{taggedIn, storedIn, numberAt, changeIn, changeAt, branchAt, branchStored, taggedWords}
 use Rattle.work.proofs.Laws.{four}
 
 -- the n words from one on are the same in both
@@ -89,6 +89,9 @@ branch-same k s =
     λ t. record { id = e₀ t; target = e₁ t; outer = e₂ t; mark = e₃ t }
 
 -- the log and the branches stand past the operands
+pub numbers-same : (w w′ : List ℕ) → drop logBase w ≡ drop logBase w′ → numberAt w ≡ numberAt w′
+numbers-same w w′ d = fun-ext (λ k. first-same (same-past w w′ logBase (changeBase k) 1 (omega arith) d) (lit< tt))
+
 pub log-same : (w w′ : List ℕ) → drop logBase w ≡ drop logBase w′ → changeAt w ≡ changeAt w′
 log-same w w′ d = fun-ext (λ k. change-same k (same-past w w′ logBase (changeBase k) 6 (omega arith) d))
 
@@ -119,6 +122,10 @@ change-stored w k l v h f =
     let e₁ : taggedIn (sets w i vs) (i + 1) ≡ v =
     ap (taggedIn (sets w i vs)) (add-one i) ∙ tagged-stored (set w i l) (suc i) v h (rw (length-set w i l) (omega arith)) in
     ap₂ changeIn e₀ e₁
+
+pub number-stored : (w : List ℕ) (k l : ℕ) (v : Tagged) → changeBase k + 6 ≤ length w
+    → numberAt (sets w (changeBase k) (l ∷ taggedWords v)) k ≡ l
+number-stored w k l v f = first-in (l ∷ taggedWords v) w (changeBase k) (omega arith) (omega arith)
 
 pub branch-stored : (w : List ℕ) (k : ℕ) (b : OpenBranch) → branchBase k + 4 ≤ length w → branchAt (branchStored w k b) k ≡ b
 branch-stored w k b f =

@@ -1,6 +1,6 @@
 -- The state in the words after stores, after a change, and after changes are undone.
 -- Assumes nothing.
-use mathlib.Core.Path.{_≡_, refl, sym, ap, ap₂, _∙_}
+use mathlib.Core.Path.{_≡_, refl, sym, ap, ap₂, _∙_, subst, subst₂}
 use mathlib.Core.Bool.{Bool, true, false, cond}
 use mathlib.Core.List.{List, [], _∷_, _++_}
 use Prim.Native.Nat.{ℕ, zero, suc, _+_, _-_, _<_, _≤_, min}
@@ -18,11 +18,11 @@ use Rattle.rules.specs.Rules.Expressions.{tagged}
 use Rattle.rules.specs.Rules.Plain.{State, Entry, at, put, withOutside}
 use Rattle.rules.specs.Rules.Changes.{Change, located, replaced, added, reworded, revert, restore}
 use Rattle.work.specs.Layout.{operandBase, operands, entryCount, addressBase, changeBase, branchBase, logBase}
-use Rattle.work.specs.Words.{taggedIn, taggedAt, stored, countIn, entryAt, appended, shortened, changeIn, changeAt, changed, extended}
-use Rattle.work.specs.Words.{undoneBy, undone, branchAt, taggedWords}
-use Rattle.work.specs.Machines.{locationsFrom, entriesFrom, tableIn, stateIn, withOperand, withEntry, lastChanges, savedAt}
-use Rattle.work.proofs.Ranges.{same-before, same-after, first-same, tagged-same, change-same, branch-same, log-same}
-use Rattle.work.proofs.Ranges.{branches-same, tagged-stored, change-stored, drop-sets, drop-past}
+use Rattle.work.specs.Words.{taggedIn, taggedAt, stored, countIn, entryAt, appended, changeIn, numberAt, changeAt, operandLogged, changed, extended}
+use Rattle.work.specs.Words.{undone, branchAt, taggedWords}
+use Rattle.work.specs.Machines.{locationsFrom, entriesFrom, tableIn, stateIn, withOperand, withEntry, lastChanges, savedAt, countBefore, LogBound}
+use Rattle.work.proofs.Ranges.{same-before, same-after, first-same, tagged-same, change-same, branch-same, numbers-same, log-same}
+use Rattle.work.proofs.Ranges.{branches-same, tagged-stored, number-stored, change-stored, drop-sets, drop-past}
 
 -- ---- one operand stored, at the locations
 out-stored : (w : List ℕ) (i n l : ℕ) (v : Tagged) → l < i → locationsFrom (stored w l v) i n ≡ locationsFrom w i n
@@ -191,16 +191,27 @@ counted-entry w x j h =
     let y = tagged-same (same-before (x ∷ []) w entryCount (operandBase (limit + j)) 5 (omega arith)) in
     λ t. record { address = a t; word = y t }
 
-state-shortened : (w : List ℕ) (n m : ℕ) → n ≤ limit → logBase ≤ length w → stateIn (shortened w m) n ≡ withOutside (stateIn w n) (take m (tableIn w))
-state-shortened w n m hn f =
+-- the operand of the count given back: the entries that are left are the first ones
+count-entry : (w : List ℕ) (t : Tagged) (j : ℕ) → j < maxEntries → entryAt (stored w operands t) j ≡ entryAt w j
+count-entry w t j h =
+    let a = word-after (taggedWords t) w (operandBase operands) (addressBase j) (omega arith) in
+    let y = tagged-same (same-before (taggedWords t) w (operandBase operands) (operandBase (limit + j)) 5 (omega arith)) in
+    λ i. record { address = a i; word = y i }
+
+count-stored : (w : List ℕ) (t : Tagged) → length (t .deps .words) ≡ 4 → logBase ≤ length w → getD (stored w operands t) entryCount 0 ≡ t .value
+count-stored w t e f = ap (λ (x : Tagged). x .value) (tagged-stored w (operandBase operands) t e (omega arith))
+
+state-counted : (w : List ℕ) (n : ℕ) (t : Tagged) → n ≤ limit → length (t .deps .words) ≡ 4 → logBase ≤ length w → t .value ≤ countIn w
+    → stateIn (stored w operands t) n ≡ withOutside (stateIn w n) (take (t .value) (tableIn w))
+state-counted w n t hn e f h =
     let c = countIn w in
-    let w′ = shortened w m in
-    let k = locations-before (min m c ∷ []) w entryCount 0 n (omega arith) in
-    let g : getD w′ entryCount 0 ≡ min m c = getD-set-same w entryCount (min m c) 0 (omega arith) in
-    let z : min (min m c) maxEntries ≡ min m c = omega arith in
-    let o = ap (λ (x : ℕ). entriesFrom w′ 0 (min x maxEntries)) g ∙ ap (entriesFrom w′ 0) z
-    ∙ entries-same w′ w 0 (min m c) (λ j l. counted-entry w (min m c) j (omega arith)) ∙ sym (take-from w 0 m c) in
-    λ t. record { inside = k t; outside = o t }
+    let m = t .value in
+    let w′ = stored w operands t in
+    let k = locations-before (taggedWords t) w (operandBase operands) 0 n (omega arith) in
+    let z : min m maxEntries ≡ min m c = omega arith in
+    let o = ap (λ (x : ℕ). entriesFrom w′ 0 (min x maxEntries)) (count-stored w t e f) ∙ ap (entriesFrom w′ 0) z
+    ∙ entries-same w′ w 0 (min m c) (λ j l. count-entry w t j (omega arith)) ∙ sym (take-from w 0 m c) in
+    λ i. record { inside = k i; outside = o i }
 
 -- ---- one operand read
 from-at : (w : List ℕ) (i n j : ℕ) (d : Tagged) → j < n → getD (locationsFrom w i n) j d ≡ taggedAt w (i + j)
@@ -248,73 +259,123 @@ reworded-again [] i v x = refl
 reworded-again (e ∷ es) zero v x = refl
 reworded-again (e ∷ es) (suc i) v x = ap (λ (fs : List Entry). e ∷ fs) (reworded-again es i v x)
 
--- ---- changes undone
--- what holds of each form of a change holds of the one that stands in the log as x and t
+-- ---- one change undone: operand x given back the word t
 module _ (x : ℕ) (t : Tagged) where
   change-cases : (P : Change → Type 0) → (x < limit → P (located x t)) → (limit ≤ x → x < operands → P (replaced (x - limit) t))
-      → P (added (x - operands)) → P (changeIn x t)
+      → (operands ≤ x → P (added (t .value))) → P (changeIn x t)
   change-cases P l r a = go (ltb x limit) (ltb x operands) refl refl
     where
-      go : (b c : Bool) → ltb x limit ≡ b → ltb x operands ≡ c → P (cond b (located x t) (cond c (replaced (x - limit) t) (added (x - operands))))
+      go : (b c : Bool) → ltb x limit ≡ b → ltb x operands ≡ c → P (cond b (located x t) (cond c (replaced (x - limit) t) (added (t .value))))
       go true c e d = l (ltb-true x limit e)
       go false true e d = r (ltb-false x limit e) (ltb-true x operands d)
-      go false false e d = a
+      go false false e d = a (ltb-false x operands d)
 
-  drop-undone-one : (w : List ℕ) → drop logBase (undoneBy (changeIn x t) w) ≡ drop logBase w
-  drop-undone-one w =
-      change-cases (λ u. drop logBase (undoneBy u w) ≡ drop logBase w)
-      (λ h. drop-sets (taggedWords t) w (operandBase x) logBase (omega arith))
-      (λ g h. drop-sets (taggedWords t) w (operandBase (limit + (x - limit))) logBase (omega arith))
-      (drop-sets (min (x - operands) (countIn w) ∷ []) w entryCount logBase (omega arith))
+  pub drop-given : (w : List ℕ) → x ≤ operands → drop logBase (stored w x t) ≡ drop logBase w
+  drop-given w h = drop-sets (taggedWords t) w (operandBase x) logBase (omega arith)
 
-  length-undone-one : (w : List ℕ) → length (undoneBy (changeIn x t) w) ≡ length w
-  length-undone-one w =
-      change-cases (λ u. length (undoneBy u w) ≡ length w)
-      (λ h. length-sets w (operandBase x) (taggedWords t))
-      (λ g h. length-sets w (operandBase (limit + (x - limit))) (taggedWords t))
-      (length-sets w entryCount (min (x - operands) (countIn w) ∷ []))
+  state-given : (w : List ℕ) (n : ℕ) → x ≤ operands → length (t .deps .words) ≡ 4 → n ≤ limit → logBase ≤ length w
+      → countBefore (changeIn x t) (countIn w) ≤ countIn w → stateIn (stored w x t) n ≡ revert (changeIn x t) (stateIn w n)
+  state-given w n hx e hn f =
+      change-cases (λ u. countBefore u (countIn w) ≤ countIn w → stateIn (stored w x t) n ≡ revert u (stateIn w n))
+      (λ h c. state-located w n x t h e (omega arith))
+      (λ g h c.
+      let s : x ≡ limit + (x - limit) = omega arith in
+      ap (λ (j : ℕ). stateIn (stored w j t) n) s ∙ state-reworded w n (x - limit) t hn (omega arith) e f)
+      (λ g c.
+      let s : x ≡ operands = omega arith in
+      ap (λ (j : ℕ). stateIn (stored w j t) n) s ∙ state-counted w n t hn e f c)
 
-  state-undone-one : (w : List ℕ) (n : ℕ) → length (t .deps .words) ≡ 4 → n ≤ limit → logBase ≤ length w
-      → stateIn (undoneBy (changeIn x t) w) n ≡ revert (changeIn x t) (stateIn w n)
-  state-undone-one w n e hn f =
-      change-cases (λ u. stateIn (undoneBy u w) n ≡ revert u (stateIn w n))
-      (λ h. state-located w n x t h e (omega arith))
-      (λ g h. state-reworded w n (x - limit) t hn (omega arith) e f)
-      (state-shortened w n (x - operands) hn f)
+  count-given : (w : List ℕ) → x ≤ operands → length (t .deps .words) ≡ 4 → logBase ≤ length w
+      → countBefore (changeIn x t) (countIn w) ≤ countIn w → countIn (stored w x t) ≡ countBefore (changeIn x t) (countIn w)
+  count-given w hx e f =
+      change-cases (λ u. countBefore u (countIn w) ≤ countIn w → countIn (stored w x t) ≡ countBefore u (countIn w))
+      (λ h c. ap (λ (y : ℕ). min y maxEntries) (word-after (taggedWords t) w (operandBase x) entryCount (omega arith)))
+      (λ g h c. ap (λ (y : ℕ). min y maxEntries) (word-after (taggedWords t) w (operandBase x) entryCount (omega arith)))
+      (λ g c.
+      let s : x ≡ operands = omega arith in
+      let z : min (t .value) maxEntries ≡ t .value = omega arith in
+      ap (λ (j : ℕ). countIn (stored w j t)) s ∙ ap (λ (y : ℕ). min y maxEntries) (count-stored w t e f) ∙ z)
 
-  -- an operand given back what it was
-  pub revert-operand : (σ : State) → x < operands → revert (changeIn x t) σ ≡ withOperand σ x t
+  -- an operand of a location or an entry given back what it was
+  revert-operand : (σ : State) → x < operands → revert (changeIn x t) σ ≡ withOperand σ x t
   revert-operand σ h = go (ltb x limit)
     where
-      go : (b : Bool) → revert (cond b (located x t) (cond (ltb x operands) (replaced (x - limit) t) (added (x - operands)))) σ
+      go : (b : Bool) → revert (cond b (located x t) (cond (ltb x operands) (replaced (x - limit) t) (added (t .value)))) σ
           ≡ cond b (put σ x t) (withOutside σ (reworded (σ .outside) (x - limit) t))
       go true = refl
       go false = rw (lt-ltb x operands h)
 
-pub drop-undone : (w : List ℕ) (k j : ℕ) → drop logBase (undone w k j) ≡ drop logBase w
-drop-undone w k zero = refl
-drop-undone w zero (suc j) = refl
-drop-undone w (suc k) (suc j) =
-    drop-undone (undoneBy (changeAt w k) w) k j ∙ drop-undone-one (getD w (changeBase k) 0) (taggedIn w (changeBase k + 1)) w
+  count-operand : (n : ℕ) → x < operands → countBefore (changeIn x t) n ≡ n
+  count-operand n h = change-cases (λ u. countBefore u n ≡ n) (λ l. refl) (λ g l. refl) (λ g. absurd (omega arith))
 
-pub length-undone : (w : List ℕ) (k j : ℕ) → length (undone w k j) ≡ length w
-length-undone w k zero = refl
-length-undone w zero (suc j) = refl
-length-undone w (suc k) (suc j) =
-    length-undone (undoneBy (changeAt w k) w) k j ∙ length-undone-one (getD w (changeBase k) 0) (taggedIn w (changeBase k + 1)) w
+-- ---- the log's bound
+bound-same : {f f′ : ℕ → ℕ} {g g′ : ℕ → Change} {n n′ : ℕ} (k : ℕ) → f ≡ f′ → g ≡ g′ → n ≡ n′ → LogBound f g k n → LogBound f′ g′ k n′
+bound-same {f} {f′} {g} {g′} {n} k ef eg en b =
+    subst (λ (m : ℕ). LogBound f′ g′ k m) en (subst₂ (λ (x : ℕ → ℕ) (y : ℕ → Change). LogBound x y k n) ef eg b)
 
-pub state-undone : (w : List ℕ) (n k j : ℕ) → n ≤ limit → logBase ≤ length w
-    → stateIn (undone w k j) n ≡ restore (lastChanges (changeAt w) k j) (stateIn w n)
-state-undone w n k zero hn f = refl
-state-undone w n zero (suc j) hn f = refl
-state-undone w n (suc k) (suc j) hn f =
-    let x = getD w (changeBase k) 0 in
+pub log-agree : (f f′ : ℕ → ℕ) (g g′ : ℕ → Change) (k n : ℕ) → ((j : ℕ) → j < k → f j ≡ f′ j) → ((j : ℕ) → j < k → g j ≡ g′ j)
+    → LogBound f g k n → LogBound f′ g′ k n
+log-agree f f′ g g′ zero n hf hg b = b
+log-agree f f′ g g′ (suc k) n hf hg b =
+    let E = hf k (le-refl (suc k)) in
+    let G = hg k (le-refl (suc k)) in
+    let b′ = subst₂ (λ (x : ℕ) (u : Change). (x ≤ operands) × (countBefore u n ≤ n) × LogBound f g k (countBefore u n)) E G b in
+    (b′ .0, b′ .1, log-agree f f′ g g′ k (countBefore (g′ k) n) (λ j l. hf j (omega arith)) (λ j l. hg j (omega arith)) (b′ .2))
+
+-- there is an operand of each number
+pub log-numbers : (f : ℕ → ℕ) (g : ℕ → Change) (k n : ℕ) → LogBound f g k n → (j : ℕ) → j < k → f j ≤ operands
+log-numbers f g zero n b j h = absurd (omega arith)
+log-numbers f g (suc k) n b j h = go (ltb j k) refl (log-numbers f g k (countBefore (g k) n) (b .2) j)
+  where
+    go : (x : Bool) → ltb j k ≡ x → (j < k → f j ≤ operands) → f j ≤ operands
+    go true e before = before (ltb-true j k e)
+    go false e before =
+        let l = ltb-false j k e in
+        let s : k ≡ j = omega arith in
+        subst (λ (i : ℕ). f i ≤ operands) s (b .0)
+
+-- one change more, number k, which the words w₁ have logged after those that the words w have
+pub log-more : (w w₁ : List ℕ) (k : ℕ) → numberAt w₁ k ≤ operands → countBefore (changeAt w₁ k) (countIn w₁) ≡ countIn w → countIn w ≤ countIn w₁
+    → ((j : ℕ) → j < k → numberAt w j ≡ numberAt w₁ j) → ((j : ℕ) → j < k → changeAt w j ≡ changeAt w₁ j)
+    → LogBound (numberAt w) (changeAt w) k (countIn w) → LogBound (numberAt w₁) (changeAt w₁) (k + 1) (countIn w₁)
+log-more w w₁ k hn ec hc nums gs b =
+    let b₁ = log-agree (numberAt w) (numberAt w₁) (changeAt w) (changeAt w₁) k (countIn w) nums gs b in
+    let b₂ = subst (λ (m : ℕ). LogBound (numberAt w₁) (changeAt w₁) k m) (sym ec) b₁ in
+    subst (λ (m : ℕ). LogBound (numberAt w₁) (changeAt w₁) m (countIn w₁)) (sym (add-one k)) (hn, subst (λ (m : ℕ). m ≤ countIn w₁) (sym ec) hc, b₂)
+
+-- ---- changes undone
+-- The words w₁ are those of w with the last j of k changes undone.
+pub record Restored (w w₁ : List ℕ) (k j : ℕ) : Type 0 where
+  pub past : drop logBase w₁ ≡ drop logBase w
+  pub size : length w₁ ≡ length w
+  pub state : (n : ℕ) → n ≤ limit → stateIn w₁ n ≡ restore (lastChanges (changeAt w) k j) (stateIn w n)
+  pub log : LogBound (numberAt w₁) (changeAt w₁) (k - j) (countIn w₁)
+
+pub undone-restores : (w : List ℕ) (k j : ℕ) → logBase ≤ length w → LogBound (numberAt w) (changeAt w) k (countIn w) → Restored w (undone w k j) k j
+undone-restores w k zero f b =
+    let z : k ≡ k - 0 = omega arith in
+    record { past = refl; size = refl; state = λ n hn. refl; log = subst (λ (m : ℕ). LogBound (numberAt w) (changeAt w) m (countIn w)) z b }
+undone-restores w zero (suc j) f b =
+    let z : 0 ≡ 0 - suc j = omega arith in
+    record { past = refl; size = refl; state = λ n hn. refl; log = subst (λ (m : ℕ). LogBound (numberAt w) (changeAt w) m (countIn w)) z b }
+undone-restores w (suc k) (suc j) f b =
+    let x = numberAt w k in
     let t = taggedIn w (changeBase k + 1) in
-    let w₁ = undoneBy (changeAt w k) w in
-    let f₁ : logBase ≤ length w₁ = rw (length-undone-one x t w) f in
-    let S = state-undone-one x t w n refl hn f in
-    let G = log-same w₁ w (drop-undone-one x t w) in
-    state-undone w₁ n k j hn f₁ ∙ (λ i. restore (lastChanges (G i) k j) (S i))
+    let w₁ = stored w x t in
+    let d = drop-given x t w (b .0) in
+    let l = length-sets w (operandBase x) (taggedWords t) in
+    let f₁ : logBase ≤ length w₁ = rw l f in
+    let G = log-same w₁ w d in
+    let b₁ = bound-same k (sym (numbers-same w₁ w d)) (sym G) (sym (count-given x t w (b .0) refl f (b .1))) (b .2) in
+    let r = undone-restores w₁ k j f₁ b₁ in
+    let z : k - j ≡ suc k - suc j = omega arith in
+    let u = undone w₁ k j in
+    record {
+      past = r .past ∙ d;
+      size = r .size ∙ l;
+      state = λ n hn. let S = state-given x t w n (b .0) refl hn f (b .1) in r .state n hn ∙ (λ i. restore (lastChanges (G i) k j) (S i));
+      log = subst (λ (m : ℕ). LogBound (numberAt u) (changeAt u) m (countIn u)) z (r .log);
+    }
 
 -- ---- a change logged
 pub changes-agree : (g g′ : ℕ → Change) (k j : ℕ) → ((i : ℕ) → i < k → g i ≡ g′ i) → lastChanges g k j ≡ lastChanges g′ k j
@@ -341,27 +402,49 @@ logged-saved {w} {w₁} {n} {k} l m h =
 
 -- operand l given v
 module _ (w : List ℕ) (n k l : ℕ) (v : Tagged) (hn : n ≤ limit) (hl : l < operands) (hk : changeBase k + 6 ≤ length w) (e : length (v .deps .words) ≡ 4) where
-  -- what is logged, and the words then
+  -- what is logged
   abbrev old : List ℕ
   old = l ∷ taggedWords (taggedAt w l)
 
-  abbrev noted : List ℕ
-  noted = sets w (changeBase k) old
+  log-past : drop logBase (changed w k l v) ≡ drop logBase (operandLogged w k l)
+  log-past = drop-sets (taggedWords v) (operandLogged w k l) (operandBase l) logBase (omega arith)
 
-  log-past : drop logBase (changed w k l v) ≡ drop logBase noted
-  log-past = drop-sets (taggedWords v) noted (operandBase l) logBase (omega arith)
+  the-number : numberAt (changed w k l v) k ≡ l
+  the-number = (λ t. numbers-same (changed w k l v) (operandLogged w k l) log-past t k) ∙ number-stored w k l (taggedAt w l) hk
 
   the-change : changeAt (changed w k l v) k ≡ changeIn l (taggedAt w l)
-  the-change = (λ t. log-same (changed w k l v) noted log-past t k) ∙ change-stored w k l (taggedAt w l) refl hk
+  the-change = (λ t. log-same (changed w k l v) (operandLogged w k l) log-past t k) ∙ change-stored w k l (taggedAt w l) refl hk
+
+  same-numbers : (j : ℕ) → j < k → numberAt (changed w k l v) j ≡ numberAt w j
+  same-numbers j h =
+      (λ t. numbers-same (changed w k l v) (operandLogged w k l) log-past t j)
+      ∙ first-same (same-before old w (changeBase k) (changeBase j) 1 (omega arith)) (lit< tt)
+
+  same-changes : (j : ℕ) → j < k → changeAt (changed w k l v) j ≡ changeAt w j
+  same-changes j h =
+      (λ t. log-same (changed w k l v) (operandLogged w k l) log-past t j) ∙ change-same j (same-before old w (changeBase k) (changeBase j) 6 (omega arith))
+
+  same-count : countIn (changed w k l v) ≡ countIn w
+  same-count =
+      ap (λ (y : ℕ). min y maxEntries)
+      (word-after (taggedWords v) (operandLogged w k l) (operandBase l) entryCount (omega arith) ∙ word-before old w (changeBase k) entryCount (omega arith))
+
+  pub changed-log : LogBound (numberAt w) (changeAt w) k (countIn w)
+      → LogBound (numberAt (changed w k l v)) (changeAt (changed w k l v)) (k + 1) (countIn (changed w k l v))
+  changed-log =
+      let n₁ = countIn (changed w k l v) in
+      log-more w (changed w k l v) k (rw the-number (omega arith))
+      (ap (λ (u : Change). countBefore u n₁) the-change ∙ count-operand l (taggedAt w l) n₁ hl ∙ same-count)
+      (rw same-count (le-refl (countIn w))) (λ j h. sym (same-numbers j h)) (λ j h. sym (same-changes j h))
 
   pub changed-branch : (j : ℕ) → changeBase k + 6 ≤ branchBase j → branchAt (changed w k l v) j ≡ branchAt w j
   changed-branch j h =
-      branch-same j (same-after (taggedWords v) noted (operandBase l) (branchBase j) 4 (omega arith))
+      branch-same j (same-after (taggedWords v) (operandLogged w k l) (operandBase l) (branchBase j) 4 (omega arith))
       ∙ branch-same j (same-after old w (changeBase k) (branchBase j) 4 (omega arith))
 
   pub changed-state : stateIn (changed w k l v) n ≡ withOperand (stateIn w n) l v
   changed-state =
-      state-stored noted n l v hn hl e (rw (length-sets w (changeBase k) old) (omega arith))
+      state-stored (operandLogged w k l) n l v hn hl e (rw (length-sets w (changeBase k) old) (omega arith))
       ∙ ap (λ (σ : State). withOperand σ l v) (state-past old w (changeBase k) n hn (omega arith))
 
   -- given back what it was, the state is as it was
@@ -383,8 +466,7 @@ module _ (w : List ℕ) (n k l : ℕ) (v : Tagged) (hn : n ≤ limit) (hl : l < 
 
   pub changed-logged : Logged w (changed w k l v) n k
   changed-logged = record {
-    before = λ j h.
-        (λ t. log-same (changed w k l v) noted log-past t j) ∙ change-same j (same-before old w (changeBase k) (changeBase j) 6 (omega arith));
+    before = same-changes;
     back = (λ t. revert (the-change t) (changed-state t))
         ∙ revert-operand l (taggedAt w l) (withOperand (stateIn w n) l v) hl
         ∙ own-again;
@@ -454,43 +536,64 @@ module _ (w : List ℕ) (i a : ℕ) (v : Tagged) (hi : i < maxEntries) (f : logB
       let o = ap (entriesFrom (appended w i a v) 0) appended-count ∙ entries-more (appended w i a v) 0 i ∙ (λ t. old t ++ (new t ∷ [])) in
       λ t. record { inside = k t; outside = o t }
 
--- and logged as change number k
+-- and logged as change number k: what it changes is the count
 module _ (w : List ℕ) (n k i a : ℕ) (v : Tagged) (hn : n ≤ limit) (hi : i < maxEntries) (c : i ≡ countIn w) (hk : changeBase k + 6 ≤ length w)
     (e : length (v .deps .words) ≡ 4) where
+  abbrev count : List ℕ
+  count = operands ∷ taggedWords (taggedAt w operands)
+
   abbrev entered : List ℕ
-  entered = set w (changeBase k) (operands + i)
+  entered = operandLogged w k operands
+
+  entered-size : length entered ≡ length w
+  entered-size = length-sets w (changeBase k) count
 
   entered-long : logBase ≤ length entered
-  entered-long = rw (length-set w (changeBase k) (operands + i)) (omega arith)
+  entered-long = rw entered-size (omega arith)
 
   entered-state : stateIn entered n ≡ stateIn w n
-  entered-state = state-past ((operands + i) ∷ []) w (changeBase k) n hn (omega arith)
+  entered-state = state-past count w (changeBase k) n hn (omega arith)
 
   entered-count : i ≡ countIn entered
-  entered-count =
-      c ∙ ap (λ (x : ℕ). min x maxEntries) (sym (word-before ((operands + i) ∷ []) w (changeBase k) entryCount (omega arith)))
+  entered-count = c ∙ ap (λ (x : ℕ). min x maxEntries) (sym (word-before count w (changeBase k) entryCount (omega arith)))
 
   past : drop logBase (extended w k i a v) ≡ drop logBase entered
   past = appended-drop entered i a v hi entered-long e
 
   pub extended-length : length (extended w k i a v) ≡ length w
-  extended-length = appended-length entered i a v hi entered-long e ∙ length-set w (changeBase k) (operands + i)
+  extended-length = appended-length entered i a v hi entered-long e ∙ entered-size
+
+  number-is : numberAt (extended w k i a v) k ≡ operands
+  number-is = (λ t. numbers-same (extended w k i a v) entered past t k) ∙ number-stored w k operands (taggedAt w operands) hk
 
   the-entry : changeAt (extended w k i a v) k ≡ added i
   the-entry =
-      let x = getD-set-same w (changeBase k) (operands + i) 0 (omega arith) in
-      let t = taggedIn entered (changeBase k + 1) in
-      let h : limit ≤ operands + i = omega arith in
-      let g : operands ≤ operands + i = omega arith in
-      let z : operands + i - operands ≡ i = omega arith in
-      (λ j. log-same (extended w k i a v) entered past j k)
-      ∙ ap (λ (y : ℕ). changeIn y t) x
-      ∙ rw (le-ltb (operands + i) limit h, le-ltb (operands + i) operands g) (ap added z)
+      let z : getD w entryCount 0 ≡ i = omega arith in
+      (λ t. log-same (extended w k i a v) entered past t k)
+      ∙ change-stored w k operands (taggedAt w operands) refl hk
+      ∙ ap added z
+
+  numbers-before : (j : ℕ) → j < k → numberAt (extended w k i a v) j ≡ numberAt w j
+  numbers-before j h =
+      (λ t. numbers-same (extended w k i a v) entered past t j)
+      ∙ first-same (same-before count w (changeBase k) (changeBase j) 1 (omega arith)) (lit< tt)
+
+  changes-before : (j : ℕ) → j < k → changeAt (extended w k i a v) j ≡ changeAt w j
+  changes-before j h =
+      (λ t. log-same (extended w k i a v) entered past t j) ∙ change-same j (same-before count w (changeBase k) (changeBase j) 6 (omega arith))
+
+  pub extended-log : LogBound (numberAt w) (changeAt w) k (countIn w)
+      → LogBound (numberAt (extended w k i a v)) (changeAt (extended w k i a v)) (k + 1) (countIn (extended w k i a v))
+  extended-log =
+      let more = appended-count entered i a v hi entered-long e in
+      log-more w (extended w k i a v) k (rw number-is (le-refl operands))
+      (ap (λ (u : Change). countBefore u (countIn (extended w k i a v))) the-entry ∙ c)
+      (rw more (omega arith)) (λ j h. sym (numbers-before j h)) (λ j h. sym (changes-before j h))
 
   pub extended-branch : (j : ℕ) → changeBase k + 6 ≤ branchBase j → branchAt (extended w k i a v) j ≡ branchAt w j
   extended-branch j h =
       (λ t. branches-same (extended w k i a v) entered past t j)
-      ∙ branch-same j (same-after ((operands + i) ∷ []) w (changeBase k) (branchBase j) 4 (omega arith))
+      ∙ branch-same j (same-after count w (changeBase k) (branchBase j) 4 (omega arith))
 
   pub extended-state : stateIn (extended w k i a v) n ≡ withEntry (stateIn w n) a v
   extended-state =
@@ -498,13 +601,11 @@ module _ (w : List ℕ) (n k i a : ℕ) (v : Tagged) (hn : n ≤ limit) (hi : i 
 
   pub extended-logged : Logged w (extended w k i a v) n k
   extended-logged = record {
-    before = λ j h.
-        (λ t. log-same (extended w k i a v) entered past t j)
-        ∙ change-same j (same-before ((operands + i) ∷ []) w (changeBase k) (changeBase j) 6 (omega arith));
+    before = changes-before;
     back = (λ t. revert (the-entry t) (extended-state t))
         ∙ ap (withOutside (stateIn w n)) (take-at (tableIn w) (record { address = a; word = v } ∷ []) i (entries-length w 0 (countIn w) ∙ sym c));
   }
 
   pub extended-frame : (m : ℕ) → changeBase k + 6 ≤ m → drop m (extended w k i a v) ≡ drop m w
   extended-frame m h =
-      drop-past (extended w k i a v) entered logBase m (omega arith) past ∙ drop-sets ((operands + i) ∷ []) w (changeBase k) m (omega arith)
+      drop-past (extended w k i a v) entered logBase m (omega arith) past ∙ drop-sets count w (changeBase k) m (omega arith)

@@ -4,23 +4,23 @@ use Prim.Native.Nat.{ℕ, _+_, _-_, _*_}
 use Rattle.location.specs.Sets.{limit}
 use Rattle.rules.specs.Rules.Limits.{maxEntries}
 
--- words 0 to 1599: 320 operands of 5 words, each the four words of a set, then the value. Operands 0 to 255 are those of the locations, the
--- 64 after them those of the entries of the table outside the image.
+-- words 0 to 1604: operands of 5 words, each the four words of a set, then the value. Operands 0 to 255 are those of the locations, the
+-- 64 after them those of the entries of the table outside the image. The value of the one after them is how many entries there are, so that
+-- the log has that count as it has any operand.
 abbrev pub operandBase : ℕ → ℕ
 operandBase k = 5 * k
 
 abbrev pub operands : ℕ
 operands = limit + maxEntries
 
--- word 1600: how many entries the table has; words 1601 to 1664: their addresses
+-- word 1604: how many entries the table has; words 1605 to 1668: their addresses
 abbrev pub entryCount : ℕ
-entryCount = operandBase operands
+entryCount = operandBase operands + 4
 
 abbrev pub addressBase : ℕ → ℕ
 addressBase i = entryCount + 1 + i
 
--- words 1680 to 2885: the log of changes upwards, 6 words each: the number of an operand, then that operand as it was before; or, where an
--- entry was added, 320 + how many there were before it
+-- words 1680 to 2885: the log of changes upwards, 6 words each: the number of an operand, then that operand as it was before
 abbrev pub logBase : ℕ
 logBase = 1680
 
@@ -36,7 +36,7 @@ firstBranch = 1202
 abbrev pub branchBase : ℕ → ℕ
 branchBase k = logBase + (firstBranch - 4 * k)
 
--- words 3576 to 4087: the word of each of 512 labels; words 1665 to 1679, 2886 to 3575 and 4088 to 4095 are free
+-- words 3576 to 4087: the word of each of 512 labels; words 1669 to 1679, 2886 to 3575 and 4088 to 4095 are free
 abbrev pub labels : ℕ
 labels = 3576
 

@@ -13,10 +13,11 @@ pub use Rattle.rules.specs.Rules.Limits.{maxWindow}
 use Rattle.rules.specs.Rules.Calls.{workingWords}
 use Rattle.rules.specs.Rules.Plain.{State, Entry, put, withOutside}
 use Rattle.rules.specs.Rules.Mispredicting.{Branch, Machine}
-use Rattle.rules.specs.Rules.Changes.{Change, reworded, restore}
+use Rattle.rules.specs.Rules.Changes.{Change, located, replaced, added, reworded, restore}
 use Rattle.work.specs.declared.OpenBranch.{OpenBranch}
 use Rattle.work.specs.declared.machine.Control.{Control}
-use Rattle.work.specs.Words.{taggedAt, countIn, entryAt, changeAt, branchAt}
+use Rattle.work.specs.Layout.{operands}
+use Rattle.work.specs.Words.{taggedAt, countIn, entryAt, numberAt, changeAt, branchAt}
 
 -- the operands of n locations from l on
 abbrev pub locationsFrom : List ℕ → ℕ → ℕ → List Tagged
@@ -81,11 +82,25 @@ abbrev pub WindowBound : (ℕ → OpenBranch) → ℕ → ℕ → ℕ → Type 0
 WindowBound e v zero k = (k ≡ 0) × (0 < v)
 WindowBound e v (suc d) k = (e d .mark ≤ k) × (k + d + v ≤ maxWindow) × WindowBound e (e d .outer) d (e d .mark)
 
--- The working area is long enough, the log and the branches do not meet, and no more branches are open than were opened.
+-- how many entries there were before a change that left n
+abbrev pub countBefore : Change → ℕ → ℕ
+countBefore (located l t) n = n
+countBefore (replaced i t) n = n
+countBefore (added m) n = m
+
+-- Of a log of k changes, where change number i is g i, of operand number f i, and the table now has n entries: there is such an operand, and
+-- no change took an entry away.
+abbrev pub LogBound : (ℕ → ℕ) → (ℕ → Change) → ℕ → ℕ → Type 0
+LogBound f g zero n = Unit {0}
+LogBound f g (suc k) n = (f k ≤ operands) × (countBefore (g k) n ≤ n) × LogBound f g k (countBefore (g k) n)
+
+-- The working area is long enough, the log and the branches do not meet, no more branches are open than were opened, and the log can be
+-- undone without a test.
 pub record Fit (w : List ℕ) (c : Control) : Type 0 where
   pub room : workingWords ≤ length w
   pub bound : WindowBound (branchAt w) (c .window) (c .depth) (c .log)
   pub opened : c .depth ≤ c .opened
+  pub log : LogBound (numberAt w) (changeAt w) (c .log) (countIn w)
 
 -- v may be left of the window: less than there was with a branch open, and not 0 with none.
 pub record Left (c : Control) (v : ℕ) : Type 0 where

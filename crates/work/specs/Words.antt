@@ -1,5 +1,5 @@
 -- What stands in the working words, and the words after each store. Every number is read as something: a count of entries over 64 as 64,
--- any number in the log as a change.
+-- any number in the log from 320 on as the count of entries.
 -- Assumes nothing.
 use mathlib.Core.Bool.{cond}
 use mathlib.Core.List.{List, [], _∷_}
@@ -50,36 +50,34 @@ entryAt w i = record { address = getD w (addressBase i) 0; word = taggedAt w (li
 abbrev pub appended : List ℕ → ℕ → ℕ → Tagged → List ℕ
 appended w i a v = set (set (stored w (limit + i) v) (addressBase i) a) entryCount (i + 1)
 
--- at most n entries left
-abbrev pub shortened : List ℕ → ℕ → List ℕ
-shortened w n = set w entryCount (min n (countIn w))
-
--- ---- a change: an operand by its number, with what it was before; or, from 320 on, an entry that was added
+-- ---- a change: an operand by its number, with what it was before; that of the count of entries is an entry that was added
 abbrev pub changeIn : ℕ → Tagged → Change
-changeIn x t = cond (ltb x limit) (located x t) (cond (ltb x operands) (replaced (x - limit) t) (added (x - operands)))
+changeIn x t = cond (ltb x limit) (located x t) (cond (ltb x operands) (replaced (x - limit) t) (added (t .value)))
+
+-- the number of the operand that change number k is of, and the change
+abbrev pub numberAt : List ℕ → ℕ → ℕ
+numberAt w k = getD w (changeBase k) 0
 
 abbrev pub changeAt : List ℕ → ℕ → Change
-changeAt w k = changeIn (getD w (changeBase k) 0) (taggedIn w (changeBase k + 1))
+changeAt w k = changeIn (numberAt w k) (taggedIn w (changeBase k + 1))
 
--- operand l given v, with its operand of before logged as change number k
+-- operand l as it is, logged as change number k
+abbrev pub operandLogged : List ℕ → ℕ → ℕ → List ℕ
+operandLogged w k l = sets w (changeBase k) (l ∷ taggedWords (taggedAt w l))
+
+-- operand l given v, logged as change number k
 abbrev pub changed : List ℕ → ℕ → ℕ → Tagged → List ℕ
-changed w k l v = stored (sets w (changeBase k) (l ∷ taggedWords (taggedAt w l))) l v
+changed w k l v = stored (operandLogged w k l) l v
 
--- one entry more, after i that there are, logged as change number k
+-- one entry more, after i that there are, logged as change number k: what it changes is the count
 abbrev pub extended : List ℕ → ℕ → ℕ → ℕ → Tagged → List ℕ
-extended w k i a v = appended (set w (changeBase k) (operands + i)) i a v
+extended w k i a v = appended (operandLogged w k operands) i a v
 
--- one change undone
-abbrev pub undoneBy : Change → List ℕ → List ℕ
-undoneBy (located l t) w = stored w l t
-undoneBy (replaced i t) w = stored w (limit + i) t
-undoneBy (added n) w = shortened w n
-
--- the last j of k changes undone, the last one first
+-- the last j of k changes undone, the last one first: each operand gets back what it was
 abbrev pub undone : List ℕ → ℕ → ℕ → List ℕ
 undone w k zero = w
 undone w zero (suc j) = w
-undone w (suc k) (suc j) = undone (undoneBy (changeAt w k) w) k j
+undone w (suc k) (suc j) = undone (stored w (numberAt w k) (taggedIn w (changeBase k + 1))) k j
 
 -- ---- an open branch
 abbrev pub branchAt : List ℕ → ℕ → OpenBranch

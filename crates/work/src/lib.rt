@@ -7,27 +7,27 @@ use location::LocationSet;
 use rules::Tagged;
 use rules::limits::MAX_ENTRIES;
 ghost use mathlib.Core.Path.{_≡_};
-ghost use Prim.Native.Nat.{_+_, _-_, _*_, _<_, _≤_};
+ghost use Prim.Native.Nat.{ℕ, _+_, _-_, _*_, _<_, _≤_};
 ghost use lib.ListN.{length, set, replicate};
 ghost use Rattle.location.specs.Sets.{limit, single};
 ghost use Rattle.rules.specs.Rules.Expressions.{tagged};
 ghost use Rattle.rules.specs.Rules.Limits.{maxEntries};
 ghost use Rattle.rules.specs.Rules.Calls.{written, workingWords};
-ghost use Rattle.work.specs.Layout.{operandBase, entryCount, addressBase, logBase, changeBase, firstBranch, branchBase};
-ghost use Rattle.work.specs.Words.{taggedIn, storedIn, taggedAt, stored, countIn, entryAt, appended, shortened};
-ghost use Rattle.work.specs.Words.{changeIn, changed, extended, undoneBy, undone, branchAt, branchStored};
+ghost use Rattle.work.specs.Layout.{operandBase, operands, entryCount, addressBase, logBase, changeBase, firstBranch, branchBase};
+ghost use Rattle.work.specs.Words.{taggedIn, storedIn, taggedAt, stored, countIn, entryAt, appended};
+ghost use Rattle.work.specs.Words.{numberAt, operandLogged, changed, extended, undone, branchAt, branchStored};
 
 // Operand k stands from OPERAND * k on: the words of the set, then the value. With the set first a load reads the same pairs of words as the
 // store before it wrote. Location l has operand l, entry i of the table outside the image operand LocationSet::LIMIT + i.
 pub const OPERAND: usize = 5;
-// How many operands there are.
+// How many operands of locations and entries there are.
 pub const OPERANDS: usize = LocationSet::LIMIT + MAX_ENTRIES;
-// How many entries the table has; entry i has its address at ADDRESSES + i.
-pub const ENTRY_COUNT: usize = OPERAND * OPERANDS;
+// How many entries the table has: the value of one operand more, so that the log has it as it has any operand. Entry i has its address at
+// ADDRESSES + i.
+pub const ENTRY_COUNT: usize = OPERAND * OPERANDS + 4;
 
 pub const ADDRESSES: usize = ENTRY_COUNT + 1;
-// Change k of the log stands from LOG + CHANGE * k on: the number of an operand, then that operand as it was before; or, where an entry was
-// added, OPERANDS + how many there were before it.
+// Change k of the log stands from LOG + CHANGE * k on: the number of an operand, then that operand as it was before.
 pub const LOG: usize = 1680;
 // How many words a change has.
 pub const CHANGE: usize = 6;
@@ -100,17 +100,26 @@ pub fn store_own(work: &mut [u64], l: Location, value: u64)
     work[at + k / 64] = 1 << (k % 64);
 }
 
-// Operand k takes v; what it was before goes to the log as change number count.
-pub fn change(work: &mut [u64], count: usize, k: usize, v: Tagged)
+// What operand k is goes to the log as change number count.
+fn log_operand(work: &mut [u64], count: usize, k: usize)
     requires { ⌜ operandBase k + 5 ≤ length (now work) ⌝ }
     requires { ⌜ changeBase count + 6 ≤ length (now work) ⌝ }
-    ensures { λ _. ⌜ now (work .exit) ≡ changed (now (work .entry)) count k v ⌝ }
+    ensures { λ _. ⌜ now (work .exit) ≡ operandLogged (now (work .entry)) count k ⌝ }
 {
     let at = LOG + CHANGE * count;
     let old = load_at(&work[..], OPERAND * k);
     let deps = old.deps;
     work[at] = k as u64;
     store_at(&mut work[..], at + 1, old.value, deps);
+}
+
+// Operand k takes v; what it was before goes to the log as change number count.
+pub fn change(work: &mut [u64], count: usize, k: usize, v: Tagged)
+    requires { ⌜ operandBase k + 5 ≤ length (now work) ⌝ }
+    requires { ⌜ changeBase count + 6 ≤ length (now work) ⌝ }
+    ensures { λ _. ⌜ now (work .exit) ≡ changed (now (work .entry)) count k v ⌝ }
+{
+    log_operand(&mut work[..], count, k);
     store(&mut work[..], k, v);
 }
 
@@ -160,43 +169,19 @@ pub fn append(work: &mut [u64], i: usize, address: u64, v: Tagged)
     work[ENTRY_COUNT] = (i + 1) as u64;
 }
 
-// The same, logged as change number count.
+// The same, logged as change number count: what it changes is the count of entries.
 pub fn extend(work: &mut [u64], count: usize, i: usize, address: u64, v: Tagged)
     requires { ⌜ (i < maxEntries) × (changeBase count + 6 ≤ length (now work)) ⌝ }
     ensures { λ _. ⌜ now (work .exit) ≡ extended (now (work .entry)) count i address v ⌝ }
 {
-    work[LOG + CHANGE * count] = (OPERANDS + i) as u64;
+    log_operand(&mut work[..], count, OPERANDS);
     append(&mut work[..], i, address, v);
 }
 
-// At most n entries are left.
-fn shorten(work: &mut [u64], n: usize)
-    requires { ⌜ logBase ≤ length (now work) ⌝ }
-    ensures { λ _. ⌜ now (work .exit) ≡ shortened (now (work .entry)) n ⌝ }
-{
-    let count = entry_count(&work[..]);
-    if n < count {
-        work[ENTRY_COUNT] = n as u64;
-        return;
-    }
-    work[ENTRY_COUNT] = count as u64;
-}
-
-// The change that stands in the log as x and `before` is undone: an operand gets back what it was, or an entry that was added goes.
-fn undo_one(work: &mut [u64], x: usize, before: Tagged)
-    requires { ⌜ logBase ≤ length (now work) ⌝ }
-    ensures { λ _. ⌜ now (work .exit) ≡ undoneBy (changeIn x before) (now (work .entry)) ⌝ }
-{
-    if x < OPERANDS {
-        store(&mut work[..], x, before);
-        return;
-    }
-    shorten(&mut work[..], x - OPERANDS);
-}
-
-// The changes from the last of count down to number mark are undone.
+// The changes from the last of count down to number mark are undone. No operand is tested: there is one of each number in the log.
 pub fn undo(work: &mut [u64], count: usize, mark: usize)
     requires { ⌜ changeBase count ≤ length (now work) ⌝ }
+    requires { ⌜ ((j : ℕ) → j < count → numberAt (now work) j ≤ operands) ⌝ }
     ensures { λ _. ⌜ now (work .exit) ≡ undone (now (work .entry)) count (count - mark) ⌝ }
 {
     let mut k = count;
@@ -205,7 +190,7 @@ pub fn undo(work: &mut [u64], count: usize, mark: usize)
         let at = LOG + CHANGE * k;
         let before = load_at(&work[..], at + 1);
         let x = work[at] as usize;
-        undo_one(&mut work[..], x, before);
+        store(&mut work[..], x, before);
     }
 }
 

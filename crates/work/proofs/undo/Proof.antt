@@ -1,23 +1,26 @@
--- `undo` meets its contract. The invariant: undoing what is left gives what undoing all gives at first. Assumes nothing.
-use mathlib.Core.Path.{_≡_, refl, ap, _∙_}
+-- `undo` meets its contract. The invariant: undoing what is left gives what undoing all gives at first, and the log is as it was. Assumes nothing.
+use mathlib.Core.Path.{_≡_, refl, sym, ap, subst, _∙_}
 use Prim.Native.Nat.{ℕ, _+_, _-_, _≤_}
 use native.Mathlib.Omega.{arith}
 use borrow.Author.Needs.{needs}
-use lib.ListN.{length, getD}
-use Rattle.work.specs.Layout.{changeBase}
-use Rattle.work.specs.Words.{undone}
+use lib.ListN.{length, drop}
+use Rattle.work.specs.Layout.{operands, logBase}
+use Rattle.work.specs.Words.{numberAt, undone}
 use Rattle.work.proofs.Laws.{undo-law}
+use Rattle.work.proofs.Ranges.{numbers-same}
+use Rattle.work.proofs.States.{drop-given}
 use Rattle.work.proofs.undo.Statement.{statement}
 use Rattle.work.proofs.undo.Tie as tie
 
 abbrev Inv-loop : tie.InvT-loop
-Inv-loop work₀ count mark k₀ work k = (k ≤ count) × (length work ≡ length work₀) × (undone work k (k - mark) ≡ undone work₀ count (count - mark))
+Inv-loop work₀ count mark k₀ work k =
+    (k ≤ count) × (length work ≡ length work₀) × (undone work k (k - mark) ≡ undone work₀ count (count - mark)) × (drop logBase work ≡ drop logBase work₀)
 
 abbrev μ-loop : tie.MeasureT-loop
 μ-loop work₀ count mark k₀ work k = k
 
 loop-holds : tie.Need-loop-holds Inv-loop μ-loop
-loop-holds c = (search needs, refl, refl)
+loop-holds c = (search needs, refl, refl, refl)
 
 sub-k : tie.Need-sub-k Inv-loop μ-loop
 sub-k c = omega arith
@@ -40,26 +43,39 @@ mul-x c = omega arith
 slice-read-x : tie.Need-slice-read-x Inv-loop μ-loop
 slice-read-x c = omega arith
 
-undo-one-requires : tie.Need-undo-one-requires Inv-loop μ-loop
-undo-one-requires c κs = omega arith
+store-requires : tie.Need-store-requires Inv-loop μ-loop
+store-requires c κs =
+    let at-loop = c .before .before .before .before .before in
+    let v = at-loop .loop in
+    let k = v .k - 1 in
+    let a = at-loop .before .before in
+    let n : numberAt (v .work) k ≤ operands = subst (λ (x : ℕ). x ≤ operands) (λ t. numbers-same (a .args .work .now) (v .work) (sym (v .inv .3)) t k)
+    (a .pre .1 k (omega arith)) in
+    omega (arith, a .pre .0)
 
 loop-less : tie.Need-loop-less Inv-loop μ-loop
 loop-less c = omega arith
 
 loop-again : tie.Need-loop-again Inv-loop μ-loop
 loop-again c =
-    let at-undo-one = c .before .before in
-    let at-load-at = at-undo-one .before .before .before in
+    let at-store = c .before .before in
+    let at-load-at = at-store .before .before .before in
     let at-loop = at-load-at .before .before .before in
-    let a = at-loop .before .before .args in
+    let at-start = at-loop .before .before in
+    let a = at-start .args in
     let v = at-loop .loop in
     let k = v .k - 1 in
     let s : k + 1 ≡ v .k = omega arith in
-    let x = getD (v .work) (changeBase k) 0 in
+    let x = numberAt (v .work) k in
+    let n : x ≤ operands = subst (λ (y : ℕ). y ≤ operands) (λ t. numbers-same (a .work .now) (v .work) (sym (v .inv .3)) t k) (at-start .pre .1 k (omega arith)) in
     let t = at-load-at .load-at in
-    let g = at-undo-one .undo-one in
-    let q = undo-law (v .work) (g .last .0) k (a .mark) x (t .result) (omega arith) refl (t .ensures) (g .ensures) in
-    (omega arith, omega (arith, g .kept .0), q ∙ ap (λ (j : ℕ). undone (v .work) j (j - a .mark)) s ∙ v .inv .2)
+    let g = at-store .store in
+    let q = undo-law (v .work) (g .last .0) k (a .mark) x (t .result) (omega arith) refl (t .ensures) (g .ensures) in (
+      omega arith,
+      omega (arith, g .kept .0),
+      q ∙ ap (λ (j : ℕ). undone (v .work) j (j - a .mark)) s ∙ v .inv .2,
+      ap (drop logBase) (g .ensures) ∙ drop-given x (t .result) (v .work) n ∙ v .inv .3,
+    )
 
 same-length : tie.Need-same-length Inv-loop μ-loop
 same-length c = c .before .loop .inv .1
@@ -84,7 +100,7 @@ undo-spec =
     load-at-requires
     mul-x
     slice-read-x
-    undo-one-requires
+    store-requires
     loop-less
     loop-again
     same-length

@@ -1,5 +1,7 @@
 -- `roll_back` meets its contract. Assumes nothing.
 use native.Mathlib.Omega.{arith}
+use Rattle.work.specs.Words.{countIn, numberAt, changeAt}
+use Rattle.work.proofs.States.{log-numbers}
 use Rattle.work.proofs.Moves.{fit-bound, roll-law}
 use borrow.Author.Needs.{needs}
 use Rattle.work.proofs.machine.roll_back.Statement.{statement}
@@ -12,8 +14,12 @@ load-branch-requires c κs =
 
 undo-requires : tie.Need-undo-requires
 undo-requires c κs =
-    let f = c .before .before .before .before .before .pre .0 in
-    omega (arith, fit-bound f, f .room)
+    let at-start = c .before .before .before .before .before in
+    let a = at-start .args in
+    let f = at-start .pre .0 in (
+      omega (arith, fit-bound f, f .room),
+      log-numbers (numberAt (a .work .now)) (changeAt (a .work .now)) (a .c .log) (countIn (a .work .now)) (f .log),
+    )
 
 returns : tie.Need-returns
 returns c =
