@@ -9,7 +9,7 @@ use rules::Tagged;
 use token::Expression;
 ghost use mathlib.Core.Path.{_≡_};
 ghost use mathlib.Core.Bool.{true};
-ghost use Prim.Native.Nat.{_+_, _<_, _≤_, min};
+ghost use Prim.Native.Nat.{ℕ, _+_, _<_, _≤_, min};
 ghost use lib.ListN.{length};
 ghost use Rattle.location.specs.Sets.{registers, empty};
 ghost use Rattle.rules.specs.Rules.Expressions.{sound, tagged, eval};
@@ -32,18 +32,26 @@ pub fn joined(t: Tagged, s: LocationSet) -> Tagged
     }
 }
 
-// What a load at an address gives: outside the image what is remembered there.
-pub fn loaded_from(work: &[u64], cells: usize, a: Tagged) -> Tagged
-    requires { ⌜ (operandBase (registers + cells) ≤ length (now work)) × (logBase ≤ length (now work)) ⌝ }
-    ensures { λ r. ⌜ ((code : Code) → code .cells ≡ cells → r ≡ loadedFrom code (stateIn (now (work .entry)) (registers + cells)) a) ⌝ }
+// What a load at an address below the number of cells gives: the cell's word.
+pub fn loaded_cell(work: &[u64], a: Tagged) -> Tagged
+    requires { ⌜ operandBase (registers + a .value) + 5 ≤ length (now work) ⌝ }
+    ensures { λ r. ⌜ ((code : Code) (cells : ℕ) → code .cells ≡ cells → a .value < cells
+        → r ≡ loadedFrom code (stateIn (now (work .entry)) (registers + cells)) a) ⌝ }
 {
     let deps = a.deps;
     let value = a.value;
-    let address = Address::new(value);
-    if value < cells as u64 {
-        return joined(work::load(work, Location::cell(address)), deps);
-    }
-    joined(outside::recall(work, address), deps)
+    joined(work::load(work, Location::cell(Address::new(value))), deps)
+}
+
+// What a load at any other address gives: what is remembered there.
+pub fn loaded_outside(work: &[u64], a: Tagged) -> Tagged
+    requires { ⌜ logBase ≤ length (now work) ⌝ }
+    ensures { λ r. ⌜ ((code : Code) (cells : ℕ) → code .cells ≡ cells → cells ≤ a .value
+        → r ≡ loadedFrom code (stateIn (now (work .entry)) (registers + cells)) a) ⌝ }
+{
+    let deps = a.deps;
+    let value = a.value;
+    joined(outside::recall(work, Address::new(value)), deps)
 }
 
 // The value of an expression of one token. It is a register or a constant, since an operator would lack an operand.

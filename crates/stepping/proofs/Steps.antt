@@ -14,8 +14,9 @@ use Rattle.location.specs.Sets.{registers, limit, empty, union}
 use Rattle.rules.specs.declared.Tagged.{Tagged}
 use Rattle.rules.specs.Rules.Calls.{observationWords, traceWords}
 use Rattle.rules.specs.Rules.Instructions.{Instr, beqz, Observation, pc, stored, windowCosts}
-use Rattle.rules.specs.Rules.Outside.{remember}
-use Rattle.rules.specs.Rules.Plain.{State, at, put, withOutside, Code, storedTo, storeOverfull, branchTo, silent, storeEffect, goEffect}
+use Rattle.rules.specs.Rules.Outside.{remember, overfull}
+use Rattle.rules.specs.Rules.Plain.{State, at, put, withOutside, Code, loadedFrom, storedTo, storeOverfull, branchTo}
+use Rattle.rules.specs.Rules.Plain.{silent, loadEffect, storeEffect, goEffect}
 use Rattle.rules.specs.Rules.Plain as plain
 use Rattle.rules.specs.Rules.Mispredicting.{Branch, Machine, Step, lower, newWindow, rolling, opening, stepWith}
 use Rattle.rules.specs.Rules.Runs.{note}
@@ -27,7 +28,7 @@ use Rattle.work.specs.declared.machine.RolledBack.{RolledBack}
 use Rattle.work.specs.Layout.{labels}
 use Rattle.work.specs.Words.{taggedAt, branchAt, changeAt}
 use Rattle.work.specs.Machines.{tableIn, stateIn, machineOf, Fit}
-use Rattle.work.specs.Moves.{lowerTo, windowOn, ordinaryNext, gone, openingNext, Moves, MovesAt, RollsBack}
+use Rattle.work.specs.Moves.{lowerTo, windowOn, ordinaryNext, gone, openingNext, Moves, RollsBack}
 use Rattle.work.proofs.States.{state-at}
 use Rattle.work.proofs.Moves.{go-law}
 use Rattle.outside.specs.declared.Stored.{Stored}
@@ -35,7 +36,8 @@ use Rattle.outside.specs.Stores.{StoreTried}
 use Rattle.evaluation.proofs.Laws.{inside-fits, outside-fits}
 use Rattle.stepping.specs.declared.Progress.{Progress}
 use Rattle.stepping.specs.Progress.{standing, gatheredOf, rolledBack, progressAfter}
-use Rattle.stepping.specs.Steps.{Made, leftBy, Leaves, RolledBackTo, OpenedTo, CarriedOut, TriedOut, WordTried, StateKept, Unexpired}
+use Rattle.stepping.specs.Steps.{Unexpired, Leaves, leftBy, Made, Attempted, RolledBackTo, OpenedTo, CarriedOut, TriedOut, StateKept}
+use Rattle.stepping.specs.Steps.{wordEffect, outsideEffect}
 use Rattle.stepping.proofs.Laws.{gathered, counted-back, depth-of, length-lower, top-lowered, window-lowered, left-some}
 
 -- ---- any step
@@ -219,47 +221,63 @@ module _ {w t : List ℕ} {c c′ : Progress} {i : Instruction} {cells : ℕ} (l
         carried i (m .machine n most) (m .fits) (m .frame) p code refl (goEffect (stateIn w n) q x) refl refl et (h .exact p code costs);
   }
 
--- ---- a move at n locations, to the state τ, which is that of the move
-pub moves-at : (n : ℕ) {w w′ : List ℕ} {c c′ : Control} {q v : ℕ} (σ τ : State → State) → n ≤ limit
-    → Moves w w′ c c′ (λ M. ordinaryNext M (σ (M .state)) q v) → σ (stateIn w n) ≡ τ (stateIn w n)
-    → MovesAt n w w′ c c′ (λ M. ordinaryNext M (τ (M .state)) q v)
-moves-at n {w} {w′} {c} {c′} {q} {v} σ τ h m e = record {
-  machine = m .machine n h ∙ ap (λ (ρ : State). ordinaryNext (machineOf w c n) ρ q v) e;
-  fits = m .fits;
-  frame = m .frame;
+-- ---- rule 3 for a load, where v is the word that the address gives
+pub load-carried : {w w′ t t′ : List ℕ} {c c′ : Progress} {i : Instruction} {cells : ℕ} (r : ℕ) (a v : Tagged)
+    → ((code : Code) → code .cells ≡ cells → v ≡ loadedFrom code (stateIn w (registers + cells)) a)
+    → CarriedOut cells i (λ code σ. wordEffect σ (c .control .place) r a v) (standing w t c) (standing w′ t′ c′)
+    → CarriedOut cells i (λ code σ. loadEffect code σ (c .control .place) r a) (standing w t c) (standing w′ t′ c′)
+load-carried {w} {w′} {t} {t′} {c} {c′} {i} {cells} r a v same h = record {
+  made = λ p code ec costs.
+      let n = registers + cells in
+      subst
+      (λ (y : Tagged). Made n (stepWith code (machineOf w (c .control) n) (meaning p i) (wordEffect (stateIn w n) (c .control .place) r a y))
+      (standing w t c) (standing w′ t′ c′))
+      (same code ec) (h .made p code ec costs);
 }
 
--- ---- the move of a store, in the image and outside it
-module _ {w w′ : List ℕ} {c control : Control} {cells r v : ℕ} {a : Tagged} where
-  -- σ is what the move makes of the state
-  pub word-inside : a .value < cells → registers + cells ≤ limit → (σ : State → State)
+-- ---- rule 3 for a store to a cell: it is made; l is the cell's location, and y the word that is stored
+module _ {w w′ t t′ : List ℕ} {c c′ : Progress} {i : Instruction} {cells v : ℕ} {a : Tagged} {control : Control} (r l : ℕ) (y : Tagged) where
+  pub store-in-cell : Leaves (c .control) i v → Moves w w′ (c .control) control (λ M. ordinaryNext M (put (M .state) l y) (c .control .place + 1) v)
+      → a .value < cells → registers + cells ≤ limit
       → ((code : Code) → code .cells ≡ cells
-      → σ (stateIn w (registers + cells)) ≡ storedTo code (stateIn w (registers + cells)) a (at (stateIn w (registers + cells)) r))
-      → Moves w w′ c control (λ M. ordinaryNext M (σ (M .state)) (c .place + 1) v)
-      → WordTried cells r a v w w′ c (record { made = true; control = control })
-  word-inside h most σ same m = record {
-    made = λ code ec o. (refl, moves-at (registers + cells) σ (λ (τ : State). storedTo code τ a (at τ r)) most m (same code ec));
-    unmade = λ code ec o. absurd (true≢false (sym o ∙ inside-fits w cells a code ec h));
+      → put (stateIn w (registers + cells)) l y ≡ storedTo code (stateIn w (registers + cells)) a (at (stateIn w (registers + cells)) r))
+      → t′ ≡ sets t (2 * c .observations) (observationWords (stored (a .value))) → c′ ≡ progressAfter c control 1 (a .deps)
+      → TriedOut cells i (λ code σ. storeEffect code σ (c .control .place) r a) (standing w t c) (standing w′ t′ c′)
+  store-in-cell leaves m h most same et counted = record {
+    tried = λ p code ec costs.
+        let n = registers + cells in
+        let σ = stateIn w n in
+        record {
+          made = λ o.
+              carried-shown i (m .machine n most) (m .fits) (m .frame) p code (leaves .exact p code costs) (stored (a .value))
+              (storedTo code σ a (at σ r)) (suc (c .control .place)) (storeOverfull code σ a) (same code ec) (add-one (c .control .place)) refl et counted;
+          unmade = λ o. absurd (true≢false (sym o ∙ inside-fits w cells a code ec h));
+        };
   }
 
--- n is the number of the address, and y the word that is stored
-pub word-outside : {w w′ : List ℕ} {c : Control} {x : Stored} {cells r v n : ℕ} {a y : Tagged} → cells ≤ a .value → registers + cells ≤ limit
-    → n ≡ a .value
+-- ---- rule 3 for a store outside the image, where y is the word that is stored
+pub store-tried : {w w′ t t′ : List ℕ} {c c′ : Progress} {i : Instruction} {cells : ℕ} (r : ℕ) (a y : Tagged) → cells ≤ a .value
     → ((code : Code) → code .cells ≡ cells
-    → withOutside (stateIn w (registers + cells)) (remember (tableIn w) n y)
+    → withOutside (stateIn w (registers + cells)) (remember (tableIn w) (a .value) y)
     ≡ storedTo code (stateIn w (registers + cells)) a (at (stateIn w (registers + cells)) r))
-    → StoreTried w w′ c x n y v → WordTried cells r a v w w′ c x
-word-outside {w} {w′} {c} {x} {cells} {r} {v} {n} {a} {y} h most en same s = record {
-  made = λ code ec o.
-      let q = s .made (sym (outside-fits w cells a code ec h en) ∙ o) in (
-        q .0,
-        moves-at (registers + cells) (λ (τ : State). withOutside τ (remember (τ .outside) n y)) (λ (τ : State). storedTo code τ a (at τ r)) most
-            (q .1) (same code ec),
-      );
-  unmade = λ code ec o. s .unmade (sym (outside-fits w cells a code ec h en) ∙ o);
+    → TriedOut cells i (λ code σ. outsideEffect σ (c .control .place) a y) (standing w t c) (standing w′ t′ c′)
+    → TriedOut cells i (λ code σ. storeEffect code σ (c .control .place) r a) (standing w t c) (standing w′ t′ c′)
+store-tried {w} {w′} {t} {t′} {c} {c′} {i} {cells} r a y l same h = record {
+  tried = λ p code ec costs.
+      let n = registers + cells in
+      let f = outside-fits w cells a code ec l refl in
+      subst (λ (e : plain.Effect). Attempted n (stepWith code (machineOf w (c .control) n) (meaning p i) e) (standing w t c) (standing w′ t′ c′))
+      (λ j. record {
+        state = same code ec j;
+        place = suc (c .control .place);
+        obs = stored (a .value) ∷ [];
+        seen = a .deps;
+        overfull = sym f j;
+      })
+      (h .tried p code ec costs);
 }
 
--- ---- rule 3 for a store, from the move that was tried: it was made, or not; the code tests `not made`
+-- from the move that was tried: it was made, or not; the code tests `not made`
 was-made : (b : Bool) → not b ≡ false → b ≡ true
 was-made true h = refl
 was-made false h = absurd (true≢false h)
@@ -268,27 +286,32 @@ not-made : (b : Bool) → not b ≡ true → b ≡ true → ⊥
 not-made true h e = true≢false (sym h)
 not-made false h e = true≢false (sym e)
 
-module _ {w w′ t : List ℕ} {c : Progress} {i : Instruction} {cells r v : ℕ} {a : Tagged} {x : Stored} (leaves : Leaves (c .control) i v)
-    (word : WordTried cells r a v w w′ (c .control) x) where
+-- k is the number of the address b
+pub tried-there : {w w′ : List ℕ} {c : Control} {x : Stored} {k b v : ℕ} {y : Tagged} → k ≡ b → StoreTried w w′ c x k y v → StoreTried w w′ c x b y v
+tried-there {w} {w′} {c} {x} {v = v} {y = y} e = subst (λ (j : ℕ). StoreTried w w′ c x j y v) e
+
+module _ {w w′ t : List ℕ} {c : Progress} {i : Instruction} {v : ℕ} {a y : Tagged} {x : Stored} (leaves : Leaves (c .control) i v)
+    (word : StoreTried w w′ (c .control) x (a .value) y v) (cells : ℕ) (most : registers + cells ≤ limit) where
   pub store-made : {t′ : List ℕ} {c′ : Progress} → not (x .made) ≡ false → t′ ≡ sets t (2 * c .observations) (observationWords (stored (a .value)))
       → c′ ≡ progressAfter c (x .control) 1 (a .deps)
-      → TriedOut cells i (λ code σ. storeEffect code σ (c .control .place) r a) (standing w t c) (standing w′ t′ c′)
-  store-made h et ec = record {
-    tried = λ p code cells-same costs.
-        let σ = stateIn w (registers + cells) in
-        record {
-          made = λ o.
-              let m = word .made code cells-same o .1 in
-              carried-shown i (m .machine) (m .fits) (m .frame) p code (leaves .exact p code costs) (stored (a .value))
-              (storedTo code σ a (at σ r)) (suc (c .control .place)) (storeOverfull code σ a) refl (add-one (c .control .place)) refl et ec;
-          unmade = λ o. absurd (true≢false (sym (was-made (x .made) h) ∙ word .unmade code cells-same o .0));
-        };
+      → TriedOut cells i (λ code σ. outsideEffect σ (c .control .place) a y) (standing w t c) (standing w′ t′ c′)
+  store-made h et counted = record {
+    tried = λ p code ec costs. record {
+      made = λ o.
+          let n = registers + cells in
+          let m = word .made o .1 in
+          carried-shown i (m .machine n most) (m .fits) (m .frame) p code (leaves .exact p code costs) (stored (a .value))
+          (withOutside (stateIn w n) (remember (tableIn w) (a .value) y)) (suc (c .control .place)) (overfull (tableIn w) (a .value)) refl
+          (add-one (c .control .place)) refl et counted;
+      unmade = λ o. absurd (true≢false (sym (was-made (x .made) h) ∙ word .unmade o .0));
+    };
   }
 
-  pub store-unmade : not (x .made) ≡ true → TriedOut cells i (λ code σ. storeEffect code σ (c .control .place) r a) (standing w t c) (standing w′ t c)
+  pub store-unmade : not (x .made) ≡ true
+      → TriedOut cells i (λ code σ. outsideEffect σ (c .control .place) a y) (standing w t c) (standing w′ t c)
   store-unmade h = record {
-    tried = λ p code cells-same costs. record {
-      made = λ o. absurd (not-made (x .made) h (word .made code cells-same o .0));
-      unmade = λ o. ap (λ (u : List ℕ). standing u t c) (word .unmade code cells-same o .2);
+    tried = λ p code ec costs. record {
+      made = λ o. absurd (not-made (x .made) h (word .made o .0));
+      unmade = λ o. ap (λ (u : List ℕ). standing u t c) (word .unmade o .2);
     };
   }

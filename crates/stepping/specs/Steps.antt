@@ -2,15 +2,16 @@
 -- Assumes nothing.
 use mathlib.Core.Path.{_≡_}
 use mathlib.Core.Bool.{true, false}
-use mathlib.Core.List.{List, _∷_, _++_}
-use Prim.Native.Nat.{ℕ, _+_, _*_, _^_, _<_, _≤_}
+use mathlib.Core.List.{List, [], _∷_, _++_}
+use Prim.Native.Nat.{ℕ, suc, _+_, _*_, _^_, _<_, _≤_}
 use lib.ListN.{length, drop}
 use lib.Seq.{sets}
 use Rattle.location.specs.declared.LocationSet.{LocationSet}
 use Rattle.location.specs.Sets.{registers, limit}
 use Rattle.rules.specs.declared.Tagged.{Tagged}
 use Rattle.rules.specs.Rules.Limits.{maxBudget}
-use Rattle.rules.specs.Rules.Instructions.{Instr, Observation, windowCosts}
+use Rattle.rules.specs.Rules.Instructions.{Instr, Observation, loaded, stored, windowCosts}
+use Rattle.rules.specs.Rules.Outside.{remember, overfull}
 use Rattle.rules.specs.Rules.Plain.{State, Code}
 use Rattle.rules.specs.Rules.Plain as plain
 use Rattle.rules.specs.Rules.Mispredicting.{Branch, Step, remaining, rolling, opening, stepWith}
@@ -20,8 +21,7 @@ use Rattle.work.specs.declared.machine.Control.{Control}
 use Rattle.work.specs.Layout.{labels}
 use Rattle.work.specs.Words.{windowAt}
 use Rattle.work.specs.Machines.{stateIn, Fit, Left}
-use Rattle.work.specs.Moves.{ordinaryNext, gone, MovesAt}
-use Rattle.outside.specs.declared.Stored.{Stored}
+use Rattle.work.specs.Moves.{gone}
 use Rattle.instruction.specs.declared.Instruction.{Instruction}
 use Rattle.instruction.specs.Meaning.{meaning}
 use Rattle.stepping.specs.declared.Progress.{Progress}
@@ -71,14 +71,25 @@ pub record TriedOut (cells : ℕ) (i : Instruction) (rule : Code → State → p
       → Attempted (registers + cells)
       (stepWith code (machineAt x (registers + cells)) (meaning p i) (rule code (stateIn (x .work) (registers + cells)))) x y
 
--- The move of a store of register r at the address a, with so much left of the top's window: it is made unless it needs one address too many.
-pub record WordTried (cells r : ℕ) (a : Tagged) (left : ℕ) (w w′ : List ℕ) (c : Control) (x : Stored) : Type 0 where
-  pub made : (code : Code) → code .cells ≡ cells → plain.storeOverfull code (stateIn w (registers + cells)) a ≡ false
-      → (x .made ≡ true)
-      × MovesAt (registers + cells) w w′ c (x .control)
-      (λ M. ordinaryNext M (plain.storedTo code (M .state) a (plain.at (M .state) r)) (c .place + 1) left)
-  pub unmade : (code : Code) → code .cells ≡ cells → plain.storeOverfull code (stateIn w (registers + cells)) a ≡ true
-      → (x .made ≡ false) × (x .control ≡ c) × (w′ ≡ w)
+-- the effect of a load of register r from the address a, where v is the word that it gives
+abbrev pub wordEffect : State → ℕ → ℕ → Tagged → Tagged → plain.Effect
+wordEffect σ p r a v = record {
+  state = plain.put σ r v;
+  place = suc p;
+  obs = loaded (a .value) ∷ [];
+  seen = a .deps;
+  overfull = false;
+}
+
+-- the effect of a store of v at the address a outside the image
+abbrev pub outsideEffect : State → ℕ → Tagged → Tagged → plain.Effect
+outsideEffect σ p a v = record {
+  state = plain.withOutside σ (remember (σ .outside) (a .value) v);
+  place = suc p;
+  obs = stored (a .value) ∷ [];
+  seen = a .deps;
+  overfull = overfull (σ .outside) (a .value);
+}
 
 -- what an instruction leaves of the top's window; with nothing open the window is kept
 abbrev pub leftBy : Code → Instr → Control → ℕ

@@ -5,7 +5,6 @@ use location::Address;
 use location::Label;
 use location::Location;
 use location::LocationSet;
-use outside::Stored;
 use rules::Tagged;
 use rules::observation::LOAD;
 use rules::observation::PC;
@@ -23,9 +22,9 @@ ghost use Rattle.rules.specs.Rules.Calls.{traceWords};
 ghost use Rattle.rules.specs.Rules.Instructions.{pcKind, pc};
 ghost use Rattle.rules.specs.Rules.Plain.{put, silent, loadEffect, storeEffect, goEffect};
 ghost use Rattle.work.specs.Words.{taggedAt};
-ghost use Rattle.work.specs.Machines.{maxWindow, Fit, Left};
+ghost use Rattle.work.specs.Machines.{maxWindow, Fit};
 ghost use Rattle.stepping.specs.Progress.{standing, standingBefore, standingAfter, gatherAt, progressAfter, progressUnmade};
-ghost use Rattle.stepping.specs.Steps.{Unexpired, Steppable, Leaves, RolledBackTo, OpenedTo, CarriedOut, WordTried, TriedOut, StateKept};
+ghost use Rattle.stepping.specs.Steps.{Unexpired, Steppable, Leaves, RolledBackTo, OpenedTo, CarriedOut, TriedOut, StateKept, wordEffect, outsideEffect};
 
 // Where a run stands: the machine's control, the counts, the full set and the plain set. The rollbacks are not counted: every branch
 // that was opened is open or rolled back.
@@ -175,7 +174,32 @@ pub fn assign(work: &mut [u64], c: Progress, i: Instruction, r: u8, v: Tagged) -
     count_step(c, next, 0, LocationSet::empty())
 }
 
-// Rule 3 for a load of register r from the address a.
+// Rule 3 for a load of register r from the address a, where v is the word that it gives.
+fn load_word(
+    work: &mut [u64],
+    trace: &mut [u64],
+    c: Progress,
+    i: Instruction,
+    r: u8,
+    a: Tagged,
+    v: Tagged,
+) -> Progress
+    requires { ⌜ Steppable 1 (standing (now work) (now trace) c) × (r < registers) ⌝ }
+    ensures { λ x. ⌜ ((cells : ℕ) → registers + cells ≤ limit
+        → CarriedOut cells i (λ code σ. wordEffect σ (c .control .place) r a v) (standingBefore work trace c) (standingAfter work trace x)) ⌝ }
+{
+    let control = c.control;
+    let seen = a.deps;
+    let remaining = remaining_window(control, i);
+    observe(&mut trace[..], c.observations, LOAD, a.value);
+    let to = Location::register(r);
+    let place = control.place + 1;
+    let next = work::machine::assign(&mut work[..], control, to, v, place, remaining);
+    count_step(c, next, 1, seen)
+}
+
+// Rule 3 for a load of register r from the address a. A cell and a word outside the image go their own ways to the end of the step, so
+// that the compiler does not make one slow tail of both.
 pub fn load(
     work: &mut [u64],
     trace: &mut [u64],
@@ -188,46 +212,40 @@ pub fn load(
     requires { ⌜ Steppable 1 (standing (now work) (now trace) c) × (r < registers) × (registers + cells ≤ limit) ⌝ }
     ensures { λ x. ⌜ CarriedOut cells i (λ code σ. loadEffect code σ (c .control .place) r a) (standingBefore work trace c) (standingAfter work trace x) ⌝ }
 {
-    let control = c.control;
-    let remaining = remaining_window(control, i);
-    let v = evaluation::loaded_from(&work[..], cells, a);
-    let to = Location::register(r);
-    let place = control.place + 1;
-    let next = work::machine::assign(&mut work[..], control, to, v, place, remaining);
-    observe(&mut trace[..], c.observations, LOAD, a.value);
-    let seen = a.deps;
-    count_step(c, next, 1, seen)
+    if cells as u64 <= a.value {
+        let v = evaluation::loaded_outside(&work[..], a);
+        return load_word(&mut work[..], &mut trace[..], c, i, r, a, v);
+    }
+    let v = evaluation::loaded_cell(&work[..], a);
+    load_word(&mut work[..], &mut trace[..], c, i, r, a, v)
 }
 
-// The move of a store of register r at the address a, with so much left of the top's window: the cell takes the register, or it is
-// remembered outside the image.
-fn store_word(
+// Rule 3 for a store of v at the address a outside the image. Where it needs one address too many the step is not made.
+fn store_outside(
     work: &mut [u64],
-    c: Control,
-    cells: usize,
-    r: u8,
+    trace: &mut [u64],
+    c: Progress,
+    i: Instruction,
     a: Tagged,
-    remaining: usize,
-) -> Stored
-    requires { ⌜ Fit (now work) c × Left c remaining × (c .place + 1 < 2 ^ 64) × (r < registers) × (registers + cells ≤ limit) ⌝ }
-    ensures { λ x. ⌜ WordTried cells r a remaining (now (work .entry)) (now (work .exit)) c x ⌝ }
+    v: Tagged,
+) -> Progress
+    requires { ⌜ Steppable 1 (standing (now work) (now trace) c) ⌝ }
+    ensures { λ x. ⌜ ((cells : ℕ) → registers + cells ≤ limit
+        → TriedOut cells i (λ code σ. outsideEffect σ (c .control .place) a v) (standingBefore work trace c) (standingAfter work trace x)) ⌝ }
 {
-    let place = c.place + 1;
-    let value = a.value;
-    let deps = a.deps;
-    let address = Address::new(value);
-    let v = evaluation::joined(work::load(&work[..], Location::register(r)), deps);
-    if cells as u64 <= value {
-        return outside::store(&mut work[..], c, address, v, remaining);
+    let control = c.control;
+    let address_set = a.deps;
+    let remaining = remaining_window(control, i);
+    let next = outside::store(&mut work[..], control, Address::new(a.value), v, remaining);
+    if !next.made {
+        return c;
     }
-    let l = Location::cell(address);
-    Stored {
-        made: true,
-        control: work::machine::assign(&mut work[..], c, l, v, place, remaining),
-    }
+    observe(&mut trace[..], c.observations, STORE, a.value);
+    count_step(c, next.control, 1, address_set)
 }
 
-// Rule 3 for a store of register r at the address a. Where it needs one address too many the step is not made.
+// Rule 3 for a store of register r at the address a: the cell takes the register's word, or it is remembered outside the image. Where
+// it needs one address too many the step is not made. The two ways do not meet again, as in `load`.
 pub fn store(
     work: &mut [u64],
     trace: &mut [u64],
@@ -241,14 +259,18 @@ pub fn store(
     ensures { λ x. ⌜ TriedOut cells i (λ code σ. storeEffect code σ (c .control .place) r a) (standingBefore work trace c) (standingAfter work trace x) ⌝ }
 {
     let control = c.control;
-    let remaining = remaining_window(control, i);
-    let next = store_word(&mut work[..], control, cells, r, a, remaining);
-    if !next.made {
-        return c;
+    let value = a.value;
+    let deps = a.deps;
+    let v = evaluation::joined(work::load(&work[..], Location::register(r)), deps);
+    if cells as u64 <= value {
+        return store_outside(&mut work[..], &mut trace[..], c, i, a, v);
     }
-    observe(&mut trace[..], c.observations, STORE, a.value);
-    let address_set = a.deps;
-    count_step(c, next.control, 1, address_set)
+    let remaining = remaining_window(control, i);
+    observe(&mut trace[..], c.observations, STORE, value);
+    let cell = Location::cell(Address::new(value));
+    let place = control.place + 1;
+    let next = work::machine::assign(&mut work[..], control, cell, v, place, remaining);
+    count_step(c, next, 1, deps)
 }
 
 // Rule 3 for a jump or a branch to a place, which rests on v.

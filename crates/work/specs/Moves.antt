@@ -51,12 +51,6 @@ pub record Moves (w w′ : List ℕ) (c c′ : Control) (next : Machine → Mach
   pub fits : Fit w′ c′
   pub frame : drop labels w′ ≡ drop labels w
 
--- The same for one number of locations.
-pub record MovesAt (n : ℕ) (w w′ : List ℕ) (c c′ : Control) (next : Machine → Machine) : Type 0 where
-  pub machine : machineOf w′ c′ n ≡ next (machineOf w c n)
-  pub fits : Fit w′ c′
-  pub frame : drop labels w′ ≡ drop labels w
-
 -- Rule 1 on the top branch b.
 pub record RollsBack (w w′ : List ℕ) (c : Control) (r : RolledBack) : Type 0 where
   pub machine : (n : ℕ) (b : Branch) (bs : List Branch) → n ≤ limit → machineOf w c n .branches ≡ b ∷ bs
