@@ -20,7 +20,8 @@ use Rattle.work.specs.declared.OpenBranch.{OpenBranch}
 use Rattle.work.specs.declared.machine.Control.{Control}
 use Rattle.work.specs.declared.machine.RolledBack.{RolledBack}
 use Rattle.work.specs.Layout.{operandBase, operands, changeBase, branchBase, labels, logBase, firstBranch}
-use Rattle.work.specs.Words.{taggedAt, stored, countIn, appended, numberAt, changeAt, changed, extended, undone, branchAt, branchStored, windowAt, taggedWords}
+use Rattle.work.specs.Words.{taggedAt, stored, countIn, appended, numberAt, changeAt, changed, extended, undone, branchAt, branchStored}
+use Rattle.work.specs.Words.{windowAt, taggedWords}
 use Rattle.work.specs.Machines.{stateIn, withOperand, withEntry, savedAt, branchesOf, machineOf, maxWindow, WindowBound, LogBound, Fit, Left}
 use Rattle.work.specs.Moves.{lowerTo, windowOn, ordinaryNext, gone, loggedTo, openingNext, Moves, RollsBack}
 use Rattle.work.proofs.Ranges.{drop-sets, drop-past, log-same, branches-same}

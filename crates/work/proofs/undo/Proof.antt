@@ -1,5 +1,6 @@
 -- `undo` meets its contract. The invariant: undoing what is left gives what undoing all gives at first, and the log is as it was. Assumes nothing.
 use mathlib.Core.Path.{_≡_, refl, sym, ap, subst, _∙_}
+use mathlib.Core.List.{List}
 use Prim.Native.Nat.{ℕ, _+_, _-_, _≤_}
 use native.Mathlib.Omega.{arith}
 use borrow.Author.Needs.{needs}
@@ -11,6 +12,10 @@ use Rattle.work.proofs.Ranges.{numbers-same}
 use Rattle.work.proofs.States.{drop-given}
 use Rattle.work.proofs.undo.Statement.{statement}
 use Rattle.work.proofs.undo.Tie as tie
+
+-- a number in the log, of words that have the log as it was
+number-still : (w w′ : List ℕ) (k : ℕ) → drop logBase w′ ≡ drop logBase w → numberAt w k ≤ operands → numberAt w′ k ≤ operands
+number-still w w′ k d h = subst (λ (f : ℕ → ℕ). f k ≤ operands) (numbers-same w w′ (sym d)) h
 
 abbrev Inv-loop : tie.InvT-loop
 Inv-loop work₀ count mark k₀ work k =
@@ -49,8 +54,7 @@ store-requires c κs =
     let v = at-loop .loop in
     let k = v .k - 1 in
     let a = at-loop .before .before in
-    let n : numberAt (v .work) k ≤ operands = subst (λ (x : ℕ). x ≤ operands) (λ t. numbers-same (a .args .work .now) (v .work) (sym (v .inv .3)) t k)
-    (a .pre .1 k (omega arith)) in
+    let n : numberAt (v .work) k ≤ operands = number-still (a .args .work .now) (v .work) k (v .inv .3) (a .pre .1 k (omega arith)) in
     omega (arith, a .pre .0)
 
 loop-less : tie.Need-loop-less Inv-loop μ-loop
@@ -67,7 +71,7 @@ loop-again c =
     let k = v .k - 1 in
     let s : k + 1 ≡ v .k = omega arith in
     let x = numberAt (v .work) k in
-    let n : x ≤ operands = subst (λ (y : ℕ). y ≤ operands) (λ t. numbers-same (a .work .now) (v .work) (sym (v .inv .3)) t k) (at-start .pre .1 k (omega arith)) in
+    let n : x ≤ operands = number-still (a .work .now) (v .work) k (v .inv .3) (at-start .pre .1 k (omega arith)) in
     let t = at-load-at .load-at in
     let g = at-store .store in
     let q = undo-law (v .work) (g .last .0) k (a .mark) x (t .result) (omega arith) refl (t .ensures) (g .ensures) in (
