@@ -11,9 +11,8 @@ ghost use Rattle.location.specs.Sets.{limit};
 ghost use Rattle.rules.specs.Rules.Limits.{maxEntries};
 ghost use Rattle.rules.specs.Rules.Plain.{put, withOutside};
 ghost use Rattle.rules.specs.Rules.Changes.{reworded};
-ghost use Rattle.work.specs.Layout.{operands};
 ghost use Rattle.work.specs.Words.{countIn, windowAt};
-ghost use Rattle.work.specs.Machines.{withOperand, withEntry, maxWindow, Fit, Left};
+ghost use Rattle.work.specs.Machines.{withEntry, maxWindow, Fit, Left};
 ghost use Rattle.work.specs.Moves.{Moves, RollsBack, ordinaryNext, gone, loggedTo, openingNext};
 
 // The place, how many branches are open, how many changes are logged, how many branches were opened in all, and the window of the
@@ -117,29 +116,8 @@ fn logged(c: Control, place: usize, remaining: usize) -> Control
     }
 }
 
-// Rule 3 for an instruction that gives operand k the word v.
-fn give(
-    work: &mut [u64],
-    c: Control,
-    k: usize,
-    v: Tagged,
-    place: usize,
-    remaining: usize,
-) -> Control
-    requires { ⌜ Fit (now work) c × Left c remaining × (k < operands) ⌝ }
-    ensures { λ r. ⌜ Moves (now (work .entry)) (now (work .exit)) c r (λ M. ordinaryNext M (withOperand (M .state) k v) place remaining) ⌝ }
-{
-    let depth = c.depth;
-    let log = c.log;
-    if depth == 0 {
-        super::store(&mut work[..], k, v);
-        return go(c, place, remaining);
-    }
-    super::change(&mut work[..], log, k, v);
-    logged(c, place, remaining)
-}
-
-// Rule 3 for an instruction that gives location l the word v.
+// Rule 3 for an instruction that gives location l the word v. It has no code in common with `replace`, so that the compiler puts a step's
+// change of a location where the steps without one are.
 pub fn assign(
     work: &mut [u64],
     c: Control,
@@ -151,7 +129,15 @@ pub fn assign(
     requires { ⌜ Fit (now work) c × Left c remaining × (l .0 < limit) ⌝ }
     ensures { λ r. ⌜ Moves (now (work .entry)) (now (work .exit)) c r (λ M. ordinaryNext M (put (M .state) (l .0) v) place remaining) ⌝ }
 {
-    give(&mut work[..], c, l.index(), v, place, remaining)
+    let depth = c.depth;
+    let log = c.log;
+    let k = l.index();
+    if depth == 0 {
+        super::store(&mut work[..], k, v);
+        return go(c, place, remaining);
+    }
+    super::change(&mut work[..], log, k, v);
+    logged(c, place, remaining)
 }
 
 // Rule 3 for a store that replaces the word of entry i of the table outside the image.
@@ -167,14 +153,15 @@ pub fn replace(
     ensures { λ r. ⌜ Moves (now (work .entry)) (now (work .exit)) c r
         (λ M. ordinaryNext M (withOutside (M .state) (reworded (M .state .outside) i v)) place remaining) ⌝ }
 {
-    give(
-        &mut work[..],
-        c,
-        LocationSet::LIMIT + i,
-        v,
-        place,
-        remaining,
-    )
+    let depth = c.depth;
+    let log = c.log;
+    let entry = LocationSet::LIMIT + i;
+    if depth == 0 {
+        super::store(&mut work[..], entry, v);
+        return go(c, place, remaining);
+    }
+    super::change(&mut work[..], log, entry, v);
+    logged(c, place, remaining)
 }
 
 // Rule 3 for a store that adds an entry to the table, which has i.
