@@ -58,7 +58,7 @@ module _ (w w′ t t′ : List ℕ) (c c′ : Progress) (n : ℕ) (s : Step) (co
         plain = P i;
       })
 
-  pub made-of : machineOf w′ control n ≡ s .next → Fit w′ control → drop labels w′ ≡ drop labels w
+  made-of : machineOf w′ control n ≡ s .next → Fit w′ control → drop labels w′ ≡ drop labels w
       → t′ ≡ sets t (2 * c .observations) (traceWords (s .obs)) → s .next .opened ≤ c .control .opened + 1
       → s .next .opened + c .control .depth ≡ c .control .opened + length (s .next .branches) + s .back
       → (0 < s .back → c .control .depth ≤ c .control .opened) → Made n s (standing w t c) (standing w′ t′ c′)
@@ -154,14 +154,14 @@ module _ {n : ℕ} {w w′ t t′ : List ℕ} {c c′ : Progress} (i : Instructi
       (let D = depth-of w (c .control) n in let L = length-lower code (meaning p i) (M .branches) in omega arith) (λ z. absurd (omega arith))
 
   -- nothing is shown
-  pub carried-silently : {s : LocationSet} → q ≡ c .control .place + 1 → t′ ≡ t → s ≡ empty → c′ ≡ progressAfter c control 0 s
+  carried-silently : {s : LocationSet} → q ≡ c .control .place + 1 → t′ ≡ t → s ≡ empty → c′ ≡ progressAfter c control 0 s
       → Made n (stepWith code (machineOf w (c .control) n) (meaning p i) (silent σ (c .control .place))) (standing w t c) (standing w′ t′ c′)
   unfolding traceWords
   carried-silently eq et es ec =
       carried (silent σ (c .control .place)) refl (eq ∙ add-one (c .control .place)) et (ec ∙ ap (progressAfter c control 0) es)
 
   -- one observation is shown, of the kind a with the value b
-  pub carried-shown : {a b : ℕ} (o : Observation) {s : LocationSet} (τ : State) (r : ℕ) (f : Bool) → σ ≡ τ → q ≡ r
+  carried-shown : {a b : ℕ} (o : Observation) {s : LocationSet} (τ : State) (r : ℕ) (f : Bool) → σ ≡ τ → q ≡ r
       → a ∷ b ∷ [] ≡ observationWords o → t′ ≡ sets t (2 * c .observations) (a ∷ b ∷ []) → c′ ≡ progressAfter c control 1 s
       → Made n (stepWith code (machineOf w (c .control) n) (meaning p i) (record { state = τ; place = r; obs = o ∷ []; seen = s; overfull = f }))
       (standing w t c) (standing w′ t′ c′)

@@ -73,11 +73,11 @@ pub log-law : (w w₁ : List ℕ) (k l : ℕ) (x : Tagged) → x ≡ taggedAt w 
     → w₁ ≡ storedIn (set w (changeBase k) l) (changeBase k + 1) x → w₁ ≡ operandLogged w k l
 log-law w w₁ k l x ex e₁ = e₁ ∙ (λ i. storedIn (set w (changeBase k) l) (add-one (changeBase k) i) (ex i))
 
-pub length-operandLogged : (w : List ℕ) (k l : ℕ) → length (operandLogged w k l) ≡ length w
-length-operandLogged w k l = length-sets w (changeBase k) (l ∷ taggedWords (taggedAt w l))
+length-logged : (w : List ℕ) (k l : ℕ) → length (operandLogged w k l) ≡ length w
+length-logged w k l = length-sets w (changeBase k) (l ∷ taggedWords (taggedAt w l))
 
 pub length-changed : (w : List ℕ) (k l : ℕ) (v : Tagged) → length (changed w k l v) ≡ length w
-length-changed w k l v = length-sets (operandLogged w k l) (operandBase l) (taggedWords v) ∙ length-operandLogged w k l
+length-changed w k l v = length-sets (operandLogged w k l) (operandBase l) (taggedWords v) ∙ length-logged w k l
 
 -- one change undone, and then those before it; l and x are what the code read
 pub undo-law : (w w₁ : List ℕ) (k mark l : ℕ) (x : Tagged) → mark ≤ k → l ≡ numberAt w k → x ≡ taggedIn w (changeBase k + 1)

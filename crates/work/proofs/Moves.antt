@@ -25,7 +25,7 @@ use Rattle.work.specs.Words.{windowAt, taggedWords}
 use Rattle.work.specs.Machines.{stateIn, withOperand, withEntry, savedAt, branchesOf, machineOf, maxWindow, WindowBound, LogBound, Fit, Left}
 use Rattle.work.specs.Moves.{lowerTo, windowOn, ordinaryNext, gone, loggedTo, openingNext, Moves, RollsBack}
 use Rattle.work.proofs.Ranges.{drop-sets, drop-past, log-same, branches-same}
-use Rattle.work.proofs.States.{state-stored, log-agree, Restored, undone-restores, Logged, changed-state, changed-log, changed-branch, changed-logged}
+use Rattle.work.proofs.States.{state-stored, Restored, undone-restores, Logged, changed-state, changed-log, changed-branch, changed-logged}
 use Rattle.work.proofs.States.{appended-drop, appended-length, appended-state}
 use Rattle.work.proofs.States.{extended-length, extended-log, extended-branch, extended-state, extended-logged, extended-frame}
 use Rattle.work.proofs.Laws.{length-changed}
@@ -67,11 +67,6 @@ go-law w c p v f b =
       };
       frame = refl;
     }
-
--- and to a control that is equal
-pub gone-to : (w : List ℕ) {c r : Control} {p v : ℕ} → r ≡ gone c p v → Fit w c → Left c v
-    → Moves w w c r (λ M. ordinaryNext M (M .state) p v)
-gone-to w {c} {r} {p} {v} e f b = subst (λ (x : Control). Moves w w c x (λ M. ordinaryNext M (M .state) p v)) (sym e) (go-law w c p v f b)
 
 -- ---- rule 3, with another state: `next` gives it, and the words w₁ hold it
 module _ (w w₁ : List ℕ) (c : Control) (p v : ℕ) (next : State → State) (f : Fit w c) (b : Left c v)
@@ -133,7 +128,7 @@ module _ (w w₁ : List ℕ) (c : Control) (p v : ℕ) (next : State → State) 
       }
 
 -- the log has room for one change more, before the branches
-pub log-room : {w : List ℕ} {c : Control} → Fit w c → changeBase (c .log) + 6 ≤ labels
+log-room : {w : List ℕ} {c : Control} → Fit w c → changeBase (c .log) + 6 ≤ labels
 log-room f = let b = fit-bound f in omega arith
 
 -- operand l given the word x

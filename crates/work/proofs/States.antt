@@ -10,7 +10,7 @@ use native.Mathlib.Omega.{arith}
 use lib.Dec.{ltb, lit<}
 use lib.ListN.{length, getD, take, drop, set, length-set}
 use lib.Seq.{sets, length-sets, set-set, getD-set-same, take-at}
-use borrow.Author.Tests.{ltb-true, ltb-false, lt-ltb, le-ltb}
+use borrow.Author.Tests.{ltb-true, ltb-false, lt-ltb}
 use Rattle.location.specs.Sets.{limit, empty}
 use Rattle.rules.specs.declared.Tagged.{Tagged}
 use Rattle.rules.specs.Rules.Limits.{maxEntries}
@@ -66,7 +66,7 @@ table-same : (w w′ : List ℕ) → getD w entryCount 0 ≡ getD w′ entryCoun
 table-same w w′ c h =
     ap (λ (x : ℕ). entriesFrom w 0 (min x maxEntries)) c ∙ entries-same w w′ 0 (countIn w′) (λ j l. h j (omega arith))
 
--- words that are the same from the first one of the table's on, up to the log, hold the same table; so do stores past it
+-- a word before or after a run of stores is as it was; so is the table where they are past it
 word-before : (vs w : List ℕ) (i j : ℕ) → j + 1 ≤ i → getD (sets w i vs) j 0 ≡ getD w j 0
 word-before vs w i j h = first-same (same-before vs w i j 1 h) (lit< tt)
 
@@ -191,7 +191,8 @@ counted-entry w x j h =
     let y = tagged-same (same-before (x ∷ []) w entryCount (operandBase (limit + j)) 5 (omega arith)) in
     λ t. record { address = a t; word = y t }
 
--- the operand of the count given back: the entries that are left are the first ones
+-- ---- the operand of the count given back
+-- it leaves every entry's words
 count-entry : (w : List ℕ) (t : Tagged) (j : ℕ) → j < maxEntries → entryAt (stored w operands t) j ≡ entryAt w j
 count-entry w t j h =
     let a = word-after (taggedWords t) w (operandBase operands) (addressBase j) (omega arith) in
@@ -201,6 +202,7 @@ count-entry w t j h =
 count-stored : (w : List ℕ) (t : Tagged) → length (t .deps .words) ≡ 4 → logBase ≤ length w → getD (stored w operands t) entryCount 0 ≡ t .value
 count-stored w t e f = ap (λ (x : Tagged). x .value) (tagged-stored w (operandBase operands) t e (omega arith))
 
+-- and the first entries are left
 state-counted : (w : List ℕ) (n : ℕ) (t : Tagged) → n ≤ limit → length (t .deps .words) ≡ 4 → logBase ≤ length w → t .value ≤ countIn w
     → stateIn (stored w operands t) n ≡ withOutside (stateIn w n) (take (t .value) (tableIn w))
 state-counted w n t hn e f h =
@@ -335,7 +337,7 @@ log-numbers f g (suc k) n b j h = go (ltb j k) refl (log-numbers f g k (countBef
         subst (λ (i : ℕ). f i ≤ operands) s (b .0)
 
 -- one change more, number k, which the words w₁ have logged after those that the words w have
-pub log-more : (w w₁ : List ℕ) (k : ℕ) → numberAt w₁ k ≤ operands → countBefore (changeAt w₁ k) (countIn w₁) ≡ countIn w → countIn w ≤ countIn w₁
+log-more : (w w₁ : List ℕ) (k : ℕ) → numberAt w₁ k ≤ operands → countBefore (changeAt w₁ k) (countIn w₁) ≡ countIn w → countIn w ≤ countIn w₁
     → ((j : ℕ) → j < k → numberAt w j ≡ numberAt w₁ j) → ((j : ℕ) → j < k → changeAt w j ≡ changeAt w₁ j)
     → LogBound (numberAt w) (changeAt w) k (countIn w) → LogBound (numberAt w₁) (changeAt w₁) (k + 1) (countIn w₁)
 log-more w w₁ k hn ec hc nums gs b =

@@ -1,10 +1,8 @@
 -- What the functions over the machine promise.
 -- Assumes nothing.
 use mathlib.Core.Path.{_≡_}
-use mathlib.Core.Bool.{Bool, false, _||_}
 use mathlib.Core.List.{List, [], _∷_}
 use Prim.Native.Nat.{ℕ, suc, _+_, _≤_}
-use lib.Dec.{eqb, leb}
 use lib.ListN.{drop}
 use Rattle.location.specs.Sets.{limit}
 use Rattle.rules.specs.Rules.Plain.{State}

@@ -22,10 +22,9 @@ ghost use Rattle.work.specs.Words.{numberAt, operandLogged, changed, ext
 pub const OPERAND: usize = 5;
 // How many operands of locations and entries there are.
 pub const OPERANDS: usize = LocationSet::LIMIT + MAX_ENTRIES;
-// How many entries the table has: the value of one operand more, so that the log has it as it has any operand. Entry i has its address at
-// ADDRESSES + i.
+// How many entries the table has: the value of one operand more, so that the log has it as it has any operand.
 pub const ENTRY_COUNT: usize = OPERAND * OPERANDS + 4;
-
+// Entry i has its address at ADDRESSES + i.
 pub const ADDRESSES: usize = ENTRY_COUNT + 1;
 // Change k of the log stands from LOG + CHANGE * k on: the number of an operand, then that operand as it was before.
 pub const LOG: usize = 1680;
@@ -181,7 +180,7 @@ pub fn extend(work: &mut [u64], count: usize, i: usize, address: u64, v: Tagged)
 // The changes from the last of count down to number mark are undone. No operand is tested: there is one of each number in the log.
 pub fn undo(work: &mut [u64], count: usize, mark: usize)
     requires { ⌜ changeBase count ≤ length (now work) ⌝ }
-    requires { ⌜ ((j : ℕ) → j < count → numberAt (now work) j ≤ operands) ⌝ }
+    requires { ⌜ ((j : ℕ) → mark ≤ j → j < count → numberAt (now work) j ≤ operands) ⌝ }
     ensures { λ _. ⌜ now (work .exit) ≡ undone (now (work .entry)) count (count - mark) ⌝ }
 {
     let mut k = count;

@@ -116,8 +116,8 @@ fn logged(c: Control, place: usize, remaining: usize) -> Control
     }
 }
 
-// Rule 3 for an instruction that gives location l the word v. It has no code in common with `replace`, so that the compiler puts a step's
-// change of a location where the steps without one are.
+// Rule 3 for an instruction that gives location l the word v. `replace` is written out apart: with one function for both, the compiler gave
+// the steps that change nothing a jump more.
 pub fn assign(
     work: &mut [u64],
     c: Control,

@@ -54,7 +54,7 @@ store-requires c κs =
     let v = at-loop .loop in
     let k = v .k - 1 in
     let a = at-loop .before .before in
-    let n : numberAt (v .work) k ≤ operands = number-still (a .args .work .now) (v .work) k (v .inv .3) (a .pre .1 k (omega arith)) in
+    let n : numberAt (v .work) k ≤ operands = number-still (a .args .work .now) (v .work) k (v .inv .3) (a .pre .1 k (omega arith) (omega arith)) in
     omega (arith, a .pre .0)
 
 loop-less : tie.Need-loop-less Inv-loop μ-loop
@@ -71,7 +71,7 @@ loop-again c =
     let k = v .k - 1 in
     let s : k + 1 ≡ v .k = omega arith in
     let x = numberAt (v .work) k in
-    let n : x ≤ operands = number-still (a .work .now) (v .work) k (v .inv .3) (at-start .pre .1 k (omega arith)) in
+    let n : x ≤ operands = number-still (a .work .now) (v .work) k (v .inv .3) (at-start .pre .1 k (omega arith) (omega arith)) in
     let t = at-load-at .load-at in
     let g = at-store .store in
     let q = undo-law (v .work) (g .last .0) k (a .mark) x (t .result) (omega arith) refl (t .ensures) (g .ensures) in (

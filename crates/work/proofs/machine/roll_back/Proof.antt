@@ -18,7 +18,7 @@ undo-requires c κs =
     let a = at-start .args in
     let f = at-start .pre .0 in (
       omega (arith, fit-bound f, f .room),
-      log-numbers (numberAt (a .work .now)) (changeAt (a .work .now)) (a .c .log) (countIn (a .work .now)) (f .log),
+      λ j m. log-numbers (numberAt (a .work .now)) (changeAt (a .work .now)) (a .c .log) (countIn (a .work .now)) (f .log) j,
     )
 
 returns : tie.Need-returns
