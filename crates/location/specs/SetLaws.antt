@@ -132,6 +132,13 @@ either-none [] = refl
 either-none (x ∷ s) = ap₂ {C = List ℕ} (λ (a : ℕ) (r : List ℕ). a ∷ r) (or-zero-r x) (either-none s)
 
 -- ---- inclusion is a partial order, and the union its least upper bound
+pub either-length : (s t : List ℕ) (n : ℕ) → length s ≡ n → length t ≡ n → length (either s t) ≡ n
+unfolding either
+either-length [] t n e f = f
+either-length (x ∷ s) [] n e f = e
+either-length (x ∷ s) (y ∷ t) zero e f = absurd (omega arith)
+either-length (x ∷ s) (y ∷ t) (suc n) e f = ap suc (either-length s t n (omega arith) (omega arith))
+
 pub inside-refl : (s : List ℕ) → inside s s ≡ true
 unfolding inside
 inside-refl [] = refl
@@ -332,6 +339,19 @@ member-union s t l = has-either (s .words) (t .words) l
 pub member-empty : (l : ℕ) → member empty l ≡ false
 unfolding member empty
 member-empty l = has-none 4 l
+
+pub union-assoc : (s t u : LocationSet) → union (union s t) u ≡ union s (union t u)
+unfolding union
+union-assoc s t u = ap (λ (ws : List ℕ). record { words = ws }) (either-assoc (s .words) (t .words) (u .words))
+
+-- the empty set has four words, so that it adds nothing to four
+pub union-empty : (s : LocationSet) → length (s .words) ≡ 4 → union s empty ≡ s
+unfolding union empty
+union-empty s h = ap (λ (ws : List ℕ). record { words = ws }) (rw h at (either-none (s .words)))
+
+pub empty-union : (s : LocationSet) → length (s .words) ≡ 4 → union empty s ≡ s
+unfolding union empty
+empty-union s h = ap (λ (ws : List ℕ). record { words = ws }) (either-comm (none 4) (s .words) ∙ (rw h at (either-none (s .words))))
 
 pub member-single : (l : ℕ) → l < 256 → member (single l) l ≡ true
 unfolding member single

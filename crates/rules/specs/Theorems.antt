@@ -29,6 +29,7 @@ pub mod Encoded
 pub mod TextParts
 pub mod Decimals
 pub mod Postfix
+pub mod SetsFirst
 pub mod TextOperands
 pub mod TextExpressions
 pub mod TextLines

@@ -3,7 +3,7 @@
 use mathlib.Core.Path.{_≡_, refl}
 use lib.ListN.{length}
 use Rattle.location.specs.Sets.{bit, has, none, only, either, inside, empty, single, union, subset, member}
-use Rattle.rules.specs.Rules.Expressions.{after, held, sound, pushed, evalOn, top, eval}
+use Rattle.rules.specs.Rules.Expressions.{after, held, sound, pushed, evalOn, top, eval, gathered, setOn, exprSet}
 use Rattle.rules.specs.Rules.Instructions.{windowCosts}
 use Rattle.rules.specs.Rules.Outside.{recall, remember, remembers, overfull}
 use Rattle.rules.specs.Rules.Plain.{at, put, ownFrom, firstState, values, endPlace, fetch, loadedFrom, storedTo, storeOverfull, chosen, branchTo, exec}
@@ -32,6 +32,7 @@ use Rattle.rules.specs.Cases.Outside.{fillingLines, registers, locations
 use Rattle.rules.specs.Cases.Refusals as refusal
 use Rattle.rules.specs.Cases.Refusals.{reads, numberOf, readNumbers, wantedNumbers, skips, offsetsAt, listBit, refusals}
 use Rattle.rules.specs.Cases.Operators.{computed, expected, high, all, boundaries}
+use Rattle.rules.specs.Cases.Sets.{setsOf, threeSets, setsGiven, thrice, setsWanted, sets}
 
 -- "S is 28, Q 188, the file 236 bytes."
 pub printed-numbers : (trailer (job 1 10 100) .state ≡ 28) × (trailer (job 1 10 100) .list ≡ 188) × (length (job 1 10 100) ≡ 236)
@@ -42,6 +43,12 @@ printed-numbers = (refl, refl, refl)
 pub operators-hold : computed boundaries ≡ expected boundaries
 unfolding computed expected high all boundaries
 operators-hold = refl
+
+-- The sets of expressions, ahead of their values and with them.
+pub sets-hold : setsGiven sets ≡ setsWanted sets
+unfolding setsOf threeSets setsGiven thrice setsWanted sets all little wordOf byte unary binary constant tokenOf token tokens pushed evalOn top
+    eval gathered setOn exprSet empty none union either
+sets-hold = refl
 
 -- The cases that document 01 marks (P), as one table; our own rows; and the refusals.
 pub record TablesHold : Type 0 where

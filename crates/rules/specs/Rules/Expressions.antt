@@ -1,6 +1,7 @@
 -- Expressions in postfix: the rule that they keep, and their value with the set of locations that it rests on.
 -- Assumes nothing.
-use mathlib.Core.Bool.{Bool, _&&_, cond}
+use mathlib.Core.Path.{_≡_}
+use mathlib.Core.Bool.{Bool, true, _&&_, cond}
 use mathlib.Core.List.{List, [], _∷_}
 use Prim.Native.Nat.{ℕ, _+_, _-_}
 use lib.Dec.{eqb, leb}
@@ -70,3 +71,23 @@ top (a ∷ st) = a
 
 unfoldable pub eval : (ℕ → Tagged) → Expr → Tagged
 eval at e = top (evalOn at e [])
+
+-- ---- the set of an expression, ahead of its value. Document 02, F-5: "Gather the set of an expression in one pass over its tokens,
+-- from the registers' sets alone, ahead of its value." `sets` gives the registers' sets: there is no value to look at.
+unfoldable pub gathered : (ℕ → LocationSet) → Token → LocationSet → LocationSet
+gathered sets (reg r) s = union s (sets r)
+gathered sets (const c) s = s
+gathered sets (op1 o) s = s
+gathered sets (op2 o) s = s
+
+unfoldable pub setOn : (ℕ → LocationSet) → Expr → LocationSet → LocationSet
+setOn sets [] s = s
+setOn sets (t ∷ ts) s = setOn sets ts (gathered sets t s)
+
+unfoldable pub exprSet : (ℕ → LocationSet) → Expr → LocationSet
+exprSet sets e = setOn sets e empty
+
+-- What is promised of a set s that was gathered so: "Whatever the registers hold, it is the set document 01 gives."
+pub record SetFirst (sets : ℕ → LocationSet) (e : Expr) (s : LocationSet) : Type 0 where
+  pub exact : s ≡ exprSet sets e
+  pub whatever : sound e ≡ true → (values : ℕ → ℕ) → s ≡ eval (λ r. tagged (values r) (sets r)) e .deps
