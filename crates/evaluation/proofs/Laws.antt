@@ -1,6 +1,6 @@
 -- How what the callees give makes up what the rules say of an instruction.
 -- Assumes nothing.
-use mathlib.Core.Path.{_≡_, refl, sym, ap, _∙_}
+use mathlib.Core.Path.{_≡_, refl, sym, ap, ap₂, _∙_}
 use mathlib.Core.Bool.{Bool, true, false, cond}
 use mathlib.Core.List.{List, [], _∷_}
 use Prim.Native.Nat.{ℕ, _+_, _-_, _<_, _≤_}
@@ -8,12 +8,14 @@ use native.Mathlib.Omega.{arith}
 use lib.Dec.{eqb, ltb}
 use lib.ListN.{length, getD}
 use borrow.Author.Tests.{eq-eqb, eqb-true, ne-eqb, lt-ltb, le-ltb}
-use Rattle.location.specs.Sets.{registers, empty}
-use Rattle.location.specs.SetLaws.{and-right}
+use Rattle.location.specs.declared.LocationSet.{LocationSet}
+use Rattle.location.specs.Sets.{registers, empty, union}
+use Rattle.location.specs.SetLaws.{and-right, union-empty, empty-union}
 use Rattle.rules.specs.declared.Refusal.the-variants as refusals
 use Rattle.rules.specs.declared.Tagged.{Tagged}
-use Rattle.rules.specs.Rules.Operators.{neg, add}
-use Rattle.rules.specs.Rules.Expressions.{Token, reg, const, op1, op2, Expr, after, held, sound, tagged, result2, pushed, evalOn, top, eval}
+use Rattle.rules.specs.Rules.Operators.{neg, Op2, add, apply2}
+use Rattle.rules.specs.Rules.Expressions.{Token, reg, const, op1, op2, Expr, after, held, sound, tagged, pushed, evalOn, top, eval}
+use Rattle.rules.specs.Rules.Expressions.{gathered, setOn, exprSet, SetFirst}
 use Rattle.rules.specs.Rules.Instructions.{Instr}
 use Rattle.rules.specs.Rules.JobFile.{Read, got, refused, andThen, return, refuse, little, unary, binary, constant, tokenOf, token, tokens, expr, postfix}
 use Rattle.rules.specs.Rules.Outside.{recall, remember, overfull}
@@ -119,16 +121,30 @@ pub value-constant : (f : ℕ → Tagged) {c : ℕ} {ts : Expr} {v : Tagged} →
 unfolding eval evalOn top pushed
 value-constant f et ev = rw et ev
 
--- two operands x and y under the operator with place i in the rules' table; l and k are the registers' locations
-pub value-with-constant : (f : ℕ → Tagged) {r c j i l : ℕ} {ts : Expr} {v x y : Tagged} → ts ≡ reg r ∷ const c ∷ op2 (getD binary j add) ∷ []
-    → i ≡ j → l ≡ r → x ≡ f l → y ≡ tagged c empty → v ≡ result2 (getD binary i add) x y → v ≡ eval f ts
+-- The operands x and y under the operator with place i in the rules' table make z, beside the set t; l and k are the registers' locations.
+pub value-with-constant : (f : ℕ → Tagged) {r c j i l x y z : ℕ} {ts : Expr} {t : LocationSet} → length (f r .deps .words) ≡ 4
+    → ts ≡ reg r ∷ const c ∷ op2 (getD binary j add) ∷ [] → i ≡ j → l ≡ r → t ≡ f l .deps → x ≡ f l .value → y ≡ c
+    → z ≡ apply2 (getD binary i add) x y → tagged z t ≡ eval f ts
 unfolding eval evalOn top pushed
-value-with-constant f et ei el ex ey ev = rw et (rw (ei, ex, el, ey) at ev)
+value-with-constant f {r} {c} {j} four et ei el ep ex ey ez =
+    rw et
+    (ap₂ {C = Tagged} (λ (n : ℕ) (s : LocationSet). tagged n s) (rw (ei, ex, el, ey) at ez) ((rw el at ep) ∙ sym (union-empty (f r .deps) four)))
 
-pub value-with-register : (f : ℕ → Tagged) {r q j i l s k : ℕ} {ts : Expr} {v x y : Tagged} → ts ≡ reg r ∷ reg q ∷ op2 (getD binary j add) ∷ []
-    → i ≡ j → l ≡ r → x ≡ f l → s ≡ q → k ≡ s → y ≡ f k → v ≡ result2 (getD binary i add) x y → v ≡ eval f ts
-unfolding eval evalOn top pushed
-value-with-register f et ei el ex es ek ey ev = rw et (rw (ei, ex, el, ey, ek, es) at ev)
+-- the set of two registers is gathered from theirs
+pub two-gathered : (sets : ℕ → LocationSet) {r q l k : ℕ} {ts : Expr} {a b t : LocationSet} (o : Op2) → length (sets r .words) ≡ 4
+    → ts ≡ reg r ∷ reg q ∷ op2 o ∷ [] → l ≡ r → a ≡ sets l → k ≡ q → b ≡ sets k → t ≡ union a b → t ≡ exprSet sets ts
+unfolding exprSet setOn gathered
+two-gathered sets {r} {q} o four et el ea ek eb ep =
+    rw et ((rw (ea, el, eb, ek) at ep) ∙ ap (λ (s : LocationSet). union s (sets q)) (sym (empty-union (sets r) four)))
+
+pub value-with-register : (f : ℕ → Tagged) {r q j i l k x y z : ℕ} {ts : Expr} {t : LocationSet} → ts ≡ reg r ∷ reg q ∷ op2 (getD binary j add) ∷ []
+    → SetFirst (λ n. f n .deps) ts t → i ≡ j → l ≡ r → x ≡ f l .value → k ≡ q → y ≡ f k .value → z ≡ apply2 (getD binary i add) x y
+    → tagged z t ≡ eval f ts
+unfolding sound held after eval evalOn top pushed
+value-with-register f {r} {q} {j} et ep ei el ex ek ey ez =
+    let whole : sound (reg r ∷ reg q ∷ op2 (getD binary j add) ∷ []) ≡ true = refl in
+    rw et
+    (ap₂ {C = Tagged} (λ (n : ℕ) (s : LocationSet). tagged n s) (rw (ei, ex, el, ey, ek) at ez) ((rw et at ep) .whatever whole (λ n. f n .value)))
 
 -- ---- an expression of one token that keeps the postfix rule
 -- the tokens of what was read as one

@@ -12,13 +12,13 @@ ghost use mathlib.Core.Bool.{true};
 ghost use Prim.Native.Nat.{ℕ, _+_, _<_, _≤_, min};
 ghost use lib.ListN.{length};
 ghost use Rattle.location.specs.Sets.{registers, empty};
-ghost use Rattle.rules.specs.Rules.Expressions.{sound, tagged, eval};
+ghost use Rattle.rules.specs.Rules.Expressions.{sound, tagged, eval, SetFirst};
 ghost use Rattle.rules.specs.Rules.JobFile.{little};
 ghost use Rattle.rules.specs.Rules.Plain.{Code, joined, loadedFrom, chosen, branchTo};
 ghost use Rattle.token.specs.Meaning.{tokensOf};
 ghost use Rattle.descriptor.specs.Descriptors.{shapeRegisterConstant, shapeRegisterRegister, constantPlace, instructionIn, firstTokens, General, Valid};
 ghost use Rattle.work.specs.Layout.{operandBase, logBase};
-ghost use Rattle.work.specs.Words.{taggedAt};
+ghost use Rattle.work.specs.Words.{setAt, taggedAt};
 ghost use Rattle.work.specs.Machines.{stateIn};
 
 // A word whose set takes over another.
@@ -64,9 +64,10 @@ fn one_value(p: &[u8], work: &[u64], e: Expression) -> Tagged
     if byte < 16 {
         return work::load(work, Location::register(byte));
     }
+    let deps = LocationSet::empty();
     Tagged {
         value: token::word(p, at + 1),
-        deps: LocationSet::empty(),
+        deps,
     }
 }
 
@@ -122,33 +123,53 @@ fn constant_value(p: &[u8], d: Descriptor) -> Tagged
     requires { ⌜ d .at + constantPlace (d .shape) + 8 ≤ length (now p) ⌝ }
     ensures { λ r. ⌜ r ≡ tagged (little (now (p .entry)) (d .at + constantPlace (d .shape)) 8) empty ⌝ }
 {
+    let deps = LocationSet::empty();
     Tagged {
         value: descriptor::constant_of(p, d),
-        deps: LocationSet::empty(),
+        deps,
     }
 }
 
-// A register and a constant under an operator.
+// A register and a constant under an operator: the register's set, then the value.
 fn with_constant(p: &[u8], work: &[u64], d: Descriptor) -> Tagged
     requires { ⌜ (d .shape ≡ shapeRegisterConstant) × Valid (now p) d × (operandBase registers ≤ length (now work)) ⌝ }
     ensures { λ r. ⌜ r ≡ eval (taggedAt (now (work .entry))) (firstTokens (instructionIn (now (p .entry)) d)) ⌝ }
 {
-    let x = work::load(work, Location::register(d.first));
-    let y = constant_value(p, d);
-    expression::combine(descriptor::operator_of(p, d), x, y)
+    let register = Location::register(d.first);
+    let deps = work::load_set(work, register);
+    let x = work::load_value(work, register);
+    let c = descriptor::constant_of(p, d);
+    Tagged {
+        value: expression::values::operate_two(descriptor::operator_of(p, d), x, c),
+        deps,
+    }
 }
 
-// Two registers under an operator.
+// The set of two registers under an operator, from their sets alone.
+fn set_of_two(p: &[u8], work: &[u64], d: Descriptor) -> LocationSet
+    requires { ⌜ (d .shape ≡ shapeRegisterRegister) × Valid (now p) d × (operandBase registers ≤ length (now work)) ⌝ }
+    ensures { λ r. ⌜ SetFirst (setAt (now (work .entry))) (firstTokens (instructionIn (now (p .entry)) d)) r ⌝ }
+{
+    let left = work::load_set(work, Location::register(d.first));
+    let right = work::load_set(work, Location::register(descriptor::second_of(p, d)));
+    left.union(right)
+}
+
+// Two registers under an operator: their set, then the value.
 fn with_register(p: &[u8], work: &[u64], d: Descriptor) -> Tagged
     requires { ⌜ (d .shape ≡ shapeRegisterRegister) × Valid (now p) d × (operandBase registers ≤ length (now work)) ⌝ }
     ensures { λ r. ⌜ r ≡ eval (taggedAt (now (work .entry))) (firstTokens (instructionIn (now (p .entry)) d)) ⌝ }
 {
-    let x = work::load(work, Location::register(d.first));
-    let y = work::load(work, Location::register(descriptor::second_of(p, d)));
-    expression::combine(descriptor::operator_of(p, d), x, y)
+    let deps = set_of_two(p, work, d);
+    let x = work::load_value(work, Location::register(d.first));
+    let y = work::load_value(work, Location::register(descriptor::second_of(p, d)));
+    Tagged {
+        value: expression::values::operate_two(descriptor::operator_of(p, d), x, y),
+        deps,
+    }
 }
 
-// The value of what the instruction of a descriptor reads first; 0 where it reads nothing.
+// What the instruction of a descriptor reads first, in each arm the set ahead of the value; 0 where it reads nothing.
 pub fn source_value(p: &[u8], work: &[u64], d: Descriptor) -> Tagged
     requires { ⌜ Valid (now p) d × (operandBase registers ≤ length (now work)) ⌝ }
     ensures { λ r. ⌜ r ≡ eval (taggedAt (now (work .entry))) (firstTokens (instructionIn (now (p .entry)) d)) ⌝ }

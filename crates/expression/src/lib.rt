@@ -1,101 +1,31 @@
-// The value of an expression of the job, with the set of locations that it rests on.
-use location::Location;
-use location::LocationSet;
+// An expression of the job: the set of locations that it rests on, and then its value.
+pub mod sets;
+pub mod values;
+
 use rules::Tagged;
 use token::Expression;
 ghost use mathlib.Core.Path.{_≡_};
 ghost use mathlib.Core.Bool.{true};
 ghost use Prim.Native.Nat.{_≤_};
-ghost use lib.ListN.{length, getD};
+ghost use lib.ListN.{length};
 ghost use Rattle.location.specs.Sets.{registers};
-ghost use Rattle.rules.specs.Rules.Operators.{neg, apply1, add, apply2};
-ghost use Rattle.rules.specs.Rules.Expressions.{sound, result2, eval};
-ghost use Rattle.rules.specs.Rules.JobFile.{unary, binary};
+ghost use Rattle.rules.specs.Rules.Expressions.{sound, eval};
 ghost use Rattle.token.specs.Meaning.{tokensOf};
 ghost use Rattle.work.specs.Layout.{operandBase};
 ghost use Rattle.work.specs.Words.{taggedAt};
 
-// The slots below the top of the stack: seven for values, as an expression holds eight at most, and two that stand for none. The first is
-// what the first token reads; the second takes the top as it is before the first value.
-const SLOTS: usize = 9;
-
-// An operator of one operand, by its place in the rules' table.
-fn operate_one(i: u8, x: u64) -> u64
-    ensures { λ r. ⌜ r ≡ apply1 (getD unary i neg) x ⌝ }
-{
-    match i {
-        1 => word::not(x),
-        _ => word::neg(x),
-    }
-}
-
-// An operator of two operands, by its place in the rules' table.
-fn operate_two(i: u8, x: u64, y: u64) -> u64
-    ensures { λ r. ⌜ r ≡ apply2 (getD binary i add) x y ⌝ }
-{
-    match i {
-        1 => word::sub(x, y),
-        2 => word::mul(x, y),
-        3 => word::and(x, y),
-        4 => word::or(x, y),
-        5 => word::xor(x, y),
-        6 => word::shl(x, y),
-        7 => word::shr(x, y),
-        8 => word::eq(x, y),
-        9 => word::ult(x, y),
-        _ => word::add(x, y),
-    }
-}
-
-// The value of an expression that keeps the postfix rule: each token is read once, over a stack of values, whose top is a variable; those
-// below it stand in the slots before `held`. The set is that of all its registers together, so that no set is kept for each value.
-// A token's byte is tested for what comes most often first: a register, then an operator of two operands.
+// The set of an expression that keeps the postfix rule, then its value. The expression is taken apart, so that its two numbers come and go in
+// registers.
 pub fn evaluate(p: &[u8], work: &[u64], e: Expression) -> Tagged
     requires { ⌜ (sound (tokensOf (now p) e) ≡ true) × (operandBase registers ≤ length (now work)) ⌝ }
     ensures { λ r. ⌜ r ≡ eval (taggedAt (now (work .entry))) (tokensOf (now (p .entry)) e) ⌝ }
 {
-    let mut deps = LocationSet::empty();
-    let mut stack = [0u64; SLOTS];
-    let mut top: u64 = 0;
-    let mut held = 1;
-    let mut offset = e.at;
+    let at = e.at;
     let count = e.count;
-    let mut i = 0;
-    while i < count {
-        let byte = p[offset];
-        offset += 1;
-        i += 1;
-        let below = stack[held - 1];
-        if byte < 16 {
-            let v = work::load(work, Location::register(byte));
-            let more = v.deps;
-            deps = deps.union(more);
-            stack[held] = top;
-            held += 1;
-            top = v.value;
-        } else if 18 < byte {
-            held -= 1;
-            top = operate_two(byte - 19, below, top);
-        } else if byte == 16 {
-            stack[held] = top;
-            held += 1;
-            top = token::word(p, offset);
-            offset += 8;
-        } else {
-            top = operate_one(byte - 17, top);
-        }
-    }
-    Tagged { value: top, deps }
-}
-
-// Two operands under an operator, by its place in the rules' table.
-pub fn combine(i: u8, x: Tagged, y: Tagged) -> Tagged
-    ensures { λ r. ⌜ r ≡ result2 (getD binary i add) x y ⌝ }
-{
-    let left = x.deps;
-    let right = y.deps;
+    let whole = Expression { at, count };
+    let deps = sets::set_of(p, work, whole);
     Tagged {
-        value: operate_two(i, x.value, y.value),
-        deps: left.union(right),
+        value: values::value_of(p, work, whole),
+        deps,
     }
 }

@@ -7,6 +7,7 @@ use Prim.Native.Nat.{ℕ, zero, suc, _+_, _-_, min}
 use lib.Dec.{ltb}
 use lib.ListN.{getD, set}
 use lib.Seq.{sets}
+use Rattle.location.specs.declared.LocationSet.{LocationSet}
 use Rattle.location.specs.Sets.{limit}
 use Rattle.rules.specs.declared.Tagged.{Tagged}
 use Rattle.rules.specs.Rules.Limits.{maxEntries}
@@ -16,11 +17,11 @@ use Rattle.work.specs.declared.OpenBranch.{OpenBranch}
 use Rattle.work.specs.Layout.{operandBase, operands, entryCount, addressBase, changeBase, branchBase}
 
 -- ---- an operand: the four words of its set, then its value
+abbrev pub setIn : List ℕ → ℕ → LocationSet
+setIn w i = record { words = getD w i 0 ∷ getD w (i + 1) 0 ∷ getD w (i + 2) 0 ∷ getD w (i + 3) 0 ∷ [] }
+
 abbrev pub taggedIn : List ℕ → ℕ → Tagged
-taggedIn w i = record {
-  value = getD w (i + 4) 0;
-  deps = record { words = getD w i 0 ∷ getD w (i + 1) 0 ∷ getD w (i + 2) 0 ∷ getD w (i + 3) 0 ∷ [] };
-}
+taggedIn w i = record { value = getD w (i + 4) 0; deps = setIn w i }
 
 -- as its five words, whatever the length of the list that stands for the set
 abbrev pub taggedWords : Tagged → List ℕ
@@ -31,7 +32,10 @@ taggedWords v =
 abbrev pub storedIn : List ℕ → ℕ → Tagged → List ℕ
 storedIn w i v = sets w i (taggedWords v)
 
--- operand number l
+-- operand number l, and its set alone
+abbrev pub setAt : List ℕ → ℕ → LocationSet
+setAt w l = setIn w (operandBase l)
+
 abbrev pub taggedAt : List ℕ → ℕ → Tagged
 taggedAt w l = taggedIn w (operandBase l)
 

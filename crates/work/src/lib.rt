@@ -14,16 +14,18 @@ ghost use Rattle.rules.specs.Rules.Expressions.{tagged};
 ghost use Rattle.rules.specs.Rules.Limits.{maxEntries};
 ghost use Rattle.rules.specs.Rules.Calls.{written, workingWords};
 ghost use Rattle.work.specs.Layout.{operandBase, operands, entryCount, addressBase, logBase, changeBase, firstBranch, branchBase};
-ghost use Rattle.work.specs.Words.{taggedIn, storedIn, taggedAt, stored, countIn, entryAt, appended};
+ghost use Rattle.work.specs.Words.{setIn, taggedIn, storedIn, setAt, taggedAt, stored, countIn, entryAt, appended};
 ghost use Rattle.work.specs.Words.{numberAt, operandLogged, changed, extended, undone, branchAt, branchStored};
 
 // Operand k stands from OPERAND * k on: the words of the set, then the value. With the set first a load reads the same pairs of words as the
 // store before it wrote. Location l has operand l, entry i of the table outside the image operand LocationSet::LIMIT + i.
 pub const OPERAND: usize = 5;
+// How many words the set has, so the place of the value in an operand.
+pub const VALUE: usize = 4;
 // How many operands of locations and entries there are.
 pub const OPERANDS: usize = LocationSet::LIMIT + MAX_ENTRIES;
 // How many entries the table has: the value of one operand more, so that the log has it as it has any operand.
-pub const ENTRY_COUNT: usize = OPERAND * OPERANDS + 4;
+pub const ENTRY_COUNT: usize = OPERAND * OPERANDS + VALUE;
 // Entry i has its address at ADDRESSES + i.
 pub const ADDRESSES: usize = ENTRY_COUNT + 1;
 // Change k of the log stands from LOG + CHANGE * k on: the number of an operand, then that operand as it was before.
@@ -48,14 +50,22 @@ pub struct OpenBranch {
     pub mark: usize,
 }
 
+fn set_at(work: &[u64], at: usize) -> LocationSet
+    requires { ⌜ at + 4 ≤ length (now work) ⌝ }
+    ensures { λ r. ⌜ r ≡ setIn (now (work .entry)) at ⌝ }
+{
+    let words = [work[at], work[at + 1], work[at + 2], work[at + 3]];
+    LocationSet { words }
+}
+
 fn load_at(work: &[u64], at: usize) -> Tagged
     requires { ⌜ at + 5 ≤ length (now work) ⌝ }
     ensures { λ r. ⌜ r ≡ taggedIn (now (work .entry)) at ⌝ }
 {
-    let words = [work[at], work[at + 1], work[at + 2], work[at + 3]];
+    let deps = set_at(work, at);
     Tagged {
-        value: work[at + 4],
-        deps: LocationSet { words },
+        value: work[at + VALUE],
+        deps,
     }
 }
 
@@ -68,7 +78,7 @@ fn store_at(work: &mut [u64], at: usize, value: u64, deps: LocationSet)
     work[at + 1] = words[1];
     work[at + 2] = words[2];
     work[at + 3] = words[3];
-    work[at + 4] = value;
+    work[at + VALUE] = value;
 }
 
 pub fn load(work: &[u64], l: Location) -> Tagged
@@ -76,6 +86,22 @@ pub fn load(work: &[u64], l: Location) -> Tagged
     ensures { λ r. ⌜ r ≡ taggedAt (now (work .entry)) (l .0) ⌝ }
 {
     load_at(work, OPERAND * l.index())
+}
+
+// The set of a location alone: its value is neither asked for nor read.
+pub fn load_set(work: &[u64], l: Location) -> LocationSet
+    requires { ⌜ operandBase (l .0) + 4 ≤ length (now work) ⌝ }
+    ensures { λ r. ⌜ r ≡ setAt (now (work .entry)) (l .0) ⌝ }
+{
+    set_at(work, OPERAND * l.index())
+}
+
+// The value of a location alone.
+pub fn load_value(work: &[u64], l: Location) -> u64
+    requires { ⌜ operandBase (l .0) + 5 ≤ length (now work) ⌝ }
+    ensures { λ r. ⌜ r ≡ taggedAt (now (work .entry)) (l .0) .value ⌝ }
+{
+    work[OPERAND * l.index() + VALUE]
 }
 
 // Operand k takes v.

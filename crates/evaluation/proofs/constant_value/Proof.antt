@@ -9,7 +9,7 @@ use Rattle.evaluation.proofs.constant_value.Statement.{statement}
 use Rattle.evaluation.proofs.constant_value.Tie as tie
 
 returns : tie.Need-returns
-returns c = ap₂ {C = Tagged} (λ (n : ℕ) (s : LocationSet). tagged n s) (c .before .constant-of .ensures) (c .empty .ensures)
+returns c = ap₂ {C = Tagged} (λ (n : ℕ) (s : LocationSet). tagged n s) (c .constant-of .ensures) (c .before .empty .ensures)
 
 pub constant-value-spec : {M : Type 1} → statement M
 constant-value-spec = tie.close (tie.spec (λ c κs. search needs) (λ c κs. search needs) returns)

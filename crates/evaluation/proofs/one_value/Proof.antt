@@ -33,26 +33,28 @@ returns c =
 
 add-word : tie.Need-add-word
 add-word c =
-    let start = c .before .before .before .before in
+    let at-if1 = c .before in
+    let start = at-if1 .before .before .before .before in
     let a = start .args in
-    let h = one-constant (a .p .now) (a .e) (start .pre .0) (start .pre .1) (c .if1 .left) .0 in
+    let h = one-constant (a .p .now) (a .e) (start .pre .0) (start .pre .1) (at-if1 .if1 .left) .0 in
     search needs
 
 word-requires : tie.Need-word-requires
 word-requires c κs =
-    let start = c .before .before .before .before in
+    let at-if1 = c .before in
+    let start = at-if1 .before .before .before .before in
     let a = start .args in
-    let h = one-constant (a .p .now) (a .e) (start .pre .0) (start .pre .1) (c .if1 .left) .0 in
+    let h = one-constant (a .p .now) (a .e) (start .pre .0) (start .pre .1) (at-if1 .if1 .left) .0 in
     omega arith
 
 returns-2 : tie.Need-returns-2
 returns-2 c =
-    let at-word = c .before in
-    let at-if1 = at-word .before in
+    let at-empty = c .before in
+    let at-if1 = at-empty .before in
     let start = at-if1 .before .before .before .before in
     let a = start .args in
     value-constant _ (one-constant (a .p .now) (a .e) (start .pre .0) (start .pre .1) (at-if1 .if1 .left) .1)
-    (ap₂ {C = Tagged} (λ (n : ℕ) (s : LocationSet). tagged n s) (at-word .word .ensures) (c .empty .ensures))
+    (ap₂ {C = Tagged} (λ (n : ℕ) (s : LocationSet). tagged n s) (c .word .ensures) (at-empty .empty .ensures))
 
 pub one-value-spec : {M : Type 1} → statement M
 one-value-spec =
@@ -62,7 +64,7 @@ one-value-spec =
     (λ c κs. search needs)
     load-requires
     returns
+    (λ c κs. search needs)
     add-word
     word-requires
-    (λ c κs. search needs)
     returns-2)

@@ -1,9 +1,9 @@
--- `expression::operate_two` meets its contract: each arm is the operator at that place of the rules' table. Assumes nothing.
+-- `expression::values::operate_two` meets its contract: each arm is the operator at that place of the rules' table. Assumes nothing.
 use borrow.Author.Needs.{needs}
 use Rattle.rules.specs.Rules.JobFile.{binary}
 use Rattle.token.specs.Operators.{binary-default}
-use Rattle.expression.proofs.operate_two.Statement.{statement}
-use Rattle.expression.proofs.operate_two.Tie as tie
+use Rattle.expression.proofs.values.operate_two.Statement.{statement}
+use Rattle.expression.proofs.values.operate_two.Tie as tie
 
 returns : tie.Need-returns
 unfolding binary
