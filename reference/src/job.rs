@@ -1,7 +1,8 @@
 //! Reads a job file, with refusals 1 to 8, and a second state, with refusal 9.
 
+use crate::expression::{BinaryOperator, Expression, Token, UnaryOperator};
 use crate::location_set::LocationSet;
-use crate::machine::{BinaryOperator, Expression, Instruction, Token, UnaryOperator, REGISTERS};
+use crate::machine::{Instruction, REGISTERS};
 use crate::refusal::{self, require};
 
 const TRAILER_BYTES: usize = 16;

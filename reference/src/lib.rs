@@ -1,10 +1,11 @@
-//! A second implementation of document 01 and of requests F-1 to F-4 of document 02,
+//! A second implementation of document 01 and of requests F-1 to F-5 of document 02,
 //! written from the documents alone.
 //! It prefers clarity to speed: every branch saves a copy of the whole state.
 
 #![forbid(unsafe_code)]
 
 mod answer;
+mod expression;
 mod job;
 mod listing;
 mod location_set;

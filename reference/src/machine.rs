@@ -1,5 +1,6 @@
-//! The machine: expressions, instructions, the state with its dependency sets, and plain execution.
+//! The machine: instructions, the state with its dependency sets, and plain execution.
 
+use crate::expression::Expression;
 use crate::location_set::LocationSet;
 use crate::outside::OutsideTable;
 use crate::trace::{LOAD, PC, STORE};
@@ -12,39 +13,6 @@ pub struct Word {
     pub value: u64,
     pub depends: LocationSet,
 }
-
-/// One token of a postfix expression.
-#[derive(Debug, Clone, Copy, PartialEq, Eq)]
-pub enum Token {
-    Register(usize),
-    Constant(u64),
-    Unary(UnaryOperator),
-    Binary(BinaryOperator),
-}
-
-#[derive(Debug, Clone, Copy, PartialEq, Eq)]
-pub enum UnaryOperator {
-    Neg,
-    Not,
-}
-
-#[derive(Debug, Clone, Copy, PartialEq, Eq)]
-pub enum BinaryOperator {
-    Add,
-    Sub,
-    Mul,
-    And,
-    Or,
-    Xor,
-    Shl,
-    Shr,
-    Eq,
-    Ult,
-}
-
-/// A postfix expression that keeps the postfix rule: no operand is lacking and one value is left.
-#[derive(Debug, Clone, PartialEq, Eq)]
-pub struct Expression(pub Vec<Token>);
 
 /// An instruction with its fields; a label equal to the instruction count is END.
 #[derive(Debug, Clone, PartialEq, Eq)]
@@ -102,33 +70,6 @@ impl Instruction {
     }
 }
 
-impl UnaryOperator {
-    fn apply(self, operand: u64) -> u64 {
-        match self {
-            UnaryOperator::Neg => operand.wrapping_neg(),
-            UnaryOperator::Not => !operand,
-        }
-    }
-}
-
-impl BinaryOperator {
-    fn apply(self, left: u64, right: u64) -> u64 {
-        match self {
-            BinaryOperator::Add => left.wrapping_add(right),
-            BinaryOperator::Sub => left.wrapping_sub(right),
-            BinaryOperator::Mul => left.wrapping_mul(right),
-            BinaryOperator::And => left & right,
-            BinaryOperator::Or => left | right,
-            BinaryOperator::Xor => left ^ right,
-            // "uses the shift count modulo 64": a shift by 64 gives the left operand.
-            BinaryOperator::Shl => left << (right % 64),
-            BinaryOperator::Shr => left >> (right % 64),
-            BinaryOperator::Eq => u64::from(left == right),
-            BinaryOperator::Ult => u64::from(left < right),
-        }
-    }
-}
-
 impl State {
     /// The state at the start of a run; each location depends on itself alone, nothing is outside.
     /// The words stand in the order of the locations: registers, then cells.
@@ -164,29 +105,11 @@ impl State {
         (outside && !self.outside.has_room_for(address.value)).then_some(address)
     }
 
-    /// The postfix rule, checked when the job is read, keeps every pop from failing.
+    /// The set comes ahead of the value, and from the registers' sets alone.
     fn evaluate(&self, expression: &Expression) -> Word {
-        let mut stack: Vec<Word> = Vec::with_capacity(8);
-        for &token in &expression.0 {
-            let result = match token {
-                Token::Register(register) => self.registers[register],
-                Token::Constant(value) => Word { value, depends: LocationSet::EMPTY },
-                Token::Unary(operator) => {
-                    let operand = stack.pop().expect("postfix rule");
-                    Word { value: operator.apply(operand.value), ..operand }
-                }
-                Token::Binary(operator) => {
-                    let right = stack.pop().expect("postfix rule");
-                    let left = stack.pop().expect("postfix rule");
-                    Word {
-                        value: operator.apply(left.value, right.value),
-                        depends: left.depends.union(right.depends),
-                    }
-                }
-            };
-            stack.push(result);
-        }
-        stack.pop().expect("postfix rule")
+        let depends = expression.dependency_set(&self.registers.map(|word| word.depends));
+        let value = expression.value(&self.registers.map(|word| word.value));
+        Word { value, depends }
     }
 
     /// The index of the cell at an address, if there is such a cell.

@@ -1,6 +1,7 @@
 //! The bytes of a program as a job file holds them.
 
-use crate::machine::{BinaryOperator, Expression, Instruction, Token, UnaryOperator};
+use crate::expression::{BinaryOperator, Expression, Token, UnaryOperator};
+use crate::machine::Instruction;
 use crate::refusal::{self, Refusal};
 
 /// A token count or label that does not fit its field is refusal 11, as 4 or 6 would refuse it.

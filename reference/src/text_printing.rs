@@ -1,6 +1,7 @@
 //! A program as text: one instruction a line, one space between parts, none just inside brackets.
 
-use crate::machine::{BinaryOperator, Expression, Instruction, Token, UnaryOperator};
+use crate::expression::{BinaryOperator, Expression, Token, UnaryOperator};
+use crate::machine::Instruction;
 
 /// Each line ends with a newline.
 pub fn routine_text(program: &[Instruction]) -> String {

@@ -8,7 +8,8 @@
 //! operand     = number | register | sign operand | "(" operand operator operand ")"
 //! ```
 
-use crate::machine::{BinaryOperator, Expression, Instruction, Token, UnaryOperator, REGISTERS};
+use crate::expression::{BinaryOperator, Expression, Token, UnaryOperator};
+use crate::machine::{Instruction, REGISTERS};
 use crate::refusal::{self, require, Refusal};
 
 const MAX_INSTRUCTIONS: usize = 512;

@@ -2,6 +2,7 @@
 #![allow(dead_code)]
 
 pub mod random;
+pub mod xorshift;
 
 use check_box_reference::{compare, plain_run, run, PairAnswer, PlainAnswer, RunAnswer};
 

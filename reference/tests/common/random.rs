@@ -1,19 +1,10 @@
 //! Random jobs, shared by the tests.
 
+pub use super::xorshift::Random;
 use super::T::{C, R};
 use super::*;
 
-/// A xorshift generator, so that each test makes the same jobs every time.
-pub struct Random(pub u64);
-
 impl Random {
-    pub fn below(&mut self, limit: u64) -> u64 {
-        self.0 ^= self.0 << 13;
-        self.0 ^= self.0 >> 7;
-        self.0 ^= self.0 << 17;
-        (self.0 >> 16) % limit
-    }
-
     fn register(&mut self) -> u8 {
         self.below(5) as u8
     }
@@ -33,6 +24,18 @@ impl Random {
             tokens.push(T::Op(19 + self.below(10) as u8));
         }
         tokens
+    }
+
+    /// An expression of 1 to 16 tokens of all kinds.
+    pub fn long_expression(&mut self) -> Vec<T> {
+        let operand_counts = self.operand_counts();
+        let token = |operands| match operands {
+            0 if self.below(3) == 0 => C(self.constant()),
+            0 => R(self.below(16) as u8),
+            1 => T::Op(17 + self.below(2) as u8),
+            _ => T::Op(19 + self.below(10) as u8),
+        };
+        operand_counts.into_iter().map(token).collect()
     }
 
     /// A label other than the next one.
