@@ -298,7 +298,7 @@ impl<'a, const WORDS: usize> Machine<'a, WORDS> {
         }
     }
 
-    /// The value and the set of an expression.
+    /// The value and the set of an expression; of a longer one the set is gathered first.
     #[inline(always)]
     fn evaluate(&self, expression: Expression) -> (u64, Set<WORDS>) {
         let value = |index| register(self.values, index);
@@ -315,7 +315,8 @@ impl<'a, const WORDS: usize> Machine<'a, WORDS> {
             Expression::Steps { start, count, registers } => {
                 let start = usize::from(start);
                 let steps = &self.steps[start..start + usize::from(count)];
-                (evaluate(steps, self.values), set_of(registers, self.sets))
+                let gathered = set_of(registers, self.sets);
+                (evaluate(steps, self.values), gathered)
             }
         }
     }
