@@ -1,6 +1,6 @@
 //! Fixed cases: every length around each bound, each limit and its neighbours, every truncation and
-//! every bit of small jobs, each operator at its edges, test loads, stores outside memory. They are made before
-//! the random ones.
+//! every bit of small jobs, each operator at its edges, test loads, stores outside memory, the sets
+//! of expressions. They are made before the random ones.
 
 use crate::calls::Lengths;
 use crate::cases::{Case, Treatment, MOST_END_WORDS, OUTSIDE_WORDS, WORKING_WORDS};
@@ -9,6 +9,7 @@ use crate::fixed_files;
 use crate::fixed_loads;
 use crate::fixed_outside;
 use crate::fixed_runs;
+use crate::fixed_sets;
 use crate::job_file::{beqz, set_field, skip, state_bytes, Field, Parts};
 
 pub type Cases = Vec<Case>;
@@ -32,6 +33,7 @@ pub fn all() -> Cases {
     fixed_runs::add(&mut cases);
     fixed_loads::add(&mut cases);
     fixed_outside::add(&mut cases);
+    fixed_sets::add(&mut cases);
     for (number, case) in cases.iter_mut().enumerate() {
         case.name = format!("fixed-{number}");
         case.salt = number as u64 * 0x1_0001;

@@ -14,6 +14,7 @@ pub mod fixed_files;
 pub mod fixed_loads;
 pub mod fixed_outside;
 pub mod fixed_runs;
+pub mod fixed_sets;
 pub mod gadgets;
 pub mod generate;
 pub mod job_file;
