@@ -1,6 +1,6 @@
 -- How what the callees give makes up what the rules say of an instruction.
 -- Assumes nothing.
-use mathlib.Core.Path.{_≡_, refl, sym, ap, ap₂, _∙_}
+use mathlib.Core.Path.{_≡_, refl, sym, ap, _∙_}
 use mathlib.Core.Bool.{Bool, true, false, cond}
 use mathlib.Core.List.{List, [], _∷_}
 use Prim.Native.Nat.{ℕ, _+_, _-_, _<_, _≤_}
@@ -22,6 +22,7 @@ use Rattle.rules.specs.Rules.Outside.{recall, remember, overfull}
 use Rattle.rules.specs.Rules.Plain.{State, put, withOutside, Code, joined, loadedFrom, storedTo, storeOverfull, chosen, at}
 use Rattle.token.specs.declared.Expression.{Expression}
 use Rattle.rules.specs.Theorems.Readers.{readable, valueOr, unread}
+use Rattle.rules.specs.Theorems.SetsFirst.{tagged-equal}
 use Rattle.token.specs.Meaning.{tokensOf}
 use Rattle.token.specs.Readable.{token-read, constant-read}
 use Rattle.descriptor.specs.Descriptors.{firstTokens, countAt, General}
@@ -128,7 +129,7 @@ pub value-with-constant : (f : ℕ → Tagged) {r c j i l x y z : ℕ} {ts : Exp
 unfolding eval evalOn top pushed
 value-with-constant f {r} {c} {j} four et ei el ep ex ey ez =
     rw et
-    (ap₂ {C = Tagged} (λ (n : ℕ) (s : LocationSet). tagged n s) (rw (ei, ex, el, ey) at ez) ((rw el at ep) ∙ sym (union-empty (f r .deps) four)))
+    (tagged-equal (rw (ei, ex, el, ey) at ez) ((rw el at ep) ∙ sym (union-empty (f r .deps) four)))
 
 -- the set of two registers is gathered from theirs
 pub two-gathered : (sets : ℕ → LocationSet) {r q l k : ℕ} {ts : Expr} {a b t : LocationSet} (o : Op2) → length (sets r .words) ≡ 4
@@ -144,7 +145,7 @@ unfolding sound held after eval evalOn top pushed
 value-with-register f {r} {q} {j} et ep ei el ex ek ey ez =
     let whole : sound (reg r ∷ reg q ∷ op2 (getD binary j add) ∷ []) ≡ true = refl in
     rw et
-    (ap₂ {C = Tagged} (λ (n : ℕ) (s : LocationSet). tagged n s) (rw (ei, ex, el, ey, ek) at ez) ((rw et at ep) .whatever whole (λ n. f n .value)))
+    (tagged-equal (rw (ei, ex, el, ey, ek) at ez) ((rw et at ep) .whatever whole (λ n. f n .value)))
 
 -- ---- an expression of one token that keeps the postfix rule
 -- the tokens of what was read as one

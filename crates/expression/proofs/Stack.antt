@@ -15,7 +15,7 @@ use Rattle.rules.specs.declared.Tagged.{Tagged}
 use Rattle.rules.specs.Rules.Operators.{Op1, neg, Op2, add, apply1, apply2}
 use Rattle.rules.specs.Rules.Expressions.{Token, reg, const, op1, op2, Expr, takes, held, sound, tagged, pushed, evalOn, top, eval}
 use Rattle.rules.specs.Rules.JobFile.{Read, got, refused, andThen, little, unary, binary, token, tokens}
-use Rattle.rules.specs.Theorems.Readers.{readable, valueOr, unread}
+use Rattle.rules.specs.Theorems.Readers.{readable, valueOr}
 use Rattle.rules.specs.Theorems.Postfix.{after-holds}
 use Rattle.token.specs.declared.Expression.{Expression}
 use Rattle.token.specs.Meaning.{tokensOf}

@@ -14,8 +14,8 @@ ghost use Rattle.token.specs.Meaning.{tokensOf};
 ghost use Rattle.work.specs.Layout.{operandBase};
 ghost use Rattle.work.specs.Words.{taggedAt};
 
-// The set of an expression that keeps the postfix rule, then its value. The expression is taken apart, so that its two numbers come and go in
-// registers.
+// The set of an expression that keeps the postfix rule, then its value. `whole` is `e`, made again of its two numbers: the compiler then
+// passes these in the processor's registers, not through memory.
 pub fn evaluate(p: &[u8], work: &[u64], e: Expression) -> Tagged
     requires { ⌜ (sound (tokensOf (now p) e) ≡ true) × (operandBase registers ≤ length (now work)) ⌝ }
     ensures { λ r. ⌜ r ≡ eval (taggedAt (now (work .entry))) (tokensOf (now (p .entry)) e) ⌝ }

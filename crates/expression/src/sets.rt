@@ -14,8 +14,8 @@ ghost use Rattle.token.specs.Meaning.{tokensOf};
 ghost use Rattle.work.specs.Layout.{operandBase};
 ghost use Rattle.work.specs.Words.{setAt};
 
-// No value is read, and the contract names none: what the registers hold has no way in. Token i stands at from + i: a constant moves `from`
-// on by its eight bytes.
+// Only sets are read (`work::load_set`), so that the result is the same whatever the registers hold. Token i stands at from + i: a constant
+// moves `from` on by its eight bytes.
 pub fn set_of(p: &[u8], work: &[u64], e: Expression) -> LocationSet
     requires { ⌜ (readable (tokens (e .count) (now p) (e .at)) ≡ true) × (operandBase registers ≤ length (now work)) ⌝ }
     ensures { λ r. ⌜ SetFirst (setAt (now (work .entry))) (tokensOf (now (p .entry)) e) r ⌝ }

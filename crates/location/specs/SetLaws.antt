@@ -26,6 +26,10 @@ pub or-right : (a b : Bool) → b ≡ true → (a || b) ≡ true
 or-right true b e = refl
 or-right false b e = e
 
+pub or-false : (b : Bool) → (b || false) ≡ b
+or-false true = refl
+or-false false = refl
+
 pub or-mono : (a b c : Bool) → (a ≡ true → b ≡ true) → (a || c) ≡ true → (b || c) ≡ true
 or-mono true b c f e = or-left b c (f refl)
 or-mono false b c f e = or-right b c e
@@ -131,7 +135,6 @@ unfolding either none
 either-none [] = refl
 either-none (x ∷ s) = ap₂ {C = List ℕ} (λ (a : ℕ) (r : List ℕ). a ∷ r) (or-zero-r x) (either-none s)
 
--- ---- inclusion is a partial order, and the union its least upper bound
 pub either-length : (s t : List ℕ) (n : ℕ) → length s ≡ n → length t ≡ n → length (either s t) ≡ n
 unfolding either
 either-length [] t n e f = f
@@ -139,6 +142,7 @@ either-length (x ∷ s) [] n e f = e
 either-length (x ∷ s) (y ∷ t) zero e f = absurd (omega arith)
 either-length (x ∷ s) (y ∷ t) (suc n) e f = ap suc (either-length s t n (omega arith) (omega arith))
 
+-- ---- inclusion is a partial order, and the union its least upper bound
 pub inside-refl : (s : List ℕ) → inside s s ≡ true
 unfolding inside
 inside-refl [] = refl
@@ -344,7 +348,7 @@ pub union-assoc : (s t u : LocationSet) → union (union s t) u ≡ union s (uni
 unfolding union
 union-assoc s t u = ap (λ (ws : List ℕ). record { words = ws }) (either-assoc (s .words) (t .words) (u .words))
 
--- the empty set has four words, so that it adds nothing to four
+-- the empty set has four words, so that it adds nothing to a set of four words
 pub union-empty : (s : LocationSet) → length (s .words) ≡ 4 → union s empty ≡ s
 unfolding union empty
 union-empty s h = ap (λ (ws : List ℕ). record { words = ws }) (rw h at (either-none (s .words)))

@@ -10,12 +10,16 @@ use Rattle.rules.specs.Rules.Limits.{maxEntries}
 abbrev pub operandBase : ℕ → ℕ
 operandBase k = 5 * k
 
+-- the place of the value in an operand
+abbrev pub valuePlace : ℕ
+valuePlace = 4
+
 abbrev pub operands : ℕ
 operands = limit + maxEntries
 
 -- word 1604: how many entries the table has; words 1605 to 1668: their addresses
 abbrev pub entryCount : ℕ
-entryCount = operandBase operands + 4
+entryCount = operandBase operands + valuePlace
 
 abbrev pub addressBase : ℕ → ℕ
 addressBase i = entryCount + 1 + i

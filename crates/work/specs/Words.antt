@@ -14,14 +14,14 @@ use Rattle.rules.specs.Rules.Limits.{maxEntries}
 use Rattle.rules.specs.Rules.Plain.{Entry}
 use Rattle.rules.specs.Rules.Changes.{Change, located, replaced, added}
 use Rattle.work.specs.declared.OpenBranch.{OpenBranch}
-use Rattle.work.specs.Layout.{operandBase, operands, entryCount, addressBase, changeBase, branchBase}
+use Rattle.work.specs.Layout.{operandBase, valuePlace, operands, entryCount, addressBase, changeBase, branchBase}
 
 -- ---- an operand: the four words of its set, then its value
 abbrev pub setIn : List ℕ → ℕ → LocationSet
 setIn w i = record { words = getD w i 0 ∷ getD w (i + 1) 0 ∷ getD w (i + 2) 0 ∷ getD w (i + 3) 0 ∷ [] }
 
 abbrev pub taggedIn : List ℕ → ℕ → Tagged
-taggedIn w i = record { value = getD w (i + 4) 0; deps = setIn w i }
+taggedIn w i = record { value = getD w (i + valuePlace) 0; deps = setIn w i }
 
 -- as its five words, whatever the length of the list that stands for the set
 abbrev pub taggedWords : Tagged → List ℕ

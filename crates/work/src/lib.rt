@@ -19,7 +19,7 @@ ghost use Rattle.work.specs.Words.{numberAt, operandLogged, changed, ext
 
 // Operand k stands from OPERAND * k on: the words of the set, then the value. With the set first a load reads the same pairs of words as the
 // store before it wrote. Location l has operand l, entry i of the table outside the image operand LocationSet::LIMIT + i.
-pub const OPERAND: usize = 5;
+pub const OPERAND: usize = VALUE + 1;
 // How many words the set has, so the place of the value in an operand.
 pub const VALUE: usize = 4;
 // How many operands of locations and entries there are.

@@ -1,10 +1,6 @@
 -- `evaluation::one_value` meets its contract: the token is a register or a constant. Assumes nothing.
-use mathlib.Core.Path.{ap₂}
-use Prim.Native.Nat.{ℕ}
 use native.Mathlib.Omega.{arith}
-use Rattle.location.specs.declared.LocationSet.{LocationSet}
-use Rattle.rules.specs.declared.Tagged.{Tagged}
-use Rattle.rules.specs.Rules.Expressions.{tagged}
+use Rattle.rules.specs.Theorems.SetsFirst.{tagged-equal}
 use Rattle.evaluation.proofs.Laws.{value-register, value-constant, one-read, one-register, one-constant}
 use borrow.Author.Needs.{needs}
 use Rattle.evaluation.proofs.one_value.Statement.{statement}
@@ -54,7 +50,7 @@ returns-2 c =
     let start = at-if1 .before .before .before .before in
     let a = start .args in
     value-constant _ (one-constant (a .p .now) (a .e) (start .pre .0) (start .pre .1) (at-if1 .if1 .left) .1)
-    (ap₂ {C = Tagged} (λ (n : ℕ) (s : LocationSet). tagged n s) (c .word .ensures) (at-empty .empty .ensures))
+    (tagged-equal (c .word .ensures) (at-empty .empty .ensures))
 
 pub one-value-spec : {M : Type 1} → statement M
 one-value-spec =

@@ -1,9 +1,6 @@
 -- `expression::evaluate` meets its contract: the set that was gathered is the value's, whatever the registers hold. Assumes nothing.
-use mathlib.Core.Path.{ap₂}
 use Prim.Native.Nat.{ℕ}
-use Rattle.location.specs.declared.LocationSet.{LocationSet}
-use Rattle.rules.specs.declared.Tagged.{Tagged}
-use Rattle.rules.specs.Rules.Expressions.{tagged}
+use Rattle.rules.specs.Theorems.SetsFirst.{tagged-equal}
 use Rattle.work.specs.Words.{taggedAt}
 use Rattle.expression.proofs.Gathering.{sound-readable}
 use borrow.Author.Needs.{needs}
@@ -21,7 +18,7 @@ returns c =
     let at-set = c .before in
     let start = at-set .before .before .before in
     let values : ℕ → ℕ = λ r. taggedAt (start .args .work .now) r .value in
-    ap₂ {C = Tagged} (λ (n : ℕ) (s : LocationSet). tagged n s) (c .value-of .ensures) (at-set .set-of .ensures .whatever (start .pre .0) values)
+    tagged-equal (c .value-of .ensures) (at-set .set-of .ensures .whatever (start .pre .0) values)
 
 pub evaluate-spec : {M : Type 1} → statement M
 evaluate-spec = tie.close (tie.spec set-of-requires (λ c κs. search needs) returns)

@@ -1,5 +1,5 @@
--- Sets of expressions, from their bytes on, gathered ahead of the value, and those of the values where every register is 0 and where every
--- bit of them is 1 (document 02, F-5).
+-- Sets of expressions, from their bytes on: gathered ahead of the value, and those of the value where every register is 0 and where every bit
+-- of every register is 1 (document 02, F-5).
 -- Assumes nothing.
 use mathlib.Core.List.{List, [], _∷_}
 use Prim.Native.Nat.{ℕ, _^_}

@@ -1,4 +1,4 @@
--- Expressions in postfix: the rule that they keep, and their value with the set of locations that it rests on.
+-- Expressions in postfix: the rule that they keep, their value with the set of locations that it rests on, and that set ahead of the value.
 -- Assumes nothing.
 use mathlib.Core.Path.{_≡_}
 use mathlib.Core.Bool.{Bool, true, _&&_, cond}

@@ -2,17 +2,17 @@
 -- gives."
 -- Assumes nothing.
 use mathlib.Core.Path.{_≡_, refl, sym, ap, ap₂, _∙_}
-use mathlib.Core.Bool.{Bool, true, false, _||_}
+use mathlib.Core.Bool.{true, _||_}
 use mathlib.Core.List.{List, [], _∷_}
-use Prim.Native.Nat.{ℕ, suc, _≤_}
+use Prim.Native.Nat.{ℕ, suc}
 use native.Mathlib.Omega.{arith}
 use lib.ListN.{length}
 use borrow.Author.Tests.{eqb-true}
 use Rattle.location.specs.declared.LocationSet.{LocationSet}
 use Rattle.location.specs.Sets.{none, empty, union, member}
-use Rattle.location.specs.SetLaws.{either-length, union-assoc, union-empty, empty-union, member-union, member-empty}
+use Rattle.location.specs.SetLaws.{or-false, either-length, union-assoc, union-empty, empty-union, member-union, member-empty}
 use Rattle.rules.specs.declared.Tagged.{Tagged}
-use Rattle.rules.specs.Rules.Expressions.{Token, reg, const, op1, op2, Expr, held, sound, tagged, result1, result2}
+use Rattle.rules.specs.Rules.Expressions.{reg, const, op1, op2, Expr, held, sound, tagged, result1, result2}
 use Rattle.rules.specs.Rules.Expressions.{pushed, evalOn, top, eval, gathered, setOn, exprSet, SetFirst}
 use Rattle.rules.specs.Theorems.Postfix.{held-takes, held-after}
 
@@ -88,10 +88,6 @@ module _
         gathered-last (evalOn f e []) (setOn (λ r. f r .deps) e empty)
         (set-on e 0 [] empty (eqb-true (held 0 e) 1 h) (record { values = refl; all = tt; same = refl }))
 
-or-false : (b : Bool) → (b || false) ≡ b
-or-false true = refl
-or-false false = refl
-
 -- ---- the theorem
 -- "Whatever the registers hold, it is the set document 01 gives": for any values of the registers, beside any sets of four words, as a
 -- location set has.
@@ -102,7 +98,7 @@ set-first values sets four e h =
     view-first (λ s. s) (λ s. length (s .words) ≡ 4) refl (λ s t p q. either-length (s .words) (t .words) 4 p q)
     (λ s s′ t p. ap (λ u. union u t) p) union-empty empty-union (λ r. tagged (values r) (sets r)) four e h
 
--- so that a set that was gathered keeps its promise
+-- a set that is `exprSet` satisfies `SetFirst`
 pub set-promise : (sets : ℕ → LocationSet) → ((r : ℕ) → length (sets r .words) ≡ 4) → (e : Expr) {s : LocationSet} → s ≡ exprSet sets e
     → SetFirst sets e s
 set-promise sets four e p = record { exact = p; whatever = λ h values. p ∙ sym (set-first values sets four e h) }
@@ -116,3 +112,7 @@ set-first-members values sets e h l =
     (λ s p. member-union s empty l ∙ ap (λ b. member s l || b) (member-empty l) ∙ or-false (member s l))
     (λ s p. member-union empty s l ∙ ap (λ b. b || member s l) (member-empty l))
     (λ r. tagged (values r) (sets r)) (λ r. tt) e h
+
+-- ---- a word of a value and a set that are those of a value with its set
+pub tagged-equal : {n m : ℕ} {s t : LocationSet} → n ≡ m → s ≡ t → tagged n s ≡ tagged m t
+tagged-equal p q = ap₂ {C = Tagged} (λ (x : ℕ) (u : LocationSet). tagged x u) p q
