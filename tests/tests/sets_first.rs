@@ -46,14 +46,19 @@ fn first_of(body: &str, names: &[&str]) -> Option<usize> {
     names.iter().filter_map(|name| body.find(name)).min()
 }
 
+/// Where the last of these stands.
+fn last_of(body: &str, names: &[&str]) -> Option<usize> {
+    names.iter().filter_map(|name| body.rfind(name)).max()
+}
+
 #[test]
 fn the_set_comes_ahead_of_the_value() {
     let mut both = Vec::new();
     for path in ["work/src/lib.rt", "expression/src/lib.rt", "evaluation/src/lib.rt"] {
         for (name, body) in functions(&source(path)) {
-            let (set, value) = (first_of(&body, &SETS), first_of(&body, &VALUES));
-            if let (Some(set), Some(value)) = (set, value) {
-                assert!(set < value, "{path}: {name} has its value first");
+            let (sets, value) = (last_of(&body, &SETS), first_of(&body, &VALUES));
+            if let (Some(last), Some(first)) = (sets, value) {
+                assert!(last < first, "{path}: {name} has a value ahead of a set");
                 both.push(name);
             }
         }
