@@ -136,7 +136,7 @@ static int run_loads(uint64_t loads, uint64_t seed, int last_location)
 
 int main(int argc, char **argv)
 {
-    uint64_t answer[CHECKER_RUN_ANSWER_WORDS];
+    struct checker_run_answer answer;
     uint64_t loads = SEEDS;
     uint64_t seed = 1;
     if (argc < 2 || argc > 4 || (argc > 2 && !read_number(argv[2], &loads)) || loads == 0 ||
@@ -152,16 +152,16 @@ int main(int argc, char **argv)
                                    trace1, sizeof trace1 / sizeof trace1[0],
                                    end, sizeof end / sizeof end[0],
                                    work, sizeof work / sizeof work[0],
-                                   answer);
+                                   &answer);
     if (refused != CHECKER_DONE) {
         printf("refused %" PRIu32 "\n", refused);
         return EXIT_NO_ANSWER;
     }
-    if (answer[CHECKER_RUN_STOP] != CHECKER_FINISHED) {
-        printf("own run unfinished, %s: no new state is made\n", stops[answer[CHECKER_RUN_STOP]]);
+    if (answer.stop != CHECKER_FINISHED) {
+        printf("own run unfinished, %s: no new state is made\n", stops[answer.stop]);
         return EXIT_NO_ANSWER;
     }
-    int last_location = last_new_location(answer + CHECKER_RUN_PLAIN);
+    int last_location = last_new_location(answer.plain);
     if (last_location == NO_LOCATION) {
         printf("no location takes a new word: every seed gives the job's own state\n");
         loads = 1;

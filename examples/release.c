@@ -3,9 +3,10 @@
  *
  *   release JOB.mua
  *
- * Prints the verdict, the counts, the first observations of the mispredicting
- * run, and the first of the stores outside memory that it remembers at its stop,
- * each with address and value. The exit status is 0 if the verdict is clean, 1 if
+ * Prints the verdict, the counts, for each register and cell that an observation
+ * depended on which one that was first, the first observations of the
+ * mispredicting run, and the first of the stores outside memory that it remembers
+ * at its stop, each with address and value. The exit status is 0 if the verdict is clean, 1 if
  * it is another one, and 2 if the job is refused or its file cannot be read.
  *
  * It takes no memory at run time: everything that the checker needs is lent to
@@ -31,9 +32,11 @@ static size_t job_len;
 static uint64_t trace[2 * OBSERVATIONS_LENT];
 static uint64_t end[CHECKER_END_WORDS_MAX];
 static uint64_t work[CHECKER_WORK_WORDS];
+static struct checker_run_answer answer;
 
 static const char *const stops[] = {"finished", "spent", "trace full", "outside full"};
 static const char *const verdicts[] = {"undecided", "clean", "speculative", "plain"};
+static const char *const causes[] = {"branch", "jump", "load", "store"};
 static const char *const kinds[] = {"start", "rollback", "pc", "load", "store"};
 
 /* Reads the file into the job area; 1 if it could be read. */
@@ -49,20 +52,38 @@ static int read_job(const char *path)
     return readable;
 }
 
+static void print_location(unsigned location)
+{
+    if (location < 16) {
+        printf(" r%u", location);
+    } else {
+        printf(" m%u", location - 16);
+    }
+}
+
 static void print_set(const char *name, const uint64_t set[4])
 {
     printf("%s", name);
-    for (unsigned location = 0; location < 256; location++) {
-        if (!checker_set_has(set, location)) {
-            continue;
-        }
-        if (location < 16) {
-            printf(" r%u", location);
-        } else {
-            printf(" m%u", location - 16);
+    for (unsigned location = 0; location < CHECKER_LOCATIONS; location++) {
+        if (checker_set_has(set, location)) {
+            print_location(location);
         }
     }
     printf("\n");
+}
+
+/* For each location of D the observation that brought it in: its index, the rule
+ * and the label of the instruction. */
+static void print_firsts(void)
+{
+    for (unsigned location = 0; location < CHECKER_LOCATIONS; location++) {
+        if (checker_set_has(answer.depends, location)) {
+            const struct checker_first *first = &answer.firsts[location];
+            printf("first");
+            print_location(location);
+            printf(" %" PRIu64 " %s %" PRIu64 "\n", first->index, causes[first->cause], first->label);
+        }
+    }
 }
 
 static void print_observations(uint64_t count)
@@ -92,22 +113,22 @@ static void print_stores(void)
     }
 }
 
-static void print_answer(const uint64_t answer[CHECKER_RUN_ANSWER_WORDS])
+static void print_answer(void)
 {
-    printf("verdict %s\n", verdicts[answer[CHECKER_RUN_VERDICT]]);
-    printf("stop %s\n", stops[answer[CHECKER_RUN_STOP]]);
-    printf("steps %" PRIu64 "\n", answer[CHECKER_RUN_STEPS]);
-    printf("rollbacks %" PRIu64 "\n", answer[CHECKER_RUN_ROLLBACKS]);
-    print_set("depends", answer + CHECKER_RUN_DEPENDS);
-    print_set("plain", answer + CHECKER_RUN_PLAIN);
-    printf("observations %" PRIu64 "\n", answer[CHECKER_RUN_OBSERVATIONS]);
-    print_observations(answer[CHECKER_RUN_OBSERVATIONS]);
+    printf("verdict %s\n", verdicts[answer.verdict]);
+    printf("stop %s\n", stops[answer.stop]);
+    printf("steps %" PRIu64 "\n", answer.steps);
+    printf("rollbacks %" PRIu64 "\n", answer.rollbacks);
+    print_set("depends", answer.depends);
+    print_set("plain", answer.plain);
+    print_firsts();
+    printf("observations %" PRIu64 "\n", answer.observations);
+    print_observations(answer.observations);
     print_stores();
 }
 
 int main(int argc, char **argv)
 {
-    uint64_t answer[CHECKER_RUN_ANSWER_WORDS];
     if (argc != 2) {
         fprintf(stderr, "usage: release JOB.mua\n");
         return EXIT_NO_ANSWER;
@@ -120,11 +141,11 @@ int main(int argc, char **argv)
                                    trace, sizeof trace / sizeof trace[0],
                                    end, sizeof end / sizeof end[0],
                                    work, sizeof work / sizeof work[0],
-                                   answer);
+                                   &answer);
     if (refused != CHECKER_DONE) {
         printf("refused %" PRIu32 "\n", refused);
         return EXIT_NO_ANSWER;
     }
-    print_answer(answer);
-    return answer[CHECKER_RUN_VERDICT] == CHECKER_VERDICT_CLEAN ? EXIT_CLEAN : EXIT_NOT_CLEAN;
+    print_answer();
+    return answer.verdict == CHECKER_VERDICT_CLEAN ? EXIT_CLEAN : EXIT_NOT_CLEAN;
 }

@@ -35,7 +35,8 @@
  *     state or a text may start anywhere;
  *   - the areas and the answer do not overlap each other, the job, the second
  *     state or the text;
- *   - the answer has the number of words named at the function.
+ *   - the answer has the number of words named at the function: it is an array
+ *     of so many, or for checker_run a struct of them.
  *
  * Lengths of a job, of a state, of a text and of an output area are counted in
  * bytes, lengths of all other areas in 64-bit words.
@@ -175,8 +176,11 @@ extern "C" {
  * 8 * (16 + 240). */
 #define CHECKER_STATE_BYTES_MAX 2048
 
+/* Locations that the answer of a run reports on. */
+#define CHECKER_LOCATIONS 256
+
 /* Words of the answers of the functions. */
-#define CHECKER_RUN_ANSWER_WORDS 13
+#define CHECKER_RUN_ANSWER_WORDS 781
 #define CHECKER_PLAIN_ANSWER_WORDS 7
 #define CHECKER_COMPARE_ANSWER_WORDS 9
 #define CHECKER_TEST_LOAD_ANSWER_WORDS 10
@@ -293,16 +297,48 @@ enum checker_observation {
     CHECKER_STORE = 4
 };
 
-/* Which word of checker_run's answer is what. */
-enum checker_run_answer {
-    CHECKER_RUN_STOP = 0,         /* enum checker_stop */
-    CHECKER_RUN_OBSERVATIONS = 1, /* observations written to the trace area */
-    CHECKER_RUN_STEPS = 2,        /* steps made, rollbacks among them */
-    CHECKER_RUN_ROLLBACKS = 3,    /* rollbacks made */
-    CHECKER_RUN_DEPENDS = 4,      /* four words: D */
-    CHECKER_RUN_PLAIN = 8,        /* four words: the plain set */
-    CHECKER_RUN_VERDICT = 12      /* enum checker_verdict */
+/* The rule by which an instruction is observed. */
+enum checker_cause {
+    /* A beqz, observed as CHECKER_START and then CHECKER_PC. */
+    CHECKER_CAUSE_BRANCH = 0,
+    /* A jmp, observed as CHECKER_PC. */
+    CHECKER_CAUSE_JUMP = 1,
+    /* A load, observed as CHECKER_LOAD. */
+    CHECKER_CAUSE_LOAD = 2,
+    /* A store, observed as CHECKER_STORE; or the store that stopped the run as
+     * outside full, which is not observed. */
+    CHECKER_CAUSE_STORE = 3
 };
+
+/* What brought a location into D: the first observation that depended on it.
+ * All words are 0 for a location that is not in D. They may be 0 for one that
+ * is: ask D. */
+struct checker_first {
+    uint64_t index; /* of the observation, counted from 0: that of the start for
+                     * a branch, and the number of observations for the store
+                     * that stopped the run */
+    uint64_t cause; /* enum checker_cause */
+    uint64_t label; /* of the instruction */
+};
+
+/* checker_run's answer: 781 words. */
+struct checker_run_answer {
+    uint64_t stop;         /* enum checker_stop */
+    uint64_t observations; /* observations written to the trace area */
+    uint64_t steps;        /* steps made, rollbacks among them */
+    uint64_t rollbacks;    /* rollbacks made */
+    uint64_t depends[4];   /* D */
+    uint64_t plain[4];     /* the plain set */
+    uint64_t verdict;      /* enum checker_verdict */
+    struct checker_first firsts[CHECKER_LOCATIONS]; /* by location */
+};
+
+/* Static assertions: the words of the structs stand side by side. */
+typedef char checker_first_is_3_words
+    [sizeof(struct checker_first) == 3 * sizeof(uint64_t) ? 1 : -1];
+typedef char checker_run_answer_is_781_words
+    [sizeof(struct checker_run_answer)
+     == CHECKER_RUN_ANSWER_WORDS * sizeof(uint64_t) ? 1 : -1];
 
 /* Which word of checker_plain_run's answer is what. */
 enum checker_plain_answer {
@@ -358,8 +394,10 @@ enum checker_print_answer {
  * trace, trace_len  the trace area, in words
  * end, end_len      the end area, in words, at least 16 + m + 129
  * work, work_len    the working area, in words, at least 4,096
- * answer            13 words: stop, observations, steps, rollbacks, four words
- *                   of D, four words of the plain set, verdict
+ * answer            781 words: stop, observations, steps, rollbacks, four words
+ *                   of D, four words of the plain set, verdict; then for each
+ *                   of 256 locations index, cause and label of the first
+ *                   observation that depended on it, 0 if it is not in D
  *
  * Returns 0 or a refusal number (1 to 8, or 10).
  *
@@ -375,7 +413,7 @@ uint32_t checker_run(const uint8_t *job, size_t job_len,
                      uint64_t *trace, size_t trace_len,
                      uint64_t *end, size_t end_len,
                      uint64_t *work, size_t work_len,
-                     uint64_t answer[13]);
+                     struct checker_run_answer *answer);
 
 /*
  * The plain run of a job: no branch is guessed. It is lent the same areas as

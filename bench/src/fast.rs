@@ -1,5 +1,5 @@
-//! An optimised Rust implementation of document 01's mispredicting run, with the shifts of request F-2 and the stores
-//! outside memory of request F-4, written to be fast.
+//! An optimised Rust implementation of document 01's mispredicting run, with the shifts of request F-2, the stores
+//! outside memory of request F-4 and the first observations of request F-6, written to be fast.
 //!
 //! - The program is decoded once into instructions of fixed size; short expressions have shapes of
 //!   their own, and in long ones an operand is joined to the operator that follows it.
@@ -9,19 +9,25 @@
 //! - A wrong path keeps an undo log instead of copies of the state.
 //! - A store outside memory is found by a hash of its address. Entries are added at the end and taken away from there,
 //!   so that for a new one the log holds the count alone.
+//! - A step only tests whether its set was gathered before. Where it was not, which happens at most 512 times in a run,
+//!   the steps are left to gather it and to record the first observations, and the step is made again.
 //! - The state, the log and the open branches stand in the lent working area. Nothing is allocated
 //!   in a run; the buffers of the decoded program are kept from one job to the next.
 
 mod decode;
 mod expression;
+mod firsts;
 mod machine;
 mod outside;
 
 use decode::{Decoded, Header};
+use firsts::REPORT_WORDS;
 use machine::{Machine, Outcome};
 use outside::OUTSIDE_WORDS;
 
-pub const ANSWER_WORDS: usize = 13;
+/// The words of an answer ahead of the reports, and all of them.
+const COUNT_WORDS: usize = 13;
+pub const ANSWER_WORDS: usize = COUNT_WORDS + 256 * REPORT_WORDS;
 const WORKING_WORDS: usize = 4_096;
 const AREAS: u32 = 10;
 
@@ -64,14 +70,15 @@ impl Checker {
         }
         let work = &mut work[..WORKING_WORDS];
         let end = &mut end[..end_words];
+        let (words, reports) = answer.split_at_mut(COUNT_WORDS);
         let outcome = match header.locations.div_ceil(64) {
-            1 => self.run_with::<1>(job, &header, trace, end, work),
-            2 => self.run_with::<2>(job, &header, trace, end, work),
-            3 => self.run_with::<3>(job, &header, trace, end, work),
-            _ => self.run_with::<4>(job, &header, trace, end, work),
+            1 => self.run_with::<1>(job, &header, trace, end, work, reports),
+            2 => self.run_with::<2>(job, &header, trace, end, work, reports),
+            3 => self.run_with::<3>(job, &header, trace, end, work, reports),
+            _ => self.run_with::<4>(job, &header, trace, end, work, reports),
         };
         work.fill(0);
-        outcome.write(&public, answer);
+        outcome.write(&public, words);
         Ok(())
     }
 
@@ -83,11 +90,13 @@ impl Checker {
         trace: &mut [u64],
         end: &mut [u64],
         work: &mut [u64],
+        reports: &mut [u64],
     ) -> Outcome {
         let state = &job[header.state..header.list];
         let mut machine = Machine::<WORDS>::new(&self.decoded, header, state, trace, work);
         let stop = machine.run();
         machine.write_end(header.locations, end);
+        machine.write_reports(reports);
         machine.outcome(stop, header.budget)
     }
 }

@@ -19,6 +19,7 @@ use checker_bench::jobs::{small_job, workloads, Workload};
 use checker_bench::texts::measure_texts;
 use checker_bench::timing::{best_of, processor};
 use checker_bench::verify::agrees_with_reference;
+use checker_tests::calls::run_words;
 use checker_tests::cases::{MOST_END_WORDS, WORKING_WORDS};
 use checker_tests::library;
 
@@ -195,15 +196,7 @@ fn runners<'a>() -> [Runner<'a>; 3] {
         Box::new(|job, areas| {
             let Areas { trace, end, work, answer } = areas;
             if let Ok(ran) = reference::run(job, trace, end, work) {
-                answer[..4].copy_from_slice(&[
-                    ran.stop.number(),
-                    ran.observations,
-                    ran.steps,
-                    ran.rollbacks,
-                ]);
-                answer[4..8].copy_from_slice(&ran.depends);
-                answer[8..12].copy_from_slice(&ran.plain);
-                answer[12] = ran.verdict.number();
+                answer.copy_from_slice(&run_words(ran));
             }
         }),
     ]

@@ -1,5 +1,7 @@
 //! The answers of the checks and of reading text, with the numbers and words of the documents.
 
+use crate::location_set::LocationSet;
+
 /// Why a run ended.
 #[derive(Debug, Clone, Copy, PartialEq, Eq)]
 pub enum Stop {
@@ -90,6 +92,46 @@ impl PairWord {
     }
 }
 
+/// The rule by which a set is observed.
+#[derive(Debug, Clone, Copy, PartialEq, Eq, Default)]
+pub enum Cause {
+    #[default]
+    Branch,
+    Jump,
+    Load,
+    Store,
+}
+
+impl Cause {
+    pub fn number(self) -> u64 {
+        match self {
+            Cause::Branch => 0,
+            Cause::Jump => 1,
+            Cause::Load => 2,
+            Cause::Store => 3,
+        }
+    }
+
+    pub fn word(self) -> &'static str {
+        match self {
+            Cause::Branch => "branch",
+            Cause::Jump => "jump",
+            Cause::Load => "load",
+            Cause::Store => "store",
+        }
+    }
+}
+
+/// What is reported of a location in D: the first observation whose set holds it, by its index in
+/// the trace, the rule concerned and the label of that instruction.
+/// The default is all zeros; a comparison can put it where a location has no report.
+#[derive(Debug, Clone, Copy, PartialEq, Eq, Default)]
+pub struct First {
+    pub index: u64,
+    pub cause: Cause,
+    pub label: u64,
+}
+
 /// The answer of a mispredicting run; location k is bit k % 64 of word k / 64 of a set.
 #[derive(Debug, Clone, PartialEq, Eq)]
 pub struct RunAnswer {
@@ -100,6 +142,8 @@ pub struct RunAnswer {
     pub depends: [u64; 4],
     pub plain: [u64; 4],
     pub verdict: Verdict,
+    /// By location; none for a location that is not in D.
+    pub firsts: [Option<First>; LocationSet::LIMIT],
 }
 
 /// The answer of a plain run.

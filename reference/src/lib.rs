@@ -1,4 +1,4 @@
-//! A second implementation of document 01 and of requests F-1 to F-5 of document 02,
+//! A second implementation of document 01 and of requests F-1 to F-6 of document 02,
 //! written from the documents alone.
 //! It prefers clarity to speed: every branch saves a copy of the whole state.
 
@@ -6,6 +6,7 @@
 
 mod answer;
 mod expression;
+mod firsts;
 mod job;
 mod listing;
 mod location_set;
@@ -22,7 +23,8 @@ mod text_reading;
 mod trace;
 
 pub use answer::{
-    LoadAnswer, PairAnswer, PairWord, PlainAnswer, RunAnswer, RunCounts, Stop, TextCounts, Verdict,
+    Cause, First, LoadAnswer, PairAnswer, PairWord, PlainAnswer, RunAnswer, RunCounts, Stop,
+    TextCounts, Verdict,
 };
 pub use listing::{listing, listing_in};
 pub use outside::{OUTSIDE_LIMIT, OUTSIDE_WORDS};

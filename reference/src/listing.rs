@@ -1,6 +1,6 @@
 //! The text that the printing program writes for a job.
 
-use crate::answer::RunAnswer;
+use crate::answer::{First, RunAnswer};
 use crate::job::{read_job, Job};
 use crate::location_set::LocationSet;
 use crate::machine::REGISTERS;
@@ -31,6 +31,9 @@ fn run_text(job: &Job, lent: usize) -> String {
         text.push_str(&observation_line(kind, value, job.program.len() as u64));
     }
     text.push_str(&answer_text(&answer));
+    for (location, first) in answer.firsts.iter().enumerate() {
+        text.extend(first.map(|first| first_line(location, first)));
+    }
     text
 }
 
@@ -62,11 +65,18 @@ fn answer_text(answer: &RunAnswer) -> String {
     )
 }
 
+/// Location, index of the observation, rule and label.
+fn first_line(location: usize, first: First) -> String {
+    let First { index, cause, label } = first;
+    format!("first{} {index} {} {label}\n", location_text(location), cause.word())
+}
+
 /// Each member with a blank before it, in ascending order; nothing for the empty set.
 fn set_text(words: [u64; 4]) -> String {
     LocationSet::from_words(words).locations().map(location_text).collect()
 }
 
+/// The name of a location with a blank before it.
 fn location_text(location: usize) -> String {
     if location < REGISTERS {
         format!(" r{location}")

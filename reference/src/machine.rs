@@ -1,5 +1,6 @@
 //! The machine: instructions, the state with its dependency sets, and plain execution.
 
+use crate::answer::Cause;
 use crate::expression::Expression;
 use crate::location_set::LocationSet;
 use crate::outside::OutsideTable;
@@ -38,6 +39,7 @@ pub struct State {
 /// An observation with the dependency set of its address, jump value or branch register.
 #[derive(Debug, Clone, Copy, PartialEq, Eq)]
 pub struct Observed {
+    pub cause: Cause,
     pub kind: u64,
     pub value: u64,
     pub depends: LocationSet,
@@ -175,28 +177,28 @@ pub fn execute(
         Instruction::Load { register, address } => {
             let address = state.evaluate(address);
             state.load(*register, address);
-            (next, Some(observed(LOAD, address)))
+            (next, Some(observed(Cause::Load, LOAD, address)))
         }
         Instruction::Store { register, address } => {
             let address = state.evaluate(address);
             state.store(*register, address);
-            (next, Some(observed(STORE, address)))
+            (next, Some(observed(Cause::Store, STORE, address)))
         }
-        Instruction::Jump { target } => go_to(state.evaluate(target), end),
+        Instruction::Jump { target } => go_to(Cause::Jump, state.evaluate(target), end),
         Instruction::BranchIfZero { register, label } => {
             let tested = state.register(*register);
             let target = if tested.value == 0 { *label } else { next };
-            go_to(Word { value: target as u64, ..tested }, end)
+            go_to(Cause::Branch, Word { value: target as u64, ..tested }, end)
         }
     }
 }
 
-fn observed(kind: u64, word: Word) -> Observed {
-    Observed { kind, value: word.value, depends: word.depends }
+fn observed(cause: Cause, kind: u64, word: Word) -> Observed {
+    Observed { cause, kind, value: word.value, depends: word.depends }
 }
 
 /// A change of place; a target of `end` or more is END, observed as `end`.
-fn go_to(target: Word, end: usize) -> (usize, Option<Observed>) {
+fn go_to(cause: Cause, target: Word, end: usize) -> (usize, Option<Observed>) {
     let value = target.value.min(end as u64);
-    (value as usize, Some(observed(PC, Word { value, ..target })))
+    (value as usize, Some(observed(cause, PC, Word { value, ..target })))
 }

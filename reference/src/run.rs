@@ -1,6 +1,7 @@
 //! The mispredicting run and the plain run, with the areas that a caller lends them.
 
-use crate::answer::{PlainAnswer, RunAnswer, Stop, Verdict};
+use crate::answer::{Cause, First, PlainAnswer, RunAnswer, Stop, Verdict};
+use crate::firsts::ObservedSets;
 use crate::job::{read_job, Job};
 use crate::location_set::LocationSet;
 use crate::machine::{execute, Instruction, State, Word};
@@ -40,6 +41,7 @@ struct SpeculativeRun<'a> {
     rollbacks: u64,
     depends: LocationSet,
     plain: LocationSet,
+    observed: ObservedSets,
 }
 
 /// Makes the mispredicting run of a job.
@@ -96,6 +98,7 @@ pub fn speculative_run(job: &Job, trace: &mut [u64]) -> (RunAnswer, State) {
         rollbacks: 0,
         depends: LocationSet::EMPTY,
         plain: LocationSet::EMPTY,
+        observed: ObservedSets::EMPTY,
     };
     let stop = run.run_to_stop();
     let answer = RunAnswer {
@@ -106,6 +109,7 @@ pub fn speculative_run(job: &Job, trace: &mut [u64]) -> (RunAnswer, State) {
         depends: run.depends.words(),
         plain: run.plain.words(),
         verdict: verdict(stop, run.depends, run.plain, job.public),
+        firsts: run.observed.firsts(),
     };
     (answer, run.state)
 }
@@ -137,7 +141,7 @@ impl<'a> SpeculativeRun<'a> {
                 return Stop::TraceFull;
             }
             if let Some(address) = self.address_without_room(&step) {
-                self.gather(address.depends);
+                self.gather(Cause::Store, address.depends);
                 return Stop::OutsideFull;
             }
             self.make(step);
@@ -187,7 +191,7 @@ impl<'a> SpeculativeRun<'a> {
         let tested = self.state.register(register);
         let next = self.place + 1;
         let (true_target, wrong) = if tested.value == 0 { (label, next) } else { (next, label) };
-        self.gather(tested.depends);
+        self.gather(Cause::Branch, tested.depends);
         self.lower_top(&Instruction::BranchIfZero { register, label });
         let window = self.open.last().map_or(self.job.window, |top| top.window);
         let id = self.opened;
@@ -202,11 +206,11 @@ impl<'a> SpeculativeRun<'a> {
     fn carry_out(&mut self, instruction: &Instruction) {
         let end = self.job.program.len();
         let (next, observed) = execute(instruction, &mut self.state, self.place, end);
-        self.place = next;
         if let Some(observed) = observed {
-            self.gather(observed.depends);
+            self.gather(observed.cause, observed.depends);
             self.trace.push(observed.kind, observed.value);
         }
+        self.place = next;
         self.lower_top(instruction);
         if let (Instruction::Barrier, Some(top)) = (instruction, self.open.last_mut()) {
             top.window = 0;
@@ -220,7 +224,15 @@ impl<'a> SpeculativeRun<'a> {
     }
 
     /// Adds an observed set to D, and to the plain set if nothing was open before this step.
-    fn gather(&mut self, observed: LocationSet) {
+    /// It is called before the step's first observation is written and before the place changes,
+    /// so that the set stands at the next observation and at the instruction's own label.
+    fn gather(&mut self, cause: Cause, observed: LocationSet) {
+        // Each location of a set that lies within D is held by an earlier set, and that one is
+        // found first. So only sets that add to D are kept, at most 256 however long the run is.
+        if !observed.is_within(self.depends) {
+            let (index, label) = (self.trace.count(), self.place as u64);
+            self.observed.push(First { index, cause, label }, observed);
+        }
         self.depends = self.depends.union(observed);
         if self.open.is_empty() {
             self.plain = self.plain.union(observed);

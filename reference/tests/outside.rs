@@ -462,12 +462,13 @@ fn listing_of_a_run_that_is_outside_full() {
     let stores: String = (1_000..1_064).map(|address| format!("store {address}\n")).collect();
     let straight = text(&after_spills(64, vec![store(3, &[R(2)])]));
     let rest =
-        "stop outside full\nsteps 64\nrollbacks 0\ndepends r2\nplain r2\nverdict undecided\n";
+        "stop outside full\nsteps 64\nrollbacks 0\ndepends r2\nplain r2\nverdict undecided\n\
+first r2 64 store 64\n";
     assert_eq!(straight, stores.clone() + rest);
     let wrong_path = text(&after_spills(64, vec![beqz(0, 66), store(3, &[R(2)])]));
     let rest =
         "start 0\npc 65\nstop outside full\nsteps 65\nrollbacks 0\ndepends r0 r2\nplain r0\n\
-verdict undecided\n";
+verdict undecided\nfirst r0 64 branch 64\nfirst r2 66 store 65\n";
     assert_eq!(wrong_path, stores + rest);
 }
 

@@ -7,14 +7,20 @@ use std::collections::HashMap;
 use std::path::{Path, PathBuf};
 
 use check_box_reference::{
-    compare, listing, plain_run, print_text, read_text, run, test_load, LoadAnswer, RunCounts,
+    compare, listing, plain_run, print_text, read_text, run, test_load, First, LoadAnswer,
+    RunAnswer, RunCounts,
 };
 use common::{area, area_with, byte_area, byte_area_with, locations, WORK};
 
+/// The level from which the vectors have the reports of request F-6.
+const FIRSTS_LEVEL: u64 = 6;
+
 /// One block of the file: its key lines, and the lines that begin with "| ".
+/// Lines with the key "first" stand apart, because there is one for each location of D.
 #[derive(Default)]
 struct Vector {
     fields: HashMap<String, String>,
+    firsts: Vec<String>,
     text: String,
 }
 
@@ -39,6 +45,11 @@ impl Vector {
         let words: Vec<&str> = self.field("lent").split_whitespace().collect();
         let lent = words.chunks_exact(2).find(|pair| pair[0] == name);
         lent.expect("a lent area")[1].parse().expect("a length")
+    }
+
+    /// A block without a level is of the lowest.
+    fn has_firsts(&self) -> bool {
+        self.fields.contains_key("level") && self.numbers("level")[0] >= FIRSTS_LEVEL
     }
 
     fn refused(&self) -> Option<u32> {
@@ -82,8 +93,28 @@ fn stop_line(stop: check_box_reference::Stop) -> String {
     line("stop", &stop.word().replace(' ', "-"))
 }
 
+fn first_lines(answer: &RunAnswer) -> Vec<String> {
+    let line = |(location, first): (usize, &Option<First>)| {
+        let First { index, cause, label } = (*first)?;
+        Some(format!("first {location} {index} {} {label}", cause.word()))
+    };
+    answer.firsts.iter().enumerate().filter_map(line).collect()
+}
+
 fn refused_lines(number: u32) -> Vec<String> {
     vec![format!("refused {number}")]
+}
+
+fn run_lines(answer: &RunAnswer) -> Vec<String> {
+    vec![
+        stop_line(answer.stop),
+        format!("observations {}", answer.observations),
+        format!("steps {}", answer.steps),
+        format!("rollbacks {}", answer.rollbacks),
+        set_line("depends", answer.depends),
+        set_line("plain", answer.plain),
+        line("verdict", answer.verdict.word()),
+    ]
 }
 
 fn check_run(vector: &Vector) {
@@ -93,19 +124,12 @@ fn check_run(vector: &Vector) {
         Err(number) => refused_lines(number),
         Ok(answer) => {
             assert_eq!(answer.observations as usize * 2, vector.numbers("trace").len());
-            vec![
-                stop_line(answer.stop),
-                format!("observations {}", answer.observations),
-                format!("steps {}", answer.steps),
-                format!("rollbacks {}", answer.rollbacks),
-                set_line("depends", answer.depends),
-                set_line("plain", answer.plain),
-                line("verdict", answer.verdict.word()),
-            ]
+            let firsts = if vector.has_firsts() { first_lines(&answer) } else { Vec::new() };
+            [run_lines(&answer), firsts].concat()
         }
     };
     let keys = ["stop", "observations", "steps", "rollbacks", "depends", "plain", "verdict"];
-    assert_eq!(lines, vector.answer_lines(&keys));
+    assert_eq!(lines, [vector.answer_lines(&keys), vector.firsts.clone()].concat());
     check_areas(vector, trace, end, work);
 }
 
@@ -202,9 +226,32 @@ fn check_load(vector: &Vector) {
     }
 }
 
+/// A line of a listing with the location's number in place of its name, as a key line has it.
+fn with_location_number(line: &str) -> String {
+    let (name, rest) = line["first ".len()..].split_once(' ').expect("a location and more");
+    let (kind, number) = name.split_at(1);
+    let number: usize = number.parse().expect("a number");
+    let location = if kind == "r" { number } else { 16 + number };
+    format!("first {location} {rest}")
+}
+
+/// The text of a vector has the lines of request F-6 from their level on. Where the vector has
+/// them as key lines too, those say the same.
 fn check_listing(vector: &Vector) {
     let text = String::from_utf8(listing(&vector.bytes("job"))).expect("text");
-    assert_eq!(text, vector.text);
+    let (firsts, others): (Vec<&str>, Vec<&str>) =
+        text.split_inclusive('\n').partition(|line| line.starts_with("first "));
+    if vector.has_firsts() {
+        assert_eq!(text, vector.text);
+    } else {
+        assert_eq!(others.concat(), vector.text);
+    }
+    if !vector.firsts.is_empty() {
+        assert!(vector.has_firsts(), "a line \"first\" below its level");
+        let lines: Vec<String> =
+            firsts.iter().map(|line| with_location_number(line.trim_end())).collect();
+        assert_eq!(lines, vector.firsts);
+    }
 }
 
 /// The output area as it must be afterwards.
@@ -241,7 +288,10 @@ fn check_print(vector: &Vector) {
 }
 
 fn check(vector: &Vector) {
-    match vector.field("op") {
+    let op = vector.field("op");
+    // Only a mispredicting run by itself reports; plain runs, pairs and test loads do not.
+    assert!(vector.firsts.is_empty() || ["run", "listing"].contains(&op), "lines \"first\"");
+    match op {
         "run" => check_run(vector),
         "plain" => check_plain(vector),
         "pair" => check_pair(vector),
@@ -262,6 +312,10 @@ fn parse(block: &str) -> Vector {
             continue;
         }
         let (key, value) = line.split_once(' ').unwrap_or((line, ""));
+        if key == "first" {
+            vector.firsts.push(line.to_string());
+            continue;
+        }
         let earlier = vector.fields.insert(key.to_string(), value.to_string());
         assert!(earlier.is_none(), "line \"{key}\" stands twice in one vector");
     }

@@ -6,7 +6,8 @@ use check_box_reference::{listing, PairWord, Stop, Verdict};
 use common::*;
 
 const PRINTED: &str = "start 0\npc 2\nload 1\nload 3\nrollback 0\npc end\nstop finished\nsteps 5\n\
-rollbacks 1\ndepends r0 r1 m1\nplain r0 r1\nverdict speculative\n";
+rollbacks 1\ndepends r0 r1 m1\nplain r0 r1\nverdict speculative\n\
+first r0 0 branch 1\nfirst r1 0 branch 1\nfirst m1 3 load 3\n";
 
 fn printed_trace() -> Trace {
     observed("start 0, pc 2, load 1, load 3, rollback 0, pc 4")

@@ -1,10 +1,12 @@
 //! One call, made of the library or of the reference, with everything it left behind.
 
 use check_box_reference as reference;
-use reference::{LoadAnswer, PairAnswer, PlainAnswer, RunAnswer, RunCounts};
+use reference::{First, LoadAnswer, PairAnswer, PlainAnswer, RunAnswer, RunCounts};
 
 use crate::lend::{Area, Bytes, Fill};
-use crate::library::{self, LOAD_ANSWER, PAIR_ANSWER, PLAIN_ANSWER, RUN_ANSWER};
+use crate::library::{
+    self, LOAD_ANSWER, PAIR_ANSWER, PLAIN_ANSWER, REPORT_WORDS, RUN_ANSWER, RUN_COUNTS,
+};
 
 #[derive(Clone, Copy, PartialEq, Eq, Debug)]
 pub enum Operation {
@@ -155,13 +157,22 @@ pub fn exactly<const N: usize>(words: &mut [u64]) -> &mut [u64; N] {
     words.try_into().expect("the answer has the length of its operation")
 }
 
-fn run_words(answer: RunAnswer) -> Vec<u64> {
-    let RunAnswer { stop, observations, steps, rollbacks, depends, plain, verdict } = answer;
+/// The words of a run's answer, as the library writes them.
+pub fn run_words(answer: RunAnswer) -> Vec<u64> {
+    let RunAnswer { stop, observations, steps, rollbacks, depends, plain, verdict, firsts } =
+        answer;
     let mut words = vec![stop.number(), observations, steps, rollbacks];
     words.extend(depends);
     words.extend(plain);
     words.push(verdict.number());
+    words.extend(firsts.into_iter().flat_map(report_words));
     words
+}
+
+/// Index, cause and label of a location's first observation; zeros for a location that is not in D.
+fn report_words(first: Option<First>) -> [u64; REPORT_WORDS] {
+    let First { index, cause, label } = first.unwrap_or_default();
+    [index, cause.number(), label]
 }
 
 fn plain_words(answer: PlainAnswer) -> Vec<u64> {
@@ -203,6 +214,11 @@ impl Outcome {
     /// The observations of a run or plain run that was not refused.
     pub fn observations(&self) -> Vec<(u64, u64)> {
         pairs(self.areas[0].content(), self.answer()[1])
+    }
+
+    /// What a run that was not refused reports of each location, in the order of the locations.
+    pub fn reports(&self) -> &[[u64; REPORT_WORDS]] {
+        self.answer()[RUN_COUNTS..].as_chunks().0
     }
 
     /// Says what differs from the expected outcome; none if they are equal.

@@ -3,6 +3,7 @@
 use crate::calls::{Operation, Outcome};
 use crate::cases::Case;
 use crate::demands::{plain_agrees, states_alike};
+use crate::first_claims::firsts_are_as_claimed;
 use crate::load_claims::load_is_as_claimed;
 use crate::outside_claims::outside_is_as_claimed;
 use crate::random::Random;
@@ -26,6 +27,8 @@ pub fn check_case(case: &Case, margin: usize, tally: &mut Tally) -> Result<(), S
     let mut random = Random::new(case.salt);
     tally.demand_3 += 1;
     states_alike(case, &run, margin, &mut random, tally)?;
+    tally.first_claims += 1;
+    firsts_are_as_claimed(case, &run, margin, &mut random)?;
     if load.number != 0 {
         return Ok(());
     }

@@ -44,9 +44,9 @@ fn holds(condition: bool, what: &str) -> Result<(), String> {
     }
 }
 
-/// Demand 3: a state that is changed outside D gives the same answer and the same trace, and stores at
-/// the same addresses outside are remembered in the same order; after the verdict clean, so does one
-/// that is changed at every location that is not public.
+/// Demand 3: a state that is changed outside D gives the same answer, with the same first observations,
+/// and the same trace, and stores at the same addresses outside are remembered in the same order; after
+/// the verdict clean, so does one that is changed at every location that is not public.
 pub fn states_alike(
     case: &Case,
     run: &Outcome,

@@ -1,11 +1,12 @@
 //! Fixed cases: every length around each bound, each limit and its neighbours, every truncation and
 //! every bit of small jobs, each operator at its edges, test loads, stores outside memory, the sets
-//! of expressions. They are made before the random ones.
+//! of expressions, first observations. They are made before the random ones.
 
 use crate::calls::Lengths;
 use crate::cases::{Case, Treatment, MOST_END_WORDS, OUTSIDE_WORDS, WORKING_WORDS};
 use crate::examples::{barrier, nested, printed, r0_zero};
 use crate::fixed_files;
+use crate::fixed_firsts;
 use crate::fixed_loads;
 use crate::fixed_outside;
 use crate::fixed_runs;
@@ -34,6 +35,7 @@ pub fn all() -> Cases {
     fixed_loads::add(&mut cases);
     fixed_outside::add(&mut cases);
     fixed_sets::add(&mut cases);
+    fixed_firsts::add(&mut cases);
     for (number, case) in cases.iter_mut().enumerate() {
         case.name = format!("fixed-{number}");
         case.salt = number as u64 * 0x1_0001;

@@ -1,7 +1,12 @@
 //! The library under test: a safe call for each of its C functions.
 
+/// Locations that a run reports on, the words of each report, and the words of a run's answer ahead of the reports.
+pub const LOCATIONS: usize = 256;
+pub const REPORT_WORDS: usize = 3;
+pub const RUN_COUNTS: usize = 13;
+
 /// Words of the answers of a run, a plain run, a pair and a test load, of reading a text and of printing one.
-pub const RUN_ANSWER: usize = 13;
+pub const RUN_ANSWER: usize = RUN_COUNTS + REPORT_WORDS * LOCATIONS;
 pub const PLAIN_ANSWER: usize = 7;
 pub const PAIR_ANSWER: usize = 9;
 pub const LOAD_ANSWER: usize = 10;

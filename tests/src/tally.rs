@@ -2,7 +2,8 @@
 
 use crate::calls::{Operation, Outcome};
 use crate::cases::{Case, TREATMENTS};
-use crate::demands::state_of;
+use crate::demands::{has, state_of};
+use crate::first_claims::depends_of;
 use crate::generate::STYLES;
 use crate::outside::{Remembered, EVENTS};
 use crate::outside_claims::{cells_of, OUTSIDE_FULL};
@@ -33,6 +34,11 @@ const OBSERVED: [&str; 7] =
 const TABLES: [&str; 4] =
     ["some", "64 and not full", "full with nothing open", "full on a wrong path"];
 
+/// What can bring a location into D, in the order of the causes, with the store that stopped a run apart; and that the
+/// location is not in the plain set.
+const FIRSTS: [&str; 6] =
+    ["branch", "jump", "load", "store", "store that stopped the run", "not in the plain set"];
+
 /// The refusals of the four calls; 11 is one of texts alone.
 const REFUSALS: [usize; 12] = [1, 2, 3, 4, 5, 6, 7, 8, 9, 10, 12, 13];
 
@@ -49,6 +55,7 @@ pub struct Tally {
     pub clean_states_changed: u64,
     pub outside_claims: u64,
     pub load_claims: u64,
+    pub first_claims: u64,
     styles: [u64; STYLES.len()],
     treatments: [u64; TREATMENTS.len()],
     refusals: [u64; 14],
@@ -60,6 +67,8 @@ pub struct Tally {
     observed: [u64; 7],
     events: [u64; EVENTS.len()],
     tables: [u64; TABLES.len()],
+    firsts: [u64; FIRSTS.len()],
+    latest_first: u64,
     stopped_on_wrong_path: u64,
     deepest: usize,
     most_steps: u64,
@@ -90,6 +99,7 @@ impl Tally {
                 self.most_steps = self.most_steps.max(answer[2]);
                 self.most_observations = self.most_observations.max(answer[1]);
                 self.count_trace(&outcome.observations(), answer[0], cells_of(case));
+                self.count_firsts(outcome);
             }
             Operation::Plain => self.plain_stops[answer[0] as usize] += 1,
             Operation::Pair => self.words[answer[0] as usize] += 1,
@@ -118,6 +128,19 @@ impl Tally {
         ];
         for (count, holds) in self.loads.iter_mut().zip(traits) {
             *count += u64::from(holds);
+        }
+    }
+
+    fn count_firsts(&mut self, run: &Outcome) {
+        let (depends, observations) = (depends_of(run), run.answer()[1]);
+        let plain = run.answer()[8..12].try_into().expect("four words");
+        for (location, &[index, cause, _]) in run.reports().iter().enumerate() {
+            if has(depends, location) {
+                let at = if index == observations { FIRSTS.len() - 2 } else { cause as usize };
+                self.firsts[at] += 1;
+                self.firsts[FIRSTS.len() - 1] += u64::from(!has(plain, location));
+                self.latest_first = self.latest_first.max(index);
+            }
         }
     }
 
@@ -157,6 +180,7 @@ impl Tally {
             .chain(named("observation", &OBSERVED, &self.observed))
             .chain(named("outside memory", &EVENTS, &self.events))
             .chain(named("stores remembered at the stop", &TABLES, &self.tables))
+            .chain(named("first observation", &FIRSTS, &self.firsts))
             .filter(|(_, count)| *count == 0)
             .map(|(name, _)| name)
             .collect()
@@ -185,6 +209,11 @@ impl Tally {
         println!("remembered stores outside: {}", counts(&EVENTS, &self.events));
         println!("remembered at the stop: {}", counts(&TABLES, &self.tables));
         println!(
+            "first observations: {}; the latest {}",
+            counts(&FIRSTS, &self.firsts),
+            self.latest_first
+        );
+        println!(
             "runs stopped on a wrong path {}, most branches open {}, most steps {}, most observations {}",
             self.stopped_on_wrong_path, self.deepest, self.most_steps, self.most_observations
         );
@@ -193,8 +222,8 @@ impl Tally {
             self.demand_2, self.demand_3, self.states_changed_outside_d, self.clean_states_changed
         );
         println!(
-            "claims of stores outside tried {}, of test loads {}",
-            self.outside_claims, self.load_claims
+            "claims of stores outside tried {}, of test loads {}, of first observations {}",
+            self.outside_claims, self.load_claims, self.first_claims
         );
     }
 }

@@ -6,7 +6,9 @@ use std::collections::HashMap;
 use check_box_reference::listing;
 
 use crate::calls::{Call, Lengths, Operation, Outcome};
+use crate::demands::has;
 use crate::lend::{Area, Fill};
+use crate::library::{LOCATIONS, REPORT_WORDS, RUN_COUNTS};
 use crate::text::calls::{TextCall, TextOperation, TextOutcome};
 
 const WORKING_WORDS: usize = 4_096;
@@ -15,13 +17,21 @@ const WORKING_WORDS: usize = 4_096;
 const PAIR_WORDS: [&str; 5] =
     ["not comparable", "undecided", "plain differs", "leak shown", "equal"];
 
+/// The rules of an instruction that is observed, in the order of their numbers.
+const CAUSES: [&str; 4] = ["branch", "jump", "load", "store"];
+
+/// The level from which a vector has the first observation of each location of D, which is that of request F-6.
+const FIRSTS_LEVEL: u64 = 6;
+
 /// The filling that the files' heads prescribe, with some words or bytes around each area.
 const FILL: Fill = Fill { salt: 0, margin: 8 };
 
-/// One block: its key lines, and the text of the lines that begin with "|".
+/// One block: its key lines, those with the key "first" apart, since there is one for each location of D; and the
+/// text of the lines that begin with "|".
 #[derive(Default)]
 pub struct Vector {
     fields: HashMap<String, String>,
+    firsts: Vec<String>,
     text: String,
 }
 
@@ -48,6 +58,10 @@ impl Vector {
                 continue;
             }
             let (key, value) = line.split_once(' ').unwrap_or((line, ""));
+            if key == "first" {
+                vector.firsts.push(value.to_string());
+                continue;
+            }
             if vector.fields.insert(key.to_string(), value.to_string()).is_some() {
                 return Err(format!("line \"{key}\" stands twice in one vector"));
             }
@@ -110,7 +124,36 @@ impl Vector {
         Ok([Vector::stop(stop)?, number(observations)?, number(steps)?, number(rollbacks)?])
     }
 
-    fn run_answer(&self) -> Result<Vec<u64>, String> {
+    /// True if the vector has the first observations; one without a level is of the lowest.
+    fn has_firsts(&self) -> Result<bool, String> {
+        let level = self.fields.get("level").map_or(Ok(0), |text| number(text))?;
+        Ok(level >= FIRSTS_LEVEL)
+    }
+
+    /// The words of the reports: zeros where a location has no line. There is a line for each location of D.
+    fn reports(&self) -> Result<Vec<u64>, String> {
+        let mut reports = vec![[0; REPORT_WORDS]; LOCATIONS];
+        let mut reported = Vec::new();
+        for line in &self.firsts {
+            let words: Vec<&str> = line.split_whitespace().collect();
+            let [location, index, cause, label] = words[..] else {
+                return Err(format!("\"first {line}\" has other words"));
+            };
+            let location = number(location)? as usize;
+            let report = reports.get_mut(location).ok_or("a location over 255")?;
+            *report = [number(index)?, position(&CAUSES, cause)?, number(label)?];
+            reported.push(location);
+        }
+        let depends = self.set("depends")?;
+        let members = (0..LOCATIONS).filter(|&location| has(depends, location));
+        if !members.eq(reported) {
+            return Err("the lines \"first\" are not those of the locations of D".to_string());
+        }
+        Ok(reports.concat())
+    }
+
+    /// A vector of before request F-6 has no reports: they are then to be those of the reference.
+    fn run_answer(&self, call: &Call) -> Result<Vec<u64>, String> {
         let mut words = self.plain_counts()?;
         words.push(number(self.field("rollbacks")?)?);
         words.extend(self.set("depends")?);
@@ -119,6 +162,11 @@ impl Vector {
             &["undecided", "clean", "speculative", "plain"],
             self.field("verdict")?,
         )?);
+        words.extend(if self.has_firsts()? {
+            self.reports()?
+        } else {
+            call.by_reference().answer()[RUN_COUNTS..].to_vec()
+        });
         Ok(words)
     }
 
@@ -150,9 +198,9 @@ impl Vector {
         Ok(words)
     }
 
-    fn answer(&self, operation: Operation) -> Result<Vec<u64>, String> {
-        match operation {
-            Operation::Run => self.run_answer(),
+    fn answer(&self, call: &Call) -> Result<Vec<u64>, String> {
+        match call.operation {
+            Operation::Run => self.run_answer(call),
             Operation::Plain => self.plain_answer(),
             Operation::Pair => self.pair_answer(),
             Operation::Load => self.load_answer(),
@@ -205,9 +253,10 @@ impl Vector {
         self.fields.get("refused").map_or(Ok(0), |text| number(text)).map(|number| number as u32)
     }
 
-    fn expected(&self, operation: Operation) -> Result<Outcome, String> {
+    fn expected(&self, call: &Call) -> Result<Outcome, String> {
+        let operation = call.operation;
         let number = self.refused()?;
-        let answer = if number == 0 { self.answer(operation)? } else { Vec::new() };
+        let answer = if number == 0 { self.answer(call)? } else { Vec::new() };
         let [a, b, c] = operation.area_names().map(|name| self.area_after(name));
         Ok(Outcome {
             operation,
@@ -232,7 +281,7 @@ impl Vector {
         let seed = if operation == Operation::Load { number(self.field("seed-word")?)? } else { 0 };
         let lengths = self.lengths(operation)?;
         let call = Call { operation, job: &job, second: &second, seed, lengths, fill: FILL };
-        match call.by_library().difference(&self.expected(operation)?) {
+        match call.by_library().difference(&self.expected(&call)?) {
             Some(difference) => Err(difference),
             None => Ok(()),
         }
@@ -275,12 +324,16 @@ impl Vector {
         }
     }
 
+    /// A listing of before request F-6 has no lines "first".
     fn check_listing(&self) -> Result<(), String> {
         let text = listing(&self.bytes("job")?);
-        if text == self.text.as_bytes() {
+        let text = String::from_utf8(text).map_err(|error| error.to_string())?;
+        let firsts = self.has_firsts()?;
+        let there = |line: &&str| firsts || !line.starts_with("first ");
+        if text.split_inclusive('\n').filter(there).collect::<String>() == self.text {
             Ok(())
         } else {
-            Err(format!("the listing is\n{}", String::from_utf8_lossy(&text)))
+            Err(format!("the listing is\n{text}"))
         }
     }
 

@@ -38,7 +38,8 @@ fn lines(parts: &Parts) -> String {
 #[test]
 fn the_printed_job_is_printed_as_in_the_document() {
     let text = "start 0\npc 2\nload 1\nload 3\nrollback 0\npc end\nstop finished\nsteps 5\n\
-                rollbacks 1\ndepends r0 r1 m1\nplain r0 r1\nverdict speculative\n";
+                rollbacks 1\ndepends r0 r1 m1\nplain r0 r1\nverdict speculative\n\
+                first r0 0 branch 1\nfirst r1 0 branch 1\nfirst m1 3 load 3\n";
     assert_eq!(lines(&printed()), text);
 }
 
@@ -47,7 +48,7 @@ fn the_spilling_job_is_stopped_at_its_65th_address() {
     let text = lines(&outside());
     assert!(text.starts_with("store 18446744073709551615\npc 0\n"), "{text}");
     let end = "store 18446744073709551552\npc 0\nstop outside full\nsteps 257\nrollbacks 0\n\
-               depends r1\nplain r1\nverdict undecided\n";
+               depends r1\nplain r1\nverdict undecided\nfirst r1 0 store 1\n";
     assert!(text.ends_with(end), "{text}");
 }
 
@@ -55,12 +56,16 @@ fn the_spilling_job_is_stopped_at_its_65th_address() {
 fn the_other_examples_are_those_of_the_document() {
     let text = lines(&r0_zero());
     let trace = "start 0\npc end\nrollback 0\npc 2\nload 0\nload 2\nstop finished\nsteps 5\n";
-    assert!(text.starts_with(trace) && text.ends_with("verdict plain\n"), "{text}");
+    let firsts = "first r0 0 branch 1\nfirst r1 0 branch 1\n";
+    let end = format!("verdict plain\n{firsts}first m0 5 load 3\n");
+    assert!(text.starts_with(trace) && text.ends_with(&end), "{text}");
     let text = lines(&barrier());
     let trace = "start 0\npc 2\nrollback 0\npc end\nstop finished\nsteps 4\n";
-    assert!(text.starts_with(trace) && text.ends_with("verdict clean\n"), "{text}");
+    let end = format!("verdict clean\n{firsts}");
+    assert!(text.starts_with(trace) && text.ends_with(&end), "{text}");
     let text = lines(&nested());
     let trace = "start 0\npc 1\nstart 1\npc 2\nrollback 1\npc end\nrollback 0\npc end\n\
                  stop finished\nsteps 5\n";
-    assert!(text.starts_with(trace), "{text}");
+    let end = "verdict clean\nfirst r0 0 branch 0\nfirst r1 2 branch 1\n";
+    assert!(text.starts_with(trace) && text.ends_with(end), "{text}");
 }

@@ -2,8 +2,8 @@
 
 use super::decode::{Decoded, Header, Instruction};
 use super::expression::{evaluate, register, Expression, Step, Values, OPERANDS};
+use super::firsts::{self, packed, record, write_reports, Firsts};
 use super::outside::{Found, Outside, ENTRIES};
-use super::ANSWER_WORDS;
 
 const START: u64 = 0;
 const ROLLBACK: u64 = 1;
@@ -28,6 +28,17 @@ pub enum Stop {
     OutsideFull,
 }
 
+/// Why steps with or without an open branch are not gone on with: the first branch was opened or the last one rolled
+/// back, the set of the next step's observation has to be gathered first, with its cause, or the run stops.
+enum Pause<const WORDS: usize> {
+    Turn,
+    Gather(Set<WORDS>, u64),
+    Stop(Stop),
+}
+
+/// Whether a step was made, or why not.
+type Made<const WORDS: usize> = Result<(), Pause<WORDS>>;
+
 /// The answer of a run, with sets of four words, but for the verdict.
 pub struct Outcome {
     stop: Stop,
@@ -51,6 +62,7 @@ pub struct Machine<'a, const WORDS: usize> {
     old_sets: &'a mut [Set<WORDS>; 256],
     /// The open branches, packed as by `frame`.
     frames: &'a mut [u64; 256],
+    firsts: &'a mut Firsts,
     trace: &'a mut [[u64; 2]],
     count: usize,
     cells: u64,
@@ -63,11 +75,9 @@ pub struct Machine<'a, const WORDS: usize> {
     /// The top's window, while a branch is open.
     window: u8,
     log_length: u8,
-    /// Observed with nothing open, and with a branch open.
+    /// Observed with nothing open, and in all.
     plain: Set<WORDS>,
-    wrong: Set<WORDS>,
-    /// Why a step was not made.
-    unmade: Stop,
+    full: Set<WORDS>,
 }
 
 /// An open branch in one word: id, true target, the window left to the branch below, and the length
@@ -90,6 +100,11 @@ fn join<const WORDS: usize>(set: &mut Set<WORDS>, other: &Set<WORDS>) {
     }
 }
 
+#[inline(always)]
+fn is_within<const WORDS: usize>(set: &Set<WORDS>, other: &Set<WORDS>) -> bool {
+    set.iter().zip(other).fold(0, |more, (word, known)| more | word & !known) == 0
+}
+
 /// The union of the sets of the registers whose bits are set.
 fn set_of<const WORDS: usize>(registers: u16, sets: &[Set<WORDS>; OPERANDS]) -> Set<WORDS> {
     let mut result = [0; WORDS];
@@ -110,7 +125,7 @@ fn set_table<const WORDS: usize, const SETS: usize>(
     (sets.try_into().expect("so many sets"), rest)
 }
 
-/// Each location has its word of the job's state, and depends on itself alone.
+/// Each location has its word of the job's state, and depends on itself alone; nothing is stored outside memory.
 fn start_state<const WORDS: usize>(
     state: &[u8],
     values: &mut Values,
@@ -122,6 +137,7 @@ fn start_state<const WORDS: usize>(
         sets[location] = [0; WORDS];
         sets[location][location / 64 % WORDS] = 1 << (location % 64);
     }
+    values[COUNT] = 0;
 }
 
 fn word_table<const LENGTH: usize>(words: &mut [u64]) -> (&mut [u64; LENGTH], &mut [u64]) {
@@ -142,10 +158,10 @@ impl<'a, const WORDS: usize> Machine<'a, WORDS> {
         let (logged, rest) = word_table(rest);
         let (old_values, rest) = word_table(rest);
         let (frames, rest) = word_table(rest);
+        let (firsts, rest) = word_table(rest);
         let (sets, rest) = set_table(rest);
         let (old_sets, rest) = set_table(rest);
         start_state(state, values, sets);
-        values[COUNT] = 0;
         Machine {
             instructions: &decoded.instructions,
             steps: &decoded.steps,
@@ -156,6 +172,7 @@ impl<'a, const WORDS: usize> Machine<'a, WORDS> {
             old_values,
             old_sets,
             frames,
+            firsts,
             trace: trace.as_chunks_mut().0,
             count: 0,
             cells: (header.locations - REGISTERS) as u64,
@@ -168,8 +185,7 @@ impl<'a, const WORDS: usize> Machine<'a, WORDS> {
             window: 0,
             log_length: 0,
             plain: [0; WORDS],
-            wrong: [0; WORDS],
-            unmade: Stop::TraceFull,
+            full: [0; WORDS],
         }
     }
 
@@ -191,6 +207,12 @@ impl<'a, const WORDS: usize> Machine<'a, WORDS> {
         rest.fill([0; 2]);
     }
 
+    /// What is reported of each location, into the answer's words behind the others.
+    #[inline(always)]
+    pub fn write_reports(&self, reports: &mut [u64]) {
+        write_reports(self.firsts, &self.full, reports);
+    }
+
     #[inline(always)]
     pub fn outcome(&self, stop: Stop, budget: u32) -> Outcome {
         let widened = |set: &Set<WORDS>| {
@@ -203,7 +225,7 @@ impl<'a, const WORDS: usize> Machine<'a, WORDS> {
             observations: self.count as u64,
             steps: u64::from(budget - self.left),
             rollbacks: self.rollbacks,
-            depends: widened(&union(&self.plain, &self.wrong)),
+            depends: widened(&self.full),
             plain: widened(&self.plain),
         }
     }
@@ -212,62 +234,63 @@ impl<'a, const WORDS: usize> Machine<'a, WORDS> {
     #[inline(always)]
     pub fn run(&mut self) -> Stop {
         loop {
-            if let Some(stop) = self.plain_path() {
-                return stop;
-            }
-            if let Some(stop) = self.wrong_paths() {
-                return stop;
+            let open = self.depth != 0;
+            let pause = if open { self.wrong_paths() } else { self.plain_path() };
+            match pause {
+                Pause::Turn => {}
+                Pause::Gather(set, cause) => self.gather(open, set, cause),
+                Pause::Stop(stop) => return stop,
             }
         }
     }
 
-    /// Steps with nothing open; none if a branch was opened.
+    /// Steps with nothing open.
     #[inline(always)]
-    fn plain_path(&mut self) -> Option<Stop> {
+    fn plain_path(&mut self) -> Pause<WORDS> {
         loop {
             let instruction = &self.instructions[self.place];
             if let Instruction::End = instruction {
-                return Some(Stop::Finished);
+                return Pause::Stop(Stop::Finished);
             }
             if self.left == 0 {
-                return Some(Stop::Spent);
+                return Pause::Stop(Stop::Spent);
             }
-            if !self.carry_out::<false>(instruction) {
-                return Some(self.unmade);
+            if let Err(pause) = self.carry_out::<false>(instruction) {
+                return pause;
             }
             self.left -= 1;
             if self.depth != 0 {
-                return None;
+                return Pause::Turn;
             }
         }
     }
 
-    /// Steps with a branch open; none if the last one was rolled back.
+    /// Steps with a branch open.
     #[inline(always)]
-    fn wrong_paths(&mut self) -> Option<Stop> {
+    fn wrong_paths(&mut self) -> Pause<WORDS> {
         loop {
             let instruction = &self.instructions[self.place];
             if self.left == 0 {
-                return Some(Stop::Spent);
+                return Pause::Stop(Stop::Spent);
             }
             let made = if self.window == 0 || matches!(instruction, Instruction::End) {
                 self.roll_back()
             } else {
                 self.carry_out::<true>(instruction)
             };
-            if !made {
-                return Some(self.unmade);
+            if let Err(pause) = made {
+                return pause;
             }
             self.left -= 1;
             if self.depth == 0 {
-                return None;
+                return Pause::Turn;
             }
         }
     }
 
-    /// Rules 2 and 3; false if the step is not made. Every window cost is 1.
+    /// Rules 2 and 3. Every window cost is 1.
     #[inline(always)]
-    fn carry_out<const OPEN: bool>(&mut self, instruction: &Instruction) -> bool {
+    fn carry_out<const OPEN: bool>(&mut self, instruction: &Instruction) -> Made<WORDS> {
         match *instruction {
             Instruction::Skip | Instruction::End => {}
             // Going on lowers the window, so 1 becomes 0.
@@ -287,7 +310,7 @@ impl<'a, const WORDS: usize> Machine<'a, WORDS> {
             Instruction::Branch { register, label } => return self.open::<OPEN>(register, label),
         }
         self.go_on::<OPEN>(self.place + 1);
-        true
+        Ok(())
     }
 
     #[inline(always)]
@@ -321,9 +344,29 @@ impl<'a, const WORDS: usize> Machine<'a, WORDS> {
         }
     }
 
+    /// Sees to it that the set of the last observations, so many, was gathered before; if not, they are taken back.
     #[inline(always)]
-    fn gather<const OPEN: bool>(&mut self, set: &Set<WORDS>) {
-        join(if OPEN { &mut self.wrong } else { &mut self.plain }, set);
+    fn gathered<const OPEN: bool>(
+        &mut self,
+        set: &Set<WORDS>,
+        cause: u64,
+        observations: usize,
+    ) -> Made<WORDS> {
+        if is_within(set, if OPEN { &self.full } else { &self.plain }) {
+            return Ok(());
+        }
+        self.count -= observations;
+        Err(Pause::Gather(*set, cause))
+    }
+
+    /// Gathers the set of the step that was not made, which goes on as the next one.
+    #[inline(always)]
+    fn gather(&mut self, open: bool, set: Set<WORDS>, cause: u64) {
+        record(self.firsts, set, self.full, packed(self.count, cause, self.place));
+        join(&mut self.full, &set);
+        if !open {
+            join(&mut self.plain, &set);
+        }
     }
 
     /// Changes an operand; on a wrong path the old contents are logged first.
@@ -353,40 +396,31 @@ impl<'a, const WORDS: usize> Machine<'a, WORDS> {
         }
     }
 
-    /// Writes one observation; false if it does not fit.
+    /// Writes one observation, if it fits.
     #[inline(always)]
-    fn observe(&mut self, kind: u64, value: u64) -> bool {
-        match self.trace.get_mut(self.count) {
-            Some(slot) => {
-                *slot = [kind, value];
-                self.count += 1;
-                true
-            }
-            None => false,
-        }
+    fn observe(&mut self, kind: u64, value: u64) -> Made<WORDS> {
+        let slot = self.trace.get_mut(self.count).ok_or(Pause::Stop(Stop::TraceFull))?;
+        *slot = [kind, value];
+        self.count += 1;
+        Ok(())
     }
 
-    /// Writes two observations; false if they do not both fit.
+    /// Writes two observations, if they both fit.
     #[inline(always)]
-    fn observe_two(&mut self, first: [u64; 2], second: [u64; 2]) -> bool {
-        match self.trace.get_mut(self.count..self.count + 2) {
-            Some(slots) => {
-                slots[0] = first;
-                slots[1] = second;
-                self.count += 2;
-                true
-            }
-            None => false,
-        }
+    fn observe_two(&mut self, first: [u64; 2], second: [u64; 2]) -> Made<WORDS> {
+        let slots = self.trace.get_mut(self.count..self.count + 2);
+        let slots = slots.ok_or(Pause::Stop(Stop::TraceFull))?;
+        slots[0] = first;
+        slots[1] = second;
+        self.count += 2;
+        Ok(())
     }
 
     #[inline(always)]
-    fn load<const OPEN: bool>(&mut self, to: u8, address: Expression) -> bool {
+    fn load<const OPEN: bool>(&mut self, to: u8, address: Expression) -> Made<WORDS> {
         let (address, mut set) = self.evaluate(address);
-        if !self.observe(LOAD, address) {
-            return false;
-        }
-        self.gather::<OPEN>(&set);
+        self.observe(LOAD, address)?;
+        self.gathered::<OPEN>(&set, firsts::LOAD, 1)?;
         let mut value = 0;
         if address < self.cells {
             let cell = usize::from(address as u8 + REGISTERS as u8);
@@ -398,24 +432,22 @@ impl<'a, const WORDS: usize> Machine<'a, WORDS> {
         }
         self.change::<OPEN>(usize::from(to), value, set);
         self.go_on::<OPEN>(self.place + 1);
-        true
+        Ok(())
     }
 
     #[inline(always)]
-    fn store<const OPEN: bool>(&mut self, from: u8, address: Expression) -> bool {
+    fn store<const OPEN: bool>(&mut self, from: u8, address: Expression) -> Made<WORDS> {
         let (address, mut set) = self.evaluate(address);
         if address >= self.cells {
             return self.store_outside::<OPEN>(from, address, set);
         }
-        if !self.observe(STORE, address) {
-            return false;
-        }
-        self.gather::<OPEN>(&set);
+        self.observe(STORE, address)?;
+        self.gathered::<OPEN>(&set, firsts::STORE, 1)?;
         join(&mut set, &self.sets[usize::from(from)]);
         let cell = usize::from(address as u8 + REGISTERS as u8);
         self.change::<OPEN>(cell, register(self.values, from), set);
         self.go_on::<OPEN>(self.place + 1);
-        true
+        Ok(())
     }
 
     /// Of a new entry on a wrong path the log holds the count.
@@ -425,19 +457,16 @@ impl<'a, const WORDS: usize> Machine<'a, WORDS> {
         from: u8,
         address: u64,
         mut set: Set<WORDS>,
-    ) -> bool {
+    ) -> Made<WORDS> {
         let count = self.values[COUNT];
         let found = self.outside.find(address, count);
         let needs_room = matches!(found, Found::Slot(_)) && count == ENTRIES as u64;
         if needs_room && self.count < self.trace.len() {
-            self.gather::<OPEN>(&set);
-            self.unmade = Stop::OutsideFull;
-            return false;
+            self.gathered::<OPEN>(&set, firsts::STORE, 0)?;
+            return Err(Pause::Stop(Stop::OutsideFull));
         }
-        if !self.observe(STORE, address) {
-            return false;
-        }
-        self.gather::<OPEN>(&set);
+        self.observe(STORE, address)?;
+        self.gathered::<OPEN>(&set, firsts::STORE, 1)?;
         join(&mut set, &self.sets[usize::from(from)]);
         let value = register(self.values, from);
         match found {
@@ -453,56 +482,50 @@ impl<'a, const WORDS: usize> Machine<'a, WORDS> {
             }
         }
         self.go_on::<OPEN>(self.place + 1);
-        true
+        Ok(())
     }
 
     #[inline(always)]
-    fn jump<const OPEN: bool>(&mut self, target: Expression) -> bool {
+    fn jump<const OPEN: bool>(&mut self, target: Expression) -> Made<WORDS> {
         let (target, set) = self.evaluate(target);
         let place = target.min(self.instructions.len() as u64 - 1);
-        if !self.observe(PC, place) {
-            return false;
-        }
-        self.gather::<OPEN>(&set);
+        self.observe(PC, place)?;
+        self.gathered::<OPEN>(&set, firsts::JUMP, 1)?;
         self.go_on::<OPEN>(place as usize);
-        true
+        Ok(())
     }
 
     /// Rule 2.
     #[inline(always)]
-    fn open<const OPEN: bool>(&mut self, tested: u8, label: u16) -> bool {
+    fn open<const OPEN: bool>(&mut self, tested: u8, label: u16) -> Made<WORDS> {
         let next = self.place + 1;
         let label = usize::from(label);
         let zero = register(self.values, tested) == 0;
         let (target, wrong) = if zero { (label, next) } else { (next, label) };
-        if !self.observe_two([START, self.opened], [PC, wrong as u64]) {
-            return false;
-        }
+        self.observe_two([START, self.opened], [PC, wrong as u64])?;
         let set = self.sets[usize::from(tested)];
-        self.gather::<OPEN>(&set);
+        self.gathered::<OPEN>(&set, firsts::BRANCH, 2)?;
         self.window = if OPEN { self.window - 1 } else { self.first_window };
         let packed = frame(self.opened, target, self.window, self.log_length);
         self.frames[usize::from(self.depth)] = packed;
         self.depth = self.depth.wrapping_add(1);
         self.opened += 1;
         self.place = wrong;
-        true
+        Ok(())
     }
 
     /// Rule 1. The window that a branch opened with is what it left to the branch below it.
     #[inline(always)]
-    fn roll_back(&mut self) -> bool {
+    fn roll_back(&mut self) -> Made<WORDS> {
         let packed = self.frames[usize::from(self.depth.wrapping_sub(1))];
         let target = packed >> 16 & 0xFFFF;
-        if !self.observe_two([ROLLBACK, packed >> 32], [PC, target]) {
-            return false;
-        }
+        self.observe_two([ROLLBACK, packed >> 32], [PC, target])?;
         self.depth = self.depth.wrapping_sub(1);
         self.undo_to(packed as u8);
         self.window = (packed >> 8) as u8;
         self.place = target as usize;
         self.rollbacks += 1;
-        true
+        Ok(())
     }
 
     #[inline(always)]
@@ -518,8 +541,8 @@ impl<'a, const WORDS: usize> Machine<'a, WORDS> {
 }
 
 impl Outcome {
-    /// Writes the answer with its verdict.
-    pub fn write(&self, public: &[u64; 4], answer: &mut [u64; ANSWER_WORDS]) {
+    /// Writes the answer with its verdict, but for the reports.
+    pub fn write(&self, public: &[u64; 4], answer: &mut [u64]) {
         let outside = |set: &[u64; 4], kept: &[u64; 4]| (0..4).any(|at| set[at] & !kept[at] != 0);
         let verdict = if self.stop != Stop::Finished {
             0

@@ -2,33 +2,22 @@
 -- Assumes nothing.
 use mathlib.Core.Path.{_≡_, sym, ap, _∙_}
 use mathlib.Core.List.{List, [], _∷_, _++_}
-use Prim.Native.Nat.{ℕ, suc, _+_, _<_}
+use Prim.Native.Nat.{ℕ, suc, _+_, _*_, _<_, _≤_}
+use native.Mathlib.Nat.{add-zero}
 use native.Mathlib.Omega.{arith}
-use lib.ListN.{length, getD, set, drop}
-use lib.Seq.{sets, drop-cons, drop-length}
+use lib.ListN.{length, getD, set, drop, drop-of-length-le}
+use lib.Seq.{sets, length-sets, drop-cons}
 use Rattle.location.specs.declared.LocationSet.{LocationSet}
+use Rattle.location.proofs.Laws.{four}
 use Rattle.rules.specs.declared.Verdict.{Verdict}
 use Rattle.rules.specs.declared.Counts.{Counts}
 use Rattle.rules.specs.declared.PlainCounts.{PlainCounts}
+use Rattle.rules.specs.declared.First.{First}
 use Rattle.rules.specs.declared.PairWord.{PairWord}
 use Rattle.rules.specs.declared.PairWord.the-variants as words
-use Rattle.rules.specs.Rules.Answers.{stopNumber, verdictNumber, pairNumber}
-use Rattle.answer_words.specs.Words.{countWords, runWords, plainWords, pairWords, unfinishedWords, testLoadWords}
-
--- a list of four is its four elements
-abbrev four : List ℕ → List ℕ
-four l = getD l 0 0 ∷ getD l 1 0 ∷ getD l 2 0 ∷ getD l 3 0 ∷ []
-
-four-of : (l : List ℕ) → length l ≡ 4 → four l ≡ l
-four-of l h =
-    let h₀ : 0 < length l = omega arith in
-    let h₁ : 1 < length l = omega arith in
-    let h₂ : 2 < length l = omega arith in
-    let h₃ : 3 < length l = omega arith in
-    sym (drop-cons l 0 0 h₀ ∙ ap (λ (t : List ℕ). getD l 0 0 ∷ t) (drop-cons l 1 0 h₁
-    ∙ ap (λ (t : List ℕ). getD l 1 0 ∷ t) (drop-cons l 2 0 h₂
-    ∙ ap (λ (t : List ℕ). getD l 2 0 ∷ t) (drop-cons l 3 0 h₃
-    ∙ ap (λ (t : List ℕ). getD l 3 0 ∷ t) (ap (λ (n : ℕ). drop n l) (sym h) ∙ drop-length l)))))
+use Rattle.rules.specs.Rules.Answers.{stopNumber, verdictNumber, causeNumber, pairNumber}
+use Rattle.answer_words.specs.Words.{countWords, reportWords, reportsWords, runWords, plainWords}
+use Rattle.answer_words.specs.Words.{pairWords, unfinishedWords, testLoadWords}
 
 -- what a run counts, from a place on
 pub counts-written : (l : List ℕ) (at : ℕ) (c : Counts) {s : ℕ} → s ≡ stopNumber (c .stop)
@@ -39,17 +28,59 @@ counts-written l at c es =
     let e₃ : at + 3 ≡ suc (suc (suc at)) = omega arith in
     rw (es, e₁, e₂, e₃)
 
-pub run-written : (l : List ℕ) (c : Counts) (full plain : LocationSet) (v : Verdict) {k : ℕ} {l₁ : List ℕ}
+-- ---- the reports of the locations, one after the other
+pub report-written : (l : List ℕ) (at : ℕ) (x : First) {k : ℕ} → k ≡ causeNumber (x .cause)
+    → set (set (set l at (x .index)) (at + 1) k) (at + 2) (x .label) ≡ sets l at (reportWords x)
+report-written l at x ek =
+    let e₁ : at + 1 ≡ suc at = omega arith in
+    let e₂ : at + 2 ≡ suc (suc at) = omega arith in
+    rw (ek, e₁, e₂)
+
+-- the reports of the first n locations are written: with those of all others too, the area l has them all from `at` on
+pub record Reported (l : List ℕ) (at : ℕ) (xs : List First) (l₁ : List ℕ) (n : ℕ) : Type 0 where
+  pub few : n ≤ length xs
+  pub area : sets l₁ (at + 3 * n) (reportsWords (drop n xs)) ≡ sets l at (reportsWords xs)
+
+pub none-reported : (l : List ℕ) (at : ℕ) (xs : List First) → Reported l at xs l 0
+none-reported l at xs = record { few = omega arith; area = ap (λ (i : ℕ). sets l i (reportsWords xs)) (add-zero at) }
+
+module _ {l : List ℕ} {at : ℕ} {xs : List First} {l₁ : List ℕ} {n : ℕ} (h : Reported l at xs l₁ n) where
+  pub reported-length : length l₁ ≡ length l
+  reported-length =
+      sym (length-sets l₁ (at + 3 * n) (reportsWords (drop n xs))) ∙ ap length (h .area) ∙ length-sets l at (reportsWords xs)
+
+  pub reported-next : (d : First) {l₂ : List ℕ} → n < length xs → l₂ ≡ sets l₁ (at + 3 * n) (reportWords (getD xs n d))
+      → Reported l at xs l₂ (n + 1)
+  unfolding reportsWords
+  reported-next d {l₂} more e =
+      let e₁ : n + 1 ≡ suc n = omega arith in
+      let e₂ : at + 3 * (n + 1) ≡ suc (suc (suc (at + 3 * n))) = omega arith in
+      let split = drop-cons xs n d more in
+      record { few = omega arith; area = rw (e₂, e₁, e) (ap (λ (ys : List First). sets l₁ (at + 3 * n) (reportsWords ys)) (sym split) ∙ h .area) }
+
+  pub all-reported : length xs ≤ n → l₁ ≡ sets l at (reportsWords xs)
+  unfolding reportsWords
+  all-reported last =
+      sym (ap (λ (ys : List First). sets l₁ (at + 3 * n) (reportsWords ys)) (drop-of-length-le xs last)) ∙ h .area
+
+-- ---- the answers
+-- a list of four words, as the code reads them
+abbrev words4 : List ℕ → List ℕ
+words4 l = getD l 0 0 ∷ getD l 1 0 ∷ getD l 2 0 ∷ getD l 3 0 ∷ []
+
+-- the words are l, then l₁ after the counts, then l₂ after the reports
+pub run-written : (l : List ℕ) (c : Counts) (full plain : LocationSet) (v : Verdict) (firsts : List First) {k : ℕ} {l₁ l₂ : List ℕ}
     → length (full .words) ≡ 4 → length (plain .words) ≡ 4 → l₁ ≡ sets l 0 (countWords c) → k ≡ verdictNumber v
-    → sets l₁ 4 (four (full .words) ++ four (plain .words) ++ (k ∷ [])) ≡ sets l 0 (runWords c full plain v)
-run-written l c full plain v hf hp e₁ ek =
-    λ i. sets (e₁ i) 4 (four-of (full .words) hf i ++ four-of (plain .words) hp i ++ (ek i ∷ []))
+    → l₂ ≡ sets (sets l₁ 4 (words4 (full .words) ++ words4 (plain .words) ++ (k ∷ []))) 13 (reportsWords firsts)
+    → l₂ ≡ sets l 0 (runWords c full plain v firsts)
+run-written l c full plain v firsts hf hp e₁ ek e₂ =
+    e₂ ∙ (λ i. sets (e₁ i) 4 (four (full .words) hf i ++ four (plain .words) hp i ++ (ek i ∷ []) ++ reportsWords firsts))
 
 pub plain-written : (l : List ℕ) (c : PlainCounts) (plain : LocationSet) {s : ℕ} → length (plain .words) ≡ 4
     → s ≡ stopNumber (c .stop)
-    → sets l 0 ((s ∷ c .observations ∷ c .steps ∷ []) ++ four (plain .words)) ≡ sets l 0 (plainWords c plain)
+    → sets l 0 ((s ∷ c .observations ∷ c .steps ∷ []) ++ words4 (plain .words)) ≡ sets l 0 (plainWords c plain)
 plain-written l c plain {s} hp es =
-    ap (sets l 0) (λ i. (es i ∷ c .observations ∷ c .steps ∷ []) ++ four-of (plain .words) hp i)
+    ap (sets l 0) (λ i. (es i ∷ c .observations ∷ c .steps ∷ []) ++ four (plain .words) hp i)
 
 -- a word on a pair, then what each of two runs counts: the words are l, then l₁, then l₂
 module _ (l : List ℕ) (w : PairWord) (c d : Counts) {k : ℕ} {l₁ l₂ : List ℕ} (ek : k ≡ pairNumber w)

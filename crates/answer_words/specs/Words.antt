@@ -6,6 +6,7 @@ use Rattle.location.specs.declared.LocationSet.{LocationSet}
 use Rattle.rules.specs.declared.Verdict.{Verdict}
 use Rattle.rules.specs.declared.Counts.{Counts}
 use Rattle.rules.specs.declared.PlainCounts.{PlainCounts}
+use Rattle.rules.specs.declared.First.{First}
 use Rattle.rules.specs.declared.RunOutcome.the-variants as runs
 use Rattle.rules.specs.declared.RunAnswer.{RunAnswer}
 use Rattle.rules.specs.declared.PlainOutcome.the-variants as plains
@@ -20,16 +21,25 @@ use Rattle.rules.specs.declared.ReadAnswer.{ReadAnswer}
 use Rattle.rules.specs.declared.ReadAnswer.the-variants as reads
 use Rattle.rules.specs.declared.PrintAnswer.{PrintAnswer}
 use Rattle.rules.specs.declared.PrintAnswer.the-variants as prints
-use Rattle.rules.specs.Rules.Answers.{stopNumber, verdictNumber, pairNumber}
+use Rattle.rules.specs.Rules.Answers.{stopNumber, verdictNumber, causeNumber, pairNumber}
 
 -- stop, observations, steps and rollbacks
 abbrev pub countWords : Counts → List ℕ
 countWords c = stopNumber (c .stop) ∷ c .observations ∷ c .steps ∷ c .rollbacks ∷ []
 
--- stop, observations, steps, rollbacks, the words of D and of the plain set, and the verdict
-abbrev pub runWords : Counts → LocationSet → LocationSet → Verdict → List ℕ
-runWords c full plain v =
-    countWords c ++ full .words ++ plain .words ++ (verdictNumber v ∷ [])
+-- of a location: the index, the rule and the label of the observation that brought it into D
+abbrev pub reportWords : First → List ℕ
+reportWords x = x .index ∷ causeNumber (x .cause) ∷ x .label ∷ []
+
+-- of one location after the other
+unfoldable pub reportsWords : List First → List ℕ
+reportsWords [] = []
+reportsWords (x ∷ xs) = reportWords x ++ reportsWords xs
+
+-- stop, observations, steps, rollbacks, the words of D and of the plain set, the verdict, and the words of each location
+abbrev pub runWords : Counts → LocationSet → LocationSet → Verdict → List First → List ℕ
+runWords c full plain v firsts =
+    countWords c ++ full .words ++ plain .words ++ (verdictNumber v ∷ []) ++ reportsWords firsts
 
 -- stop, observations, steps and the words of the plain set
 abbrev pub plainWords : PlainCounts → LocationSet → List ℕ
@@ -56,7 +66,7 @@ printWords bytes = bytes ∷ []
 
 -- the words of an answer, which a call writes from the first word on: none where it refuses
 abbrev pub runAnswerWords : RunAnswer → List ℕ
-runAnswerWords r = elim (r .outcome) [ runs.Refused n ↦ [] | runs.Ran c v ↦ runWords c (r .full) (r .plain) v ]
+runAnswerWords r = elim (r .outcome) [ runs.Refused n ↦ [] | runs.Ran c v ↦ runWords c (r .full) (r .plain) v (r .firsts) ]
 
 abbrev pub plainAnswerWords : PlainAnswer → List ℕ
 plainAnswerWords r = elim (r .outcome) [ plains.Refused n ↦ [] | plains.Ran c ↦ plainWords c (r .plain) ]

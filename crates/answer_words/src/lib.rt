@@ -1,7 +1,9 @@
 // An answer as numbers and words, for callers that have no enums: a number for each case (of a refusal the documents'), and the words
 // in their order.
 use location::LocationSet;
+use rules::Cause;
 use rules::Counts;
+use rules::First;
 use rules::PairWord;
 use rules::PlainCounts;
 use rules::Refusal;
@@ -11,8 +13,9 @@ ghost use mathlib.Core.Path.{_≡_};
 ghost use Prim.Native.Nat.{_+_, _≤_};
 ghost use lib.ListN.{length};
 ghost use lib.Seq.{sets};
-ghost use Rattle.rules.specs.Rules.Answers.{stopNumber, verdictNumber, pairNumber, refusalNumber};
-ghost use Rattle.answer_words.specs.Words.{countWords, runWords, plainWords, pairWords, unfinishedWords, testLoadWords, readWords, printWords};
+ghost use Rattle.rules.specs.Rules.Answers.{stopNumber, verdictNumber, causeNumber, pairNumber, refusalNumber};
+ghost use Rattle.answer_words.specs.Words.{countWords, reportWords, reportsWords, runWords, plainWords, pairWords};
+ghost use Rattle.answer_words.specs.Words.{unfinishedWords, testLoadWords, readWords, printWords};
 
 fn stop_number(s: Stop) -> u64
     ensures { λ r. ⌜ r ≡ stopNumber s ⌝ }
@@ -45,6 +48,17 @@ fn pair_number(w: PairWord) -> u64
         PairWord::PlainDiffers => 2,
         PairWord::LeakShown => 3,
         PairWord::Equal => 4,
+    }
+}
+
+fn cause_number(cause: Cause) -> u64
+    ensures { λ r. ⌜ r ≡ causeNumber cause ⌝ }
+{
+    match cause {
+        Cause::Branch => 0,
+        Cause::Jump => 1,
+        Cause::Load => 2,
+        Cause::Store => 3,
     }
 }
 
@@ -81,15 +95,39 @@ fn write_counts(c: Counts, answer: &mut [u64], at: usize)
     answer[at + 3] = c.rollbacks as u64;
 }
 
-// Stop, observations, steps, rollbacks, four words of D, four of the plain set, verdict.
+// Index, cause and label of a report, from a place on.
+fn write_report(x: First, answer: &mut [u64], at: usize)
+    requires { ⌜ at + 3 ≤ length (now answer) ⌝ }
+    ensures { λ _. ⌜ now (answer .exit) ≡ sets (now (answer .entry)) at (reportWords x) ⌝ }
+{
+    let cause = x.cause;
+    answer[at] = x.index as u64;
+    answer[at + 1] = cause_number(cause);
+    answer[at + 2] = x.label as u64;
+}
+
+// The reports of all locations, from a place on.
+fn write_reports(firsts: [First; LocationSet::LIMIT], answer: &mut [u64], at: usize)
+    requires { ⌜ at + 768 ≤ length (now answer) ⌝ }
+    ensures { λ _. ⌜ now (answer .exit) ≡ sets (now (answer .entry)) at (reportsWords firsts) ⌝ }
+{
+    let mut l = 0;
+    while l < LocationSet::LIMIT {
+        write_report(firsts[l], &mut answer[..], at + 3 * l);
+        l += 1;
+    }
+}
+
+// Stop, observations, steps, rollbacks, four words of D, four of the plain set, verdict, and of each location index, cause and label.
 pub fn write_run(
     c: Counts,
     full: LocationSet,
     plain: LocationSet,
     v: Verdict,
-    answer: &mut [u64; 13],
+    firsts: [First; LocationSet::LIMIT],
+    answer: &mut [u64; 781],
 )
-    ensures { λ _. ⌜ now (answer .exit) ≡ sets (now (answer .entry)) 0 (runWords c full plain v) ⌝ }
+    ensures { λ _. ⌜ now (answer .exit) ≡ sets (now (answer .entry)) 0 (runWords c full plain v firsts) ⌝ }
 {
     let d = full.words;
     let p = plain.words;
@@ -103,6 +141,7 @@ pub fn write_run(
     answer[10] = p[2];
     answer[11] = p[3];
     answer[12] = verdict_number(v);
+    write_reports(firsts, &mut answer[..], 13);
 }
 
 // Stop, observations, steps, four words of the plain set.

@@ -6,8 +6,9 @@ use mathlib.Core.List.{List}
 use Prim.Native.Nat.{ℕ, _+_}
 use borrow.Author.Tests.{leb-true}
 use lib.Dec.{leb}
-use lib.ListN.{length}
+use lib.ListN.{length, replicate}
 use Rattle.location.specs.declared.LocationSet.{LocationSet}
+use Rattle.location.specs.Sets.{limit}
 use Rattle.location.specs.SetLaws.{and-left, and-right}
 use Rattle.rules.specs.declared.Trailer.{Trailer}
 use Rattle.rules.specs.declared.Refusal.{Refusal}
@@ -18,12 +19,13 @@ use Rattle.rules.specs.declared.PairAnswer.the-variants as pairs
 use Rattle.rules.specs.declared.TestLoadAnswer.the-variants as tests
 use Rattle.rules.specs.Rules.Runs.{mispredictingRun, plainRun}
 use Rattle.rules.specs.Rules.JobFile.{rejected, parse, locations, publicOf}
-use Rattle.rules.specs.Rules.Calls.{Areas, Called, lent, tableSize, workingWords, room, longEnough, areasAfter}
+use Rattle.rules.specs.Rules.Calls.{Areas, Called, lent, tableSize, workingWords, room, longEnough, written, areasAfter}
 use Rattle.rules.specs.Rules.Calls.{runReport, runRefused, runParsed, runCall, plainReport, plainRefused, plainParsed, plainCall}
 use Rattle.rules.specs.Rules.Pairs.{PairAreas, pairRefused, pairParsed, pairCall}
 use Rattle.rules.specs.Rules.TestLoads.{TestLoadAreas, testLoadRefused, testLoadParsed, testLoadCall}
 use Rattle.rules.specs.Rules.Demands.{Exact}
 use Rattle.job.specs.Answers.{Accepts}
+use Rattle.firsts.specs.Reports.{reportsIn}
 use Rattle.execution.specs.declared.Mode.the-variants as modes
 use Rattle.execution.specs.declared.Ran.{Ran}
 use Rattle.job_run.specs.Accepted.{accepted-size, accepted-public}
@@ -61,22 +63,27 @@ module _ {bs : List ℕ} {t : Trailer} (k : Accepts bs t) (a e w : List ℕ) whe
           end = leb-true (locations t + tableSize) (length e) (and-right q q′ (sym h ∙ l));
         }
 
-    pub exact-ran : {after : Areas} {r : Ran} {public : LocationSet} {x : RunAnswer} → RunIn bs t modes.Mispredicting (lent a e w) after r
-        → public ≡ publicOf t bs → x ≡ answerOf public r → Exact (runCall bs (lent a e w)) x after
+    -- the areas after the run, and u the working words once they are cleared
+    pub exact-ran : (after : Areas) {u : List ℕ} {r : Ran} {public : LocationSet} {x : RunAnswer}
+        → RunIn bs t modes.Mispredicting (lent a e w) after r → public ≡ publicOf t bs
+        → x ≡ answerOf public r (reportsIn (after .work) (r .full) 0 limit) → u ≡ written (replicate workingWords 0) (after .work)
+        → Exact (runCall bs (lent a e w)) x (lent (after .trace) (after .end) u)
     unfolding runCall runParsed
-    exact-ran {r = r} o ep ex =
+    exact-ran after {r = r} o ep ex eu =
         let R = mispredictingRun (k .job) (room a) in
+        let xs = reportsIn (after .work) (r .full) 0 limit in
         exact-of (runReport (k .job) R) (areasAfter R (lent a e w)) (rw (k .parsed, fitting h ∙ l, runParsed))
-        (ex ∙ ap (λ (s : LocationSet). answerOf s r) (ep ∙ accepted-public k) ∙ report-same (o .reports (k .job) (k .parsed)) (k .job))
-        (o .areas (k .job) (k .parsed))
+        (ex ∙ ap (λ (s : LocationSet). answerOf s r xs) (ep ∙ accepted-public k)
+        ∙ report-same (o .reports (k .job) (k .parsed)) (k .job) (o .firsts (k .job) (k .parsed)))
+        (ap (lent (after .trace) (after .end)) eu ∙ o .areas (k .job) (k .parsed))
 
-    pub plain-ran : {after : Areas} {r : Ran} {x : PlainAnswer} → RunIn bs t modes.Plain (lent a e w) after r → x ≡ plainAnswerOf r
-        → Exact (plainCall bs (lent a e w)) x after
+    pub plain-ran : (after : Areas) {u : List ℕ} {r : Ran} {x : PlainAnswer} → RunIn bs t modes.Plain (lent a e w) after r → x ≡ plainAnswerOf r
+        → u ≡ written (replicate workingWords 0) (after .work) → Exact (plainCall bs (lent a e w)) x (lent (after .trace) (after .end) u)
     unfolding plainCall plainParsed
-    plain-ran o ex =
+    plain-ran after o ex eu =
         let R = plainRun (k .job) (room a) in
         exact-of (plainReport R) (areasAfter R (lent a e w)) (rw (k .parsed, fitting h ∙ l, plainParsed))
-        (ex ∙ plain-report-same (o .reports (k .job) (k .parsed))) (o .areas (k .job) (k .parsed))
+        (ex ∙ plain-report-same (o .reports (k .job) (k .parsed))) (ap (lent (after .trace) (after .end)) eu ∙ o .areas (k .job) (k .parsed))
 
 -- ---- a refused job
 module _ (bs : List ℕ) (n : Refusal) (p : parse bs ≡ rejected n) (a : Areas) where

@@ -11,6 +11,8 @@ use Rattle.rules.specs.declared.RunOutcome.the-variants as runs
 use Rattle.rules.specs.declared.RunAnswer.{RunAnswer}
 use Rattle.rules.specs.declared.PlainOutcome.the-variants as plains
 use Rattle.rules.specs.declared.PlainAnswer.{PlainAnswer}
+use Rattle.rules.specs.declared.First.{First}
+use Rattle.rules.specs.Rules.Firsts.{firstsOf}
 use Rattle.rules.specs.Rules.Runs.{Result, Job, judge, verdict}
 use Rattle.rules.specs.Rules.JobFile.{accepted, rejected, parse}
 use Rattle.rules.specs.Rules.Calls.{Areas, longEnough, counts, runReport, runRefused, runParsed, runCall, plainReport, plainRefused, plainParsed, plainCall}
@@ -18,8 +20,13 @@ use Rattle.execution.specs.declared.Ran.{Ran}
 use Rattle.execution.specs.Running.{Reports}
 
 -- ---- what is returned of a run that has ended
-abbrev pub answerOf : LocationSet → Ran → RunAnswer
-answerOf public r = record { outcome = runs.Ran (r .counts) (judge public (r .counts .stop) (r .full) (r .plain)); full = r .full; plain = r .plain }
+abbrev pub answerOf : LocationSet → Ran → List First → RunAnswer
+answerOf public r xs = record {
+  outcome = runs.Ran (r .counts) (judge public (r .counts .stop) (r .full) (r .plain));
+  full = r .full;
+  plain = r .plain;
+  firsts = xs;
+}
 
 abbrev pub plainAnswerOf : Ran → PlainAnswer
 plainAnswerOf r = record {
@@ -28,9 +35,9 @@ plainAnswerOf r = record {
 }
 
 module _ {r : Ran} {R : Result} (e : Reports r R) where
-  pub report-same : (job : Job) → answerOf (job .public) r ≡ runReport job R
+  pub report-same : (job : Job) {xs : List First} → xs ≡ firstsOf (R .gathered .sets) → answerOf (job .public) r xs ≡ runReport job R
   unfolding runReport counts verdict
-  report-same job = λ i. answerOf (job .public) (record { counts = e .counts i; full = e .full i; plain = e .plain i })
+  report-same job ex = λ i. answerOf (job .public) (record { counts = e .counts i; full = e .full i; plain = e .plain i }) (ex i)
 
   pub plain-report-same : plainAnswerOf r ≡ plainReport R
   unfolding plainReport counts

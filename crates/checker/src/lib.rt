@@ -1,9 +1,9 @@
 // The calls of the checker, on any bytes as a job and lent areas of any length and contents. Nothing has to be tested beforehand.
 //
 // What each call promises, for every input, is one record of crates/rules/specs/Rules/Promises.antt, which says each field:
-//   exact (demands 1 and 2), unaltered (demand 1), and for `run` plainly (demand 2) and secret (demand 3); for `compare` meaning,
-//   what the words on a pair say. `test_load` has TestLoadPromises.antt: compared (the plain trace of the new state is the job's, and the
-//   pair is checked) and unfinished.
+//   exact (demands 1 and 2), unaltered (demand 1), and for `run` plainly (demand 2), secret (demand 3) and brought (which observation brought
+//   each location of D in); for `compare` meaning, what the words on a pair say. `test_load` has TestLoadPromises.antt: compared (the plain
+//   trace of the new state is the job's, and the pair is checked) and unfinished.
 use execution::Mode;
 use execution::Ran;
 use job::JobOutcome;
@@ -18,12 +18,16 @@ use rules::RunOutcome;
 use rules::TestLoadAnswer;
 use rules::Trailer;
 ghost use mathlib.Core.Path.{_≡_};
+ghost use Prim.Native.Nat.{_≤_};
+ghost use lib.ListN.{length};
+ghost use Rattle.location.specs.Sets.{limit};
 ghost use Rattle.rules.specs.Rules.JobFile.{publicOf};
-ghost use Rattle.rules.specs.Rules.Calls.{runRefused, plainRefused, runCall, plainCall};
+ghost use Rattle.rules.specs.Rules.Calls.{workingWords, runRefused, plainRefused, runCall, plainCall};
 ghost use Rattle.rules.specs.Rules.Demands.{Exact};
 ghost use Rattle.rules.specs.Rules.Promises.{RunPromise, PlainPromise, PairPromise, areasAtEntry, areasAtExit, pairAtEntry, pairAtExit};
 ghost use Rattle.rules.specs.Rules.TestLoadPromises.{TestLoadPromise, testLoadAtEntry, testLoadAtExit};
 ghost use Rattle.job.specs.Answers.{Accepts};
+ghost use Rattle.firsts.specs.Reports.{reportsIn};
 ghost use Rattle.checker.specs.Reports.{answerOf, plainAnswerOf};
 
 fn run_refused(n: Refusal) -> RunAnswer
@@ -33,6 +37,7 @@ fn run_refused(n: Refusal) -> RunAnswer
         outcome: RunOutcome::Refused(n),
         full: LocationSet::empty(),
         plain: LocationSet::empty(),
+        firsts: firsts::nothing(),
     }
 }
 
@@ -45,9 +50,10 @@ fn plain_refused(n: Refusal) -> PlainAnswer
     }
 }
 
-// What a run returns.
-fn report(public: LocationSet, r: Ran) -> RunAnswer
-    ensures { λ x. ⌜ x ≡ answerOf public r ⌝ }
+// What a run returns, with the reports that the working words hold.
+fn report(public: LocationSet, r: Ran, work: &[u64]) -> RunAnswer
+    requires { ⌜ workingWords ≤ length (now work) ⌝ }
+    ensures { λ x. ⌜ x ≡ answerOf public r (reportsIn (now (work .entry)) (r .full) 0 limit) ⌝ }
 {
     let counts = r.counts;
     let stop = counts.stop;
@@ -58,6 +64,7 @@ fn report(public: LocationSet, r: Ran) -> RunAnswer
         outcome: RunOutcome::Ran(counts, verdict),
         full,
         plain,
+        firsts: firsts::reports(work, full),
     }
 }
 
@@ -96,7 +103,9 @@ fn run_accepted(
     }
     let mode = Mode::Mispredicting;
     let r = job_run::run_in_areas(job, t, mode, &mut trace[..], &mut end[..], &mut work[..]);
-    report(public, r)
+    let answer = report(public, r, &work[..]);
+    work::clear(&mut work[..]);
+    answer
 }
 
 // A run: as if every branch were guessed wrongly.
@@ -127,6 +136,7 @@ fn plain_accepted(
     }
     let mode = Mode::Plain;
     let r = job_run::run_in_areas(job, t, mode, &mut trace[..], &mut end[..], &mut work[..]);
+    work::clear(&mut work[..]);
     plain_report(r)
 }
 

@@ -60,7 +60,7 @@ module _ {f : List ℕ} {lent left : Areas} {a : RunAnswer} (h : RunPromise f le
   run-refused e = refused a h (rw e) (rw e)
 
   pub run-returned : {c : Counts} {v : Verdict} {after : List ℕ} → a .outcome ≡ runs.Ran c v
-      → after ≡ sets before 0 (runWords c (a .full) (a .plain) v)
+      → after ≡ sets before 0 (runWords c (a .full) (a .plain) v (a .firsts))
       → Returns runRefusal runAnswerWords before 0 after (λ x. RunPromise f lent x left)
   run-returned e ew = carried-out a h (rw e) (rw e ew)
 

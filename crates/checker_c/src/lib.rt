@@ -20,7 +20,7 @@ pub extern "C" fn checker_run(
     trace: &mut [u64],
     end: &mut [u64],
     work: &mut [u64],
-    answer: &mut [u64; 13],
+    answer: &mut [u64; 781],
 ) -> u32
     ensures { λ r. ⌜ RunReturns answer r
         (λ x. RunPromise (now (job .entry)) (areasAtEntry trace end work) x (areasAtExit trace end work)) ⌝ }
@@ -29,10 +29,11 @@ pub extern "C" fn checker_run(
     let outcome = r.outcome;
     let full = r.full;
     let plain = r.plain;
+    let firsts = r.firsts;
     match outcome {
         RunOutcome::Refused(n) => answer_words::refusal_number(n),
         RunOutcome::Ran(c, v) => {
-            answer_words::write_run(c, full, plain, v, answer);
+            answer_words::write_run(c, full, plain, v, firsts, answer);
             0
         }
     }

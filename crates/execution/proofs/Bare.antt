@@ -7,7 +7,7 @@ use Prim.Native.Nat.{ℕ}
 use lib.Dec.{eqb}
 use lib.ListN.{drop}
 use borrow.Author.Tests.{eqb-true}
-use Rattle.location.specs.SetLaws.{and-left, and-right}
+use Rattle.location.specs.SetLaws.{and-left, and-right, subset-empty}
 use Rattle.rules.specs.declared.Trailer.{Trailer}
 use Rattle.rules.specs.Rules.Instructions.{skip, spbarr}
 use Rattle.rules.specs.Rules.JobFile.{locations}
@@ -58,7 +58,7 @@ goes-on k code σ place = go (eqb k 7)
 module _ {p : List ℕ} {t : Trailer} {mode : Mode} {x y : Standing} (a : Advancing p t mode x) {i : Instruction} where
   performed : (k : ℕ) → meaning p i ≡ bare k → CarriedOut (t .cells) i (λ code σ. silent σ (x .progress .control .place)) x y → Performed p t i x y
   performed k e h =
-      carrying i (λ code σ. silent σ (x .progress .control .place)) h (λ code. refl)
+      carrying i (λ code σ. silent σ (x .progress .control .place)) h (λ code. refl) (λ code. subset-empty (x .progress .full))
       (λ code el. rw e (goes-on k code _ (x .progress .control .place)))
 
   pub bare-made : isBare (descriptorAt (x .work) (x .progress .control)) ≡ true

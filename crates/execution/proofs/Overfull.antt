@@ -1,18 +1,19 @@
--- Which steps need one address too many: a store alone, and only where the table outside the image is full.
+-- Which steps need one address too many: a store alone, and only where the table outside the image is full. And what an instruction observes in
+-- either run.
 -- Assumes nothing.
 use mathlib.Core.Path.{_≡_, refl, sym, ap, _∙_}
-use mathlib.Core.Bool.{Bool, true, false, cond, true≢false}
+use mathlib.Core.Bool.{Bool, true, false, cond}
 use mathlib.Core.List.{List, [], _∷_}
 use Prim.Native.Nat.{ℕ, _+_, _<_, _≤_}
 use lib.Dec.{ltb}
 use lib.ListN.{length}
-use borrow.Author.Tests.{lt-leb, lt-ltb, le-ltb}
-use Rattle.location.specs.declared.LocationSet.{LocationSet}
+use borrow.Author.Tests.{lt-leb}
 use Rattle.location.specs.Sets.{registers}
 use Rattle.rules.specs.declared.Tagged.{Tagged}
 use Rattle.rules.specs.Rules.Limits.{maxEntries}
 use Rattle.rules.specs.Rules.Expressions.{eval}
 use Rattle.rules.specs.Rules.Instructions.{Instr, skip, assign, load, store, jmp, beqz, cassign, spbarr}
+use Rattle.rules.specs.Rules.Firsts.{causeOf}
 use Rattle.rules.specs.Rules.Outside.{overfull}
 use Rattle.rules.specs.Rules.Plain.{State, at, Code, fetch, storeOverfull, exec}
 use Rattle.rules.specs.Rules.Mispredicting.{Machine, Step, rolling, opening, ordinary, forward, step, plainStep}
@@ -29,7 +30,6 @@ use Rattle.evaluation.proofs.Laws.{value-in, inside-fits, outside-fits}
 use Rattle.execution.specs.declared.Mode.{Mode}
 use Rattle.execution.specs.declared.Mode.the-variants as modes
 use Rattle.execution.specs.Next.{stepBy, forwardBy}
-use Rattle.execution.specs.Running.{Needs}
 
 -- ---- with room in the table no step does
 store-fits : (code : Code) (σ : State) (a : Tagged) → length (σ .outside) < maxEntries → storeOverfull code σ a ≡ false
@@ -70,28 +70,27 @@ step-fits modes.Mispredicting code M h =
     step-cases code Fits (λ σ p n. forward-fits code (machineWith σ p [] n) (fetch code p)) (λ σ p n b bs h. refl)
     (λ σ p n b bs e. forward-fits code (machineWith σ p (b ∷ bs) n) (fetch code p)) M h
 
--- ---- an instruction in either run needs what it needs by rule 3; where it needs one too many it is a store, which is rule 3's
-forward-overfull : (mode : Mode) (code : Code) (M : Machine) (i : Instr) → forwardBy mode code M i .overfull ≡ ordinary code M i .overfull
+-- ---- an instruction in either run needs and observes what it needs and observes by rule 3
+pub forward-overfull : (mode : Mode) (code : Code) (M : Machine) (i : Instr) → forwardBy mode code M i .overfull ≡ ordinary code M i .overfull
 unfolding opening ordinary exec
 forward-overfull modes.Plain code M i = refl
 forward-overfull modes.Mispredicting code M i =
     branch-or-other (λ j. forward code M j .overfull ≡ ordinary code M j .overfull) (λ r l. ap (λ (s : Step). s .overfull) (forward-branch code M r l))
     (λ j e. ap (λ (s : Step). s .overfull) (forward-other code M j e)) i
 
-forward-seen : (mode : Mode) (code : Code) (M : Machine) (i : Instr) → ordinary code M i .overfull ≡ true
-    → forwardBy mode code M i .seen ≡ ordinary code M i .seen
-unfolding ordinary exec
-forward-seen modes.Plain code M i o = refl
-forward-seen modes.Mispredicting code M i o =
-    branch-or-other (λ j. ordinary code M j .overfull ≡ true → forward code M j .seen ≡ ordinary code M j .seen)
-    (λ r l o. absurd (true≢false (sym o))) (λ j e o. ap (λ (s : Step). s .seen) (forward-other code M j e)) i o
+pub forward-seen : (mode : Mode) (code : Code) (M : Machine) (i : Instr) → forwardBy mode code M i .seen ≡ ordinary code M i .seen
+unfolding opening ordinary exec
+forward-seen modes.Plain code M i = refl
+forward-seen modes.Mispredicting code M i =
+    branch-or-other (λ j. forward code M j .seen ≡ ordinary code M j .seen) (λ r l. ap (λ (s : Step). s .seen) (forward-branch code M r l))
+    (λ j e. ap (λ (s : Step). s .seen) (forward-other code M j e)) i
 
-pub forward-needs : (mode : Mode) (code : Code) (M : Machine) (i : Instr) {f : Bool} {seen : LocationSet}
-    → Needs (ordinary code M i) f seen → Needs (forwardBy mode code M i) f seen
-forward-needs mode code M i n = record {
-  exact = n .exact ∙ sym (forward-overfull mode code M i);
-  rests = λ o. n .rests o ∙ sym (forward-seen mode code M i (sym (n .exact) ∙ o));
-}
+pub forward-cause : (mode : Mode) (code : Code) (M : Machine) (i : Instr) → forwardBy mode code M i .cause ≡ causeOf i
+unfolding opening ordinary
+forward-cause modes.Plain code M i = refl
+forward-cause modes.Mispredicting code M i =
+    branch-or-other (λ j. forward code M j .cause ≡ causeOf j) (λ r l. ap (λ (s : Step). s .cause) (forward-branch code M r l))
+    (λ j e. ap (λ (s : Step). s .cause) (forward-other code M j e)) i
 
 -- ---- any instruction but a store
 abbrev NoStore : Instruction → Type 0
@@ -115,37 +114,24 @@ other-fits p code M (BranchZero r l) n = refl
 other-fits p code M (AssignIf r b e) n = refl
 other-fits p code M Barrier n = refl
 
--- ---- what an instruction needs that the code has, by what the code found of it
--- nothing
-no-needs-by : {s : Step} {f : Bool} (seen : LocationSet) → false ≡ s .overfull → f ≡ false → Needs s f seen
-no-needs-by seen e q = record { exact = q ∙ e; rests = λ o. absurd (true≢false (sym o ∙ q)) }
+pub other-needs : {i j : Instruction} → i ≡ j → NoStore j → (p : List ℕ) (code : Code) (M : Machine) → false ≡ ordinary code M (meaning p i) .overfull
+other-needs {i} {j} e n p code M = rw e (other-fits p code M j n)
 
-pub no-needs : {s : Step} {f : Bool} (seen : LocationSet) → s .overfull ≡ false → f ≡ false → Needs s f seen
-no-needs seen e q = no-needs-by seen (sym e) q
-
--- any instruction but a store
-pub other-needs : {i j : Instruction} {f : Bool} (seen : LocationSet) → i ≡ j → NoStore j → f ≡ false → (p : List ℕ) (code : Code) (M : Machine)
-    → Needs (ordinary code M (meaning p i)) f seen
-other-needs {i} {j} seen e n q p code M = no-needs-by seen (rw e (other-fits p code M j n)) q
-
--- a store, whose address is a
+-- ---- a store, whose address is a
 module _ (p w : List ℕ) (cells : ℕ) (code : Code) (c : Control) (ec : code .cells ≡ cells) {i : Instruction} {r : ℕ} {e : Expression}
     (ei : i ≡ Store r e) {a : Tagged} (ea : a ≡ eval (taggedAt w) (tokensOf p e)) where
   abbrev M : Machine
   M = machineOf w c (registers + cells)
 
-  pub store-inside-needs : {f : Bool} (seen : LocationSet) → a .value < cells → f ≡ false → Needs (ordinary code M (meaning p i)) f seen
+  pub store-inside-needs : a .value < cells → false ≡ ordinary code M (meaning p i) .overfull
   unfolding ordinary exec
-  store-inside-needs seen h q =
+  store-inside-needs h =
       let f = value-in p w cells e ea in
-      no-needs-by seen (rw ei (sym (inside-fits w cells a code ec h) ∙ ap (storeOverfull code (stateIn w (registers + cells))) f)) q
+      rw ei (sym (inside-fits w cells a code ec h) ∙ ap (storeOverfull code (stateIn w (registers + cells))) f)
 
   pub store-outside-needs : {n : ℕ} {b : Bool} → cells ≤ a .value → n ≡ a .value → b ≡ overfull (tableIn w) n
-      → Needs (ordinary code M (meaning p i)) b (a .deps)
+      → b ≡ ordinary code M (meaning p i) .overfull
   unfolding ordinary exec
   store-outside-needs h en eb =
       let f = value-in p w cells e ea in
-      rw ei (record {
-        exact = eb ∙ sym (outside-fits w cells a code ec h en) ∙ ap (storeOverfull code (stateIn w (registers + cells))) f;
-        rests = λ o. ap (λ (t : Tagged). t .deps) f;
-      })
+      rw ei (eb ∙ sym (outside-fits w cells a code ec h en) ∙ ap (storeOverfull code (stateIn w (registers + cells))) f)

@@ -1,18 +1,20 @@
 -- A run in the lent areas: where it can go on, what halts it, and what is left of it.
 -- Assumes nothing.
 use mathlib.Core.Path.{_≡_}
-use mathlib.Core.Bool.{Bool, true, false}
-use mathlib.Core.List.{List}
+use mathlib.Core.Bool.{true, false}
+use mathlib.Core.List.{List, [], _∷_, _++_}
 use Prim.Native.Nat.{ℕ, _+_, _-_, _*_, _/_, _<_, _≤_}
 use lib.ListN.{length, getD, drop}
+use Rattle.location.specs.Sets.{registers, limit, subset}
 use Rattle.location.specs.declared.LocationSet.{LocationSet}
-use Rattle.location.specs.Sets.{registers, empty}
+use Rattle.rules.specs.declared.Cause.{Cause}
 use Rattle.rules.specs.declared.Stop.{Stop}
 use Rattle.rules.specs.declared.Tagged.{Tagged}
 use Rattle.rules.specs.declared.Trailer.{Trailer}
 use Rattle.rules.specs.Rules.Limits.{maxInstructions}
 use Rattle.rules.specs.Rules.Expressions.{eval}
 use Rattle.rules.specs.Rules.Instructions.{Observation, windowCosts}
+use Rattle.rules.specs.Rules.Firsts.{causeOf, ObservedSet, firstsOf}
 use Rattle.rules.specs.Rules.Plain.{Code, endPlace}
 use Rattle.rules.specs.Rules.Mispredicting.{Step, ordinary}
 use Rattle.rules.specs.Rules.Loop.{ended}
@@ -31,8 +33,10 @@ use Rattle.work.specs.Layout.{labels}
 use Rattle.work.specs.Words.{taggedAt}
 use Rattle.work.specs.Machines.{stateIn, machineOf, Fit}
 use Rattle.stepping.specs.declared.Progress.{Progress}
-use Rattle.stepping.specs.Progress.{Standing, machineAt, gatheredOf, rolledBack}
-use Rattle.stepping.specs.Steps.{Counted, Made, Attempted, Unexpired}
+use Rattle.firsts.specs.Reports.{packed, reportsIn, Told}
+use Rattle.firsts.specs.Recording.{recorded}
+use Rattle.stepping.specs.Progress.{Standing, machineAt, gatheredOf, rolledBack, progressUnmade}
+use Rattle.stepping.specs.Steps.{Counted, Made, Unexpired}
 use Rattle.execution.specs.declared.Mode.{Mode}
 use Rattle.execution.specs.declared.Mode.the-variants as modes
 use Rattle.execution.specs.declared.Ran.{Ran}
@@ -101,24 +105,20 @@ pub record Overfull (p : List ℕ) (t : Trailer) (mode : Mode) (x : Standing) : 
   pub fitting : Fitting p t mode x
   pub full : nextStep p t mode x .overfull ≡ true
 
--- whether the step s needs one address too many, and if it does, the set of what it observes
-pub record Needs (s : Step) (overfull : Bool) (seen : LocationSet) : Type 0 where
-  pub exact : overfull ≡ s .overfull
-  pub rests : overfull ≡ true → seen ≡ s .seen
-
--- The run stops at x, as s, and has then come to the progress c.
-pub record Halts (p : List ℕ) (t : Trailer) (mode : Mode) (x : Standing) (s : Stop) (c : Progress) : Type 0 where
-  pub stops : (os : List Observation) → length os ≡ x .progress .observations
+-- The run stops at x, as s, and has then come to the progress c; `after` gives the observed sets by those that there were at x.
+pub record Halts (p : List ℕ) (t : Trailer) (mode : Mode) (x : Standing) (s : Stop) (c : Progress) (after : List ObservedSet → List ObservedSet)
+    : Type 0 where
+  pub stops : (os : List Observation) (xs : List ObservedSet) → length os ≡ x .progress .observations
       → run (stepBy mode (codeAt p t x)) (codeAt p t x) (length (x .trace) / 2) (t .budget - x .progress .steps) (machineAt x (locations t))
-      (gatheredOf os (x .progress))
-      ≡ ended s (machineAt x (locations t)) (gatheredOf os c)
+      (gatheredOf os xs (x .progress))
+      ≡ ended s (machineAt x (locations t)) (gatheredOf os (after xs) c)
   pub counted : c .observations ≡ x .progress .observations
 
--- what halts it, if anything does, and the set of its address where a store does; else the empty set
-abbrev pub HaltOf : List ℕ → Trailer → Mode → Standing → LocationSet → Halt → Type 0
-HaltOf p t mode x seen halt.Proceed = Permitted p t mode x × (seen ≡ empty)
-HaltOf p t mode x seen (halt.Halted s) = Halts p t mode x s (x .progress) × (seen ≡ empty)
-HaltOf p t mode x seen halt.OutsideFull = Overfull p t mode x × (seen ≡ nextStep p t mode x .seen)
+-- what halts it, if anything does
+abbrev pub HaltOf : List ℕ → Trailer → Mode → Standing → Halt → Type 0
+HaltOf p t mode x halt.Proceed = Permitted p t mode x
+HaltOf p t mode x (halt.Halted s) = Halts p t mode x s (x .progress) (λ xs. xs)
+HaltOf p t mode x halt.OutsideFull = Overfull p t mode x
 
 -- Up to so many steps in all the budget suffices; and the trace area too, unless it is one step more, which has been tested.
 pub record FreeUntil (budget until : ℕ) (x : Standing) : Type 0 where
@@ -126,10 +126,37 @@ pub record FreeUntil (budget until : ℕ) (x : Standing) : Type 0 where
   pub most : until ≤ budget
   pub free : x .progress .steps + 1 < until → x .progress .observations + 2 * (until - x .progress .steps) ≤ length (x .trace) / 2
 
--- Steps up to so many in all can be made with no test: from a standing of the run, whose next step may be made.
+-- ---- what the next step observes
+-- the set, with its report
+abbrev pub nextSet : List ℕ → Trailer → Mode → Standing → ObservedSet
+nextSet p t mode x = record {
+  report = record { index = x .progress .observations; label = x .progress .control .place; cause = nextStep p t mode x .cause };
+  set = nextStep p t mode x .seen;
+}
+
+-- it brings no location into D
+abbrev pub Quiet : List ℕ → Trailer → Mode → Standing → Type 0
+Quiet p t mode x = subset (nextStep p t mode x .seen) (x .progress .full) ≡ true
+
+-- What the instruction i observes: the rule, and the set, which is rule 3's and rule 2's.
+pub record Observes (p w : List ℕ) (i : Instruction) (cause : Cause) (seen : LocationSet) : Type 0 where
+  pub rule : cause ≡ causeOf (meaning p i)
+  pub set : (code : Code) (c : Control) (cells : ℕ) → seen ≡ ordinary code (machineOf w c (registers + cells)) (meaning p i) .seen
+  pub size : length (seen .words) ≡ 4
+
+-- It is recorded and gathered ahead of the step, which is not made: x has become y.
+pub record Foreseen (p : List ℕ) (t : Trailer) (mode : Mode) (x y : Standing) : Type 0 where
+  pub words : y .work ≡ recorded (packed (nextSet p t mode x .report)) (x .progress .full) (nextStep p t mode x .seen) (x .work)
+  pub trace : y .trace ≡ x .trace
+  pub progress : y .progress ≡ progressUnmade (x .progress) (nextStep p t mode x .seen)
+  pub size : length (nextStep p t mode x .seen .words) ≡ 4
+  pub label : subset (nextStep p t mode x .seen) (x .progress .full) ≡ false → x .progress .control .place < maxInstructions
+
+-- Steps up to so many in all can be made with no test: from a standing of the run, whose next step may be made and brings nothing in.
 pub record Unhindered (p : List ℕ) (t : Trailer) (mode : Mode) (until : ℕ) (x : Standing) : Type 0 where
   pub ready : Ready p t mode x
   pub next : Permitted p t mode x
+  pub quiet : Quiet p t mode x
   pub free : FreeUntil (t .budget) until x
 
 -- ---- one step
@@ -145,9 +172,15 @@ pub record Executing (p : List ℕ) (t : Trailer) (i : Instruction) (a : Tagged)
   pub below : RegistersBelow registers (meaning p i)
   pub value : a ≡ eval (taggedAt (x .work)) (firstTokens (meaning p i))
 
--- rule 3 for the instruction i, unless it needs one address too many
+-- The step s was tried: the run has come to y by it, unless it brings a location into D or needs one address too many; then nothing was done.
+pub record Tried (n : ℕ) (s : Step) (x y : Standing) : Type 0 where
+  pub made : subset (s .seen) (x .progress .full) ≡ true → s .overfull ≡ false → Made n s x y
+  pub new : subset (s .seen) (x .progress .full) ≡ false → y ≡ x
+  pub unmade : s .overfull ≡ true → y ≡ x
+
+-- rule 3 for the instruction i
 pub record Performed (p : List ℕ) (t : Trailer) (i : Instruction) (x y : Standing) : Type 0 where
-  pub tried : (code : Code) → CodeOf t code → Attempted (locations t) (ordinary code (machineAt x (locations t)) (meaning p i)) x y
+  pub tried : (code : Code) → CodeOf t code → Tried (locations t) (ordinary code (machineAt x (locations t)) (meaning p i)) x y
 
 -- the descriptor of the label at the place
 abbrev pub descriptorAt : List ℕ → Control → Descriptor
@@ -162,25 +195,35 @@ pub record Advancing (p : List ℕ) (t : Trailer) (mode : Mode) (x : Standing) :
 
 -- the rules' next step was tried
 abbrev pub NextTried : List ℕ → Trailer → Mode → Standing → Standing → Type 0
-NextTried p t mode x y = Attempted (locations t) (nextStep p t mode x) x y
+NextTried p t mode x y = Tried (locations t) (nextStep p t mode x) x y
 
 -- ---- a run
 -- Somewhere in a run R that began with the words w₀ and the trace area a₀: what is left of it from x is the rest of R.
 pub record Running (p : List ℕ) (t : Trailer) (mode : Mode) (w₀ a₀ : List ℕ) (x : Standing) (R : Result) : Type 0 where
   pub observed : List Observation
+  pub sets : List ObservedSet
   pub count : length observed ≡ x .progress .observations
   pub trace : x .trace ≡ written (traceWords observed) a₀
   pub size : length (x .trace) ≡ length a₀
   pub frame : drop labels (x .work) ≡ drop labels w₀
   pub rest : run (stepBy mode (codeIn p t (drop labels w₀))) (codeIn p t (drop labels w₀)) (length a₀ / 2) (t .budget - x .progress .steps)
-      (machineAt x (locations t)) (gatheredOf observed (x .progress))
+      (machineAt x (locations t)) (gatheredOf observed sets (x .progress))
       ≡ R
 
--- The run goes on from x to y, by one step at least.
+-- And the words tell which of the observed sets brought each location in; or they tell of the next step's set already.
+pub record Settled (p : List ℕ) (t : Trailer) (mode : Mode) (w₀ a₀ : List ℕ) (x : Standing) (R : Result) : Type 0 where
+  pub running : Running p t mode w₀ a₀ x R
+  pub told : Told (x .work) (x .progress .full) (running .sets)
+
+pub record Ahead (p : List ℕ) (t : Trailer) (mode : Mode) (w₀ a₀ : List ℕ) (x : Standing) (R : Result) : Type 0 where
+  pub running : Running p t mode w₀ a₀ x R
+  pub told : Told (x .work) (x .progress .full) (running .sets ++ (nextSet p t mode x ∷ []))
+
+-- The run goes on from x, where the words tell of the next step's set, to y, by one step at least.
 pub record GoesOn (p : List ℕ) (t : Trailer) (mode : Mode) (x y : Standing) : Type 0 where
   pub further : x .progress .steps < y .progress .steps
   pub ready : Ready p t mode y
-  pub kept : (w₀ a₀ : List ℕ) (R : Result) → Running p t mode w₀ a₀ x R → Running p t mode w₀ a₀ y R
+  pub kept : (w₀ a₀ : List ℕ) (R : Result) → Ahead p t mode w₀ a₀ x R → Settled p t mode w₀ a₀ y R
 
 -- what is reported of a run that stops
 abbrev pub reportOf : Stop → Progress → Ran
@@ -196,11 +239,13 @@ pub record Reports (r : Ran) (R : Result) : Type 0 where
   pub full : r .full ≡ R .gathered .full
   pub plain : r .plain ≡ R .gathered .plain
 
--- The run R has ended in the words w and the area, which was a₀: what is reported, the trace, and the last state.
+-- The run R has ended in the words w and the area, which was a₀: what is reported, the trace, the last state, and what the words tell of the
+-- locations of D.
 pub record EndsAs (t : Trailer) (a₀ w area : List ℕ) (r : Ran) (R : Result) : Type 0 where
   pub reports : Reports r R
   pub trace : area ≡ written (traceWords (R .gathered .trace)) a₀
   pub state : stateIn w (locations t) ≡ R .last .state
+  pub firsts : reportsIn w (r .full) 0 limit ≡ firstsOf (R .gathered .sets)
 
 -- and the words from the table of labels on are as they were
 pub record RanTo (t : Trailer) (w₀ a₀ w area : List ℕ) (r : Ran) (R : Result) : Type 0 where

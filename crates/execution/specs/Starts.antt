@@ -37,7 +37,7 @@ beginning = record {
 unfoldable pub whole : List ℕ → Trailer → Mode → List ℕ → List ℕ → Result
 whole p t mode w a =
     let code = codeIn p t (drop labels w) in
-    run (stepBy mode code) code (length a / 2) (t .budget) (machineOf w (beginning .control) (locations t)) (gatheredOf [] beginning)
+    run (stepBy mode code) code (length a / 2) (t .budget) (machineOf w (beginning .control) (locations t)) (gatheredOf [] [] beginning)
 
 -- ---- of an accepted job, whose program the words describe
 module _ {bs : List ℕ} {job : Job} (q : Passed bs job) where

@@ -5,7 +5,6 @@ use super::rule::Rule;
 use instruction::Instruction;
 use location::Address;
 use location::Label;
-use location::LocationSet;
 use rules::Stop;
 use rules::Trailer;
 use rules::limits::MAX_ENTRIES;
@@ -16,7 +15,7 @@ ghost use mathlib.Core.Bool.{true, false};
 ghost use mathlib.Core.List.{List};
 ghost use Prim.Native.Nat.{ℕ, _+_, _*_, _≤_, _<_};
 ghost use lib.ListN.{length};
-ghost use Rattle.location.specs.Sets.{registers, empty};
+ghost use Rattle.location.specs.Sets.{registers};
 ghost use Rattle.rules.specs.Rules.Mispredicting.{Machine, ordinary};
 ghost use Rattle.rules.specs.Rules.Plain.{Code};
 ghost use Rattle.rules.specs.Rules.JobFile.{postfix};
@@ -25,7 +24,7 @@ ghost use Rattle.work.specs.Layout.{logBase};
 ghost use Rattle.work.specs.Machines.{machineOf, Fit};
 ghost use Rattle.stepping.specs.Progress.{standing, standingBefore};
 ghost use Rattle.execution.specs.Next.{forwardBy, overAt};
-ghost use Rattle.execution.specs.Running.{Loaded, Steady, stepIn, observedBy, Needs, Ready, HaltOf, FreeUntil};
+ghost use Rattle.execution.specs.Running.{Loaded, Steady, stepIn, observedBy, Ready, HaltOf, FreeUntil};
 
 // Nothing halts the run before its next step, or a stop does. `OutsideFull` stands by itself, as what the run has gathered changes with it;
 // `Halted` is never of that stop.
@@ -33,18 +32,6 @@ pub enum Halt {
     Proceed,
     Halted(Stop),
     OutsideFull,
-}
-
-// What halts the run, and the set of the store's address where a store does.
-pub struct Found {
-    pub halt: Halt,
-    pub seen: LocationSet,
-}
-
-// Whether the next step is a store that needs one address too many, and the set of its address if it is one.
-struct NextStore {
-    overfull: bool,
-    seen: LocationSet,
 }
 
 // How many observations an instruction makes, by rule 2 or 3.
@@ -83,101 +70,72 @@ fn next_observations(p: &[u8], t: Trailer, mode: Mode, work: &[u64], c: Control)
     }
 }
 
-// The next step needs nothing.
-fn no_store() -> NextStore
-    ensures { λ r. ⌜ (r .overfull ≡ false) × (r .seen ≡ empty) ⌝ }
-{
-    NextStore {
-        overfull: false,
-        seen: LocationSet::empty(),
-    }
-}
-
 // Whether an instruction is a store that needs one address too many. The address is evaluated apart from a step's, so that the compiler makes
 // that evaluation part of the step.
-fn store_of(p: &[u8], work: &[u64], cells: usize, i: Instruction) -> NextStore
+fn store_needs(p: &[u8], work: &[u64], cells: usize, i: Instruction) -> bool
     requires { ⌜ (postfix (meaning (now p) i) ≡ true) × (logBase ≤ length (now work)) ⌝ }
     ensures { λ r. ⌜ ((code : Code) (c : Control) → code .cells ≡ cells
-        → Needs (ordinary code (machineOf (now (work .entry)) c (registers + cells)) (meaning (now (p .entry)) i)) (r .overfull) (r .seen)) ⌝ }
+        → r ≡ ordinary code (machineOf (now (work .entry)) c (registers + cells)) (meaning (now (p .entry)) i) .overfull) ⌝ }
 {
     match i {
-        Instruction::Skip => no_store(),
-        Instruction::Assign(_, _) => no_store(),
-        Instruction::Load(_, _) => no_store(),
+        Instruction::Skip => false,
+        Instruction::Assign(_, _) => false,
+        Instruction::Load(_, _) => false,
         Instruction::Store(_, e) => {
             let a = expression::evaluate(p, work, e);
             let value = a.value;
             if value < cells as u64 {
-                return no_store();
+                return false;
             }
-            let seen = a.deps;
-            NextStore {
-                overfull: outside::is_overfull(work, Address::new(value)),
-                seen,
-            }
+            outside::is_overfull(work, Address::new(value))
         }
-        Instruction::Jump(_) => no_store(),
-        Instruction::BranchZero(_, _) => no_store(),
-        Instruction::AssignIf(_, _, _) => no_store(),
-        Instruction::Barrier => no_store(),
+        Instruction::Jump(_) => false,
+        Instruction::BranchZero(_, _) => false,
+        Instruction::AssignIf(_, _, _) => false,
+        Instruction::Barrier => false,
     }
 }
 
 // Whether the next step is such a store. Nothing is evaluated for it unless the table is full.
-fn next_store(p: &[u8], t: Trailer, work: &[u64], c: Control) -> NextStore
+fn next_needs(p: &[u8], t: Trailer, work: &[u64], c: Control) -> bool
     requires { ⌜ Loaded (now p) t (now work) × Fit (now work) c × (overAt (c .depth) (t .count) (c .place) ≡ false) ⌝ }
     ensures { λ r. ⌜ ((mode : Mode) → Steady (now (p .entry)) t mode (now (work .entry)) c
-        → Needs (stepIn (now (p .entry)) t mode (now (work .entry)) c) (r .overfull) (r .seen)) ⌝ }
+        → r ≡ stepIn (now (p .entry)) t mode (now (work .entry)) c .overfull) ⌝ }
 {
     if work::entry_count(work) < MAX_ENTRIES {
-        return no_store();
+        return false;
     }
     match super::rule::rule_of(c, t.count) {
-        Rule::Over => no_store(),
-        Rule::RollBack => no_store(),
+        Rule::Over => false,
+        Rule::RollBack => false,
         Rule::Advance => {
             let place = Label::new(c.place);
             let d = program::fetch(work, work::LABELS, place);
             let i = descriptor::instruction_of(p, d);
-            store_of(p, work, t.cells, i)
+            store_needs(p, work, t.cells, i)
         }
     }
 }
 
-// A stop that no store's address has to do with.
-fn without_store(halt: Halt) -> Found
-    ensures { λ r. ⌜ (r .halt ≡ halt) × (r .seen ≡ empty) ⌝ }
-{
-    Found {
-        halt,
-        seen: LocationSet::empty(),
-    }
-}
-
 // What halts a run before its next step, if anything does: finished, spent, trace full, outside full.
-pub fn halt_of(p: &[u8], t: Trailer, mode: Mode, work: &[u64], trace: &[u64], c: Progress) -> Found
+pub fn halt_of(p: &[u8], t: Trailer, mode: Mode, work: &[u64], trace: &[u64], c: Progress) -> Halt
     requires { ⌜ Ready (now p) t mode (standing (now work) (now trace) c) ⌝ }
-    ensures { λ r. ⌜ HaltOf (now (p .entry)) t mode (standingBefore work trace c) (r .seen) (r .halt) ⌝ }
+    ensures { λ r. ⌜ HaltOf (now (p .entry)) t mode (standingBefore work trace c) r ⌝ }
 {
     let control = c.control;
     if super::rule::is_over(control, t.count) {
-        return without_store(Halt::Halted(Stop::Finished));
+        return Halt::Halted(Stop::Finished);
     }
     if t.budget <= c.steps {
-        return without_store(Halt::Halted(Stop::Spent));
+        return Halt::Halted(Stop::Spent);
     }
     if trace.len() / 2 < c.observations + next_observations(p, t, mode, work, control) {
-        return without_store(Halt::Halted(Stop::TraceFull));
+        return Halt::Halted(Stop::TraceFull);
     }
-    let store = next_store(p, t, work, control);
-    let seen = store.seen;
-    if store.overfull {
-        return Found {
-            halt: Halt::OutsideFull,
-            seen,
-        };
+    if next_needs(p, t, work, control) {
+        return Halt::OutsideFull;
     }
-    without_store(Halt::Proceed)
+    Halt::Proceed
 }
 
 // The step count up to which neither a budget nor the trace area runs out, whatever the steps are, as none makes more than two

@@ -1,4 +1,5 @@
 // The plain run and the mispredicting run over the lent areas: steps are made as long as none of the stops is found.
+pub mod first;
 pub mod halt;
 pub mod rule;
 pub mod step;
@@ -78,19 +79,20 @@ pub fn run(p: &[u8], t: Trailer, mode: Mode, work: &mut [u64], trace: &mut [u64]
 {
     let mut c = beginning();
     loop {
-        let found = halt::halt_of(p, t, mode, &work[..], &trace[..], c);
-        let seen = found.seen;
-        let halt = found.halt;
-        match halt {
+        match halt::halt_of(p, t, mode, &work[..], &trace[..], c) {
             Halt::Proceed => {
                 let until = halt::free_until(&trace[..], c, t.budget);
-                c = step::make_steps(p, t, mode, &mut work[..], &mut trace[..], c, until);
+                let next = first::record_next(p, t, &mut work[..], c);
+                c = step::make_steps(p, t, mode, &mut work[..], &mut trace[..], next, until);
             }
             Halt::Halted(stop) => {
                 return report(stop, c);
             }
             Halt::OutsideFull => {
-                return report(Stop::OutsideFull, stepping::gather_unmade(c, seen));
+                return report(
+                    Stop::OutsideFull,
+                    first::record_next(p, t, &mut work[..], c),
+                );
             }
         }
     }

@@ -1,5 +1,5 @@
-// The steps of a run, made without any test of the budget or of the trace area. A store that needs one address too many is not made: the
-// progress is then as it was.
+// The steps of a run, made without any test of the budget or of the trace area. A step that brings a location into D is not made, nor a store
+// that needs one address too many: the progress is then as it was.
 use super::Mode;
 use super::rule::Rule;
 use descriptor::Descriptor;
@@ -33,18 +33,34 @@ fn carry_out(
     let control = c.control;
     let next = control.place + 1;
     let cells = t.cells;
+    let full = c.full;
+    let seen = a.deps;
     match i {
         Instruction::Skip => stepping::skip(c, i),
         Instruction::Assign(r, _) => stepping::assign(&mut work[..], c, i, r, a),
-        Instruction::Load(r, _) => stepping::load(&mut work[..], &mut trace[..], c, i, cells, r, a),
+        Instruction::Load(r, _) => {
+            if !seen.subset(full) {
+                return c;
+            }
+            stepping::load(&mut work[..], &mut trace[..], c, i, cells, r, a)
+        }
         Instruction::Store(r, _) => {
+            if !seen.subset(full) {
+                return c;
+            }
             stepping::store(&mut work[..], &mut trace[..], c, i, cells, r, a)
         }
         Instruction::Jump(_) => {
+            if !seen.subset(full) {
+                return c;
+            }
             let place = evaluation::jump_to(a.value, t.count);
             stepping::go_to(&mut trace[..], c, i, place, a)
         }
         Instruction::BranchZero(_, l) => {
+            if !seen.subset(full) {
+                return c;
+            }
             let place = evaluation::branch_to(a, l, next);
             stepping::go_to(&mut trace[..], c, i, place, a)
         }
@@ -92,6 +108,11 @@ fn advance_by(
     let a = evaluation::source_value(p, &work[..], d);
     match opening_of(mode, d) {
         Opening::Branch(r, l) => {
+            let full = c.full;
+            let seen = a.deps;
+            if !seen.subset(full) {
+                return c;
+            }
             stepping::open_branch(&mut work[..], &mut trace[..], c, r, l, a, t.window)
         }
         Opening::Nothing => {
@@ -127,7 +148,8 @@ fn advance(
     advance_by(p, t, mode, &mut work[..], &mut trace[..], c, d)
 }
 
-// Steps up to a step count, to the end of the run, or to a store that cannot be made: neither the budget nor the trace area runs out before.
+// Steps up to a step count, to the end of the run, or to a step that brings a location in or a store that cannot be made: neither the budget nor
+// the trace area runs out before.
 pub fn make_steps(
     p: &[u8],
     t: Trailer,

@@ -35,7 +35,7 @@ use Rattle.execution.specs.declared.Ran.{Ran}
 use Rattle.execution.specs.Running.{Loaded, EndsAs, RanTo}
 use Rattle.execution.specs.Starts.{whole, whole-mispredicting, whole-plain}
 use Rattle.job_run.specs.Accepted.{accepted-limits, accepted-state}
-use Rattle.job_run.specs.JobRuns.{resultOf, LoadedFor, RunOf, RunIn}
+use Rattle.job_run.specs.JobRuns.{resultOf, LoadedFor, RunOf, cleared, RunIn}
 
 -- the part of a list that the code takes from 0 on
 pub same-part : (n : ℕ) (xs : List ℕ) → take (n - 0) (drop 0 xs) ≡ take n xs
@@ -156,16 +156,21 @@ module _ {bs : List ℕ} {t : Trailer} (k : Accepts bs t) (mode : Mode) {w w′ 
       → EndsAs t a w′ a′ r (resultOf mode job (room a))
   own-run o job p = rw (accepted-state (record { job = job; parsed = p; trailer = k .trailer })) at (o .ran job p)
 
-  pub run-in : {e e′ w″ : List ℕ} → RunOf bs t mode bs (t .state) w w′ a a′ r → e′ ≡ written (endWords (stateIn w′ (locations t))) e
-      → w″ ≡ written (replicate workingWords 0) w′ → RunIn bs t mode (lent a e w) (lent a′ e′ w″) r
+  pub run-in : {e e′ : List ℕ} → RunOf bs t mode bs (t .state) w w′ a a′ r → e′ ≡ written (endWords (stateIn w′ (locations t))) e
+      → workingWords ≤ length w → RunIn bs t mode (lent a e w) (lent a′ e′ w′) r
   unfolding areasAfter
-  run-in {e} {e′} {w″} o ee ew = record { reports = λ job p. own-run o job p .reports; areas = left }
+  run-in {e} {e′} o ee h = record {
+    reports = λ job p. own-run o job p .reports;
+    firsts = λ job p. own-run o job p .firsts;
+    areas = left;
+    work = let s = o .size in omega arith;
+  }
     where
-      left : (job : Job) → parse bs ≡ accepted job → lent a′ e′ w″ ≡ areasAfter (resultOf mode job (room a)) (lent a e w)
+      left : (job : Job) → parse bs ≡ accepted job → cleared (lent a′ e′ w′) ≡ areasAfter (resultOf mode job (room a)) (lent a e w)
       left job p =
           let x = own-run o job p in
           λ i. record {
             trace = x .trace i;
             end = (ee ∙ ap (λ (σ : State). written (endWords σ) e) (x .state)) i;
-            work = (ew ∙ cleared-same workingWords w′ w (o .past)) i;
+            work = cleared-same workingWords w′ w (o .past) i;
           }

@@ -3,13 +3,16 @@
 use mathlib.Core.Path.{_≡_}
 use mathlib.Core.List.{List}
 use Prim.Native.Nat.{ℕ, _+_, _*_, _≤_}
-use lib.ListN.{length, take, drop}
+use lib.ListN.{length, take, drop, replicate}
+use Rattle.location.specs.Sets.{limit}
 use Rattle.rules.specs.declared.Trailer.{Trailer}
+use Rattle.rules.specs.Rules.Firsts.{firstsOf}
 use Rattle.rules.specs.Rules.Runs.{Job, Result, mispredictingRun, plainRun}
 use Rattle.rules.specs.Rules.JobFile.{accepted, parse, locations, wordsAt}
-use Rattle.rules.specs.Rules.Calls.{Areas, tableSize, workingWords, room, areasAfter}
+use Rattle.rules.specs.Rules.Calls.{Areas, lent, tableSize, workingWords, room, written, areasAfter}
 use Rattle.rules.specs.Rules.Pairs.{withState}
 use Rattle.job.specs.Answers.{Accepts}
+use Rattle.firsts.specs.Reports.{reportsIn}
 use Rattle.execution.specs.declared.Mode.{Mode}
 use Rattle.execution.specs.declared.Mode.the-variants as modes
 use Rattle.execution.specs.declared.Ran.{Ran}
@@ -47,7 +50,15 @@ pub record AreasFit (bs : List ℕ) (t : Trailer) (ends w : List ℕ) : Type 0 w
   pub work : workingWords ≤ length w
   pub end : locations t + tableSize ≤ length ends
 
--- The run of the job, as it has ended, with every area as the rules leave it.
+-- the areas with the working words 0
+abbrev pub cleared : Areas → Areas
+cleared a = lent (a .trace) (a .end) (written (replicate workingWords 0) (a .work))
+
+-- The run of the job, as it has ended: once the working words are cleared, every area is as the rules leave it; until then they tell which
+-- observation brought each location in.
 pub record RunIn (bs : List ℕ) (t : Trailer) (mode : Mode) (before after : Areas) (r : Ran) : Type 0 where
   pub reports : (job : Job) → parse bs ≡ accepted job → Reports r (resultOf mode job (room (before .trace)))
-  pub areas : (job : Job) → parse bs ≡ accepted job → after ≡ areasAfter (resultOf mode job (room (before .trace))) before
+  pub firsts : (job : Job) → parse bs ≡ accepted job
+      → reportsIn (after .work) (r .full) 0 limit ≡ firstsOf (resultOf mode job (room (before .trace)) .gathered .sets)
+  pub areas : (job : Job) → parse bs ≡ accepted job → cleared after ≡ areasAfter (resultOf mode job (room (before .trace))) before
+  pub work : workingWords ≤ length (after .work)

@@ -54,7 +54,8 @@ pub fn areas_fit(n: usize, end: &[u64], work: &[u64]) -> bool
     n <= end.len() - transfer::TABLE_WORDS
 }
 
-// The run with the job's own state, and what it leaves in every area. It calls `execution::run` itself: with two calls of it the compiler
+// The run with the job's own state, and what it leaves in the trace area and the end area. The working words still tell of the locations of D,
+// so that the caller clears them. It calls `execution::run` itself: with two calls of it the compiler
 // keeps the run a function of its own, whose steps have the processor's registers for themselves (docs/PERFORMANCE.md).
 pub fn run_in_areas(
     job: &[u8],
@@ -72,6 +73,5 @@ pub fn run_in_areas(
     let r = execution::run(&job[0..s], t, mode, &mut work[..], &mut trace[..]);
     let n = t.locations();
     transfer::save_state(&work[..], n, &mut end[..]);
-    work::clear(&mut work[..]);
     r
 }

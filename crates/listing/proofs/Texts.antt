@@ -11,16 +11,19 @@ use borrow.Author.Tests.{lt-ltb, le-ltb, eq-eqb, ne-eqb}
 use Rattle.location.specs.declared.LocationSet.{LocationSet}
 use Rattle.location.specs.Sets.{registers, limit, member}
 use Rattle.rules.specs.declared.Counts.{Counts}
+use Rattle.rules.specs.declared.First.{First}
 use Rattle.rules.specs.declared.Verdict.{Verdict}
 use Rattle.rules.specs.declared.Refusal.{Refusal}
 use Rattle.rules.specs.declared.RunOutcome.{RunOutcome}
 use Rattle.rules.specs.declared.RunOutcome.the-variants as runs
 use Rattle.rules.specs.declared.RunAnswer.{RunAnswer}
 use Rattle.rules.specs.Rules.Instructions.{observed, startKind, rollbackKind, pcKind, loadKind, storeKind, pc}
+use Rattle.rules.specs.Rules.Firsts.{noReport}
 use Rattle.rules.specs.Rules.Answers.{text, refusalNumber}
 use Rattle.rules.specs.Rules.Demands.{observationCount}
-use Rattle.rules.specs.Rules.Listing.{decimal, line, numberLine, kindWord, valueText, observationLine, traceLines, locationText, members, summary, outcomeLines, answerLines}
-use Rattle.listing.specs.Lines.{observationsIn, memberText, printed}
+use Rattle.rules.specs.Rules.Listing.{decimal, line, numberLine, kindWord, valueText, observationLine, traceLines, locationText, members, summary}
+use Rattle.rules.specs.Rules.Listing.{firstLine, firstLines, outcomeLines, answerLines}
+use Rattle.listing.specs.Lines.{observationsIn, memberText, reportText, printed}
 
 -- ---- places
 pub place-end : (n p : ℕ) → p ≡ n → observationLine n (pc p) ≡ text "pc end\n"
@@ -107,13 +110,32 @@ members-next s (suc k) h r =
     let q : limit - suc k + 1 ≡ limit - k = omega arith in
     rw (p, q)
 
+-- ---- the reports, location by location
+module _ (s : LocationSet) (l k : ℕ) (x : First) (found : Bool) (named : k ≡ l) (told : found ≡ member s k) where
+  pub report-text : found ≡ true → reportText s l x ≡ firstLine l x
+  report-text e = ap (λ (b : Bool). cond b (firstLine l x) []) (ap (member s) (sym named) ∙ sym told ∙ e)
+
+  pub no-report-text : found ≡ false → reportText s l x ≡ []
+  no-report-text e = ap (λ (b : Bool). cond b (firstLine l x) []) (ap (member s) (sym named) ∙ sym told ∙ e)
+
+pub reports-next : (s : LocationSet) (xs : List First) (left : ℕ) → 0 < left → left ≤ limit
+    → firstLines s xs (limit - left) left
+    ≡ reportText s (limit - left) (getD xs (limit - left) noReport) ++ firstLines s xs (limit - (left - 1)) (left - 1)
+unfolding firstLines
+reports-next s xs zero h r = absurd (omega arith)
+reports-next s xs (suc k) h r =
+    let p : suc k - 1 ≡ k = omega arith in
+    let q : limit - suc k + 1 ≡ limit - k = omega arith in
+    rw (p, q)
+
 -- ---- an answer by its outcome
 module _ (n : ℕ) (a : RunAnswer) (trace : List ℕ) where
   pub printed-refusal : (cause : Refusal) → a .outcome ≡ runs.Refused cause → printed n a trace ≡ numberLine (text "refused") (refusalNumber cause)
   unfolding printed answerLines
-  printed-refusal cause e = ap (λ (o : RunOutcome). outcomeLines n (observationsIn (observationCount o) trace) (a .full) (a .plain) o) e
+  printed-refusal cause e = ap (λ (o : RunOutcome). outcomeLines n (observationsIn (observationCount o) trace) (a .full) (a .plain) (a .firsts) o) e
 
   pub printed-run : (c : Counts) (v : Verdict) → a .outcome ≡ runs.Ran c v
-      → printed n a trace ≡ traceLines n (observationsIn (c .observations) trace) ++ summary c (a .full) (a .plain) v
+      → printed n a trace
+      ≡ traceLines n (observationsIn (c .observations) trace) ++ summary c (a .full) (a .plain) v ++ firstLines (a .full) (a .firsts) 0 limit
   unfolding printed answerLines
-  printed-run c v e = ap (λ (o : RunOutcome). outcomeLines n (observationsIn (observationCount o) trace) (a .full) (a .plain) o) e
+  printed-run c v e = ap (λ (o : RunOutcome). outcomeLines n (observationsIn (observationCount o) trace) (a .full) (a .plain) (a .firsts) o) e

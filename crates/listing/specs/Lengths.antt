@@ -1,4 +1,5 @@
--- How long a printed run can be: at most 30 bytes a line of the trace, and 11,374 bytes after them.
+-- How long a printed run can be: at most 30 bytes a line of the trace, and 31,086 bytes after them: 11,374 to the verdict, and 77 for each
+-- of 256 locations.
 -- Assumes nothing.
 use mathlib.Core.Path.{_≡_}
 use mathlib.Core.Bool.{_&&_, cond}
@@ -6,21 +7,25 @@ use mathlib.Core.List.{List, [], _∷_, _++_}
 use Prim.Native.Nat.{ℕ, zero, suc, _+_, _-_, _*_, _≤_}
 use native.Mathlib.Omega.{arith}
 use lib.Dec.{eqb, ltb}
-use lib.ListN.{length, length-append}
+use lib.ListN.{length, getD, length-append}
 use Rattle.location.specs.declared.LocationSet.{LocationSet}
 use Rattle.location.specs.Sets.{registers, limit, member}
 use Rattle.rules.specs.declared.Stop.{Stop}
 use Rattle.rules.specs.declared.Stop.the-variants.{Finished, Spent, TraceFull, OutsideFull}
 use Rattle.rules.specs.declared.Verdict.{Verdict}
 use Rattle.rules.specs.declared.Verdict.the-variants as verdicts
+use Rattle.rules.specs.declared.Cause.{Cause}
+use Rattle.rules.specs.declared.Cause.the-variants as causes
 use Rattle.rules.specs.declared.Counts.{Counts}
+use Rattle.rules.specs.declared.First.{First}
 use Rattle.rules.specs.declared.RunOutcome.{RunOutcome}
 use Rattle.rules.specs.declared.RunOutcome.the-variants as runs
 use Rattle.rules.specs.declared.RunAnswer.{RunAnswer}
 use Rattle.rules.specs.Rules.Instructions.{Observation, pcKind}
-use Rattle.rules.specs.Rules.Answers.{text, stopWord, verdictWord, refusalNumber}
+use Rattle.rules.specs.Rules.Firsts.{noReport}
+use Rattle.rules.specs.Rules.Answers.{text, stopWord, verdictWord, causeWord, refusalNumber}
 use Rattle.rules.specs.Rules.Listing.{decimal, line, numberLine, kindWord, valueText, observationLine, traceLines, locationText, members, setLine}
-use Rattle.rules.specs.Rules.Listing.{summary, outcomeLines, answerLines}
+use Rattle.rules.specs.Rules.Listing.{summary, firstLine, firstLines, outcomeLines, answerLines}
 use Rattle.byte_writer.specs.Lengths.{cond-length, decimal-length}
 use Rattle.listing.specs.Lines.{observationsIn}
 
@@ -132,14 +137,61 @@ summary-bound c full plain v =
       verdict-length v,
     )
 
--- ---- the whole
-outcome-bound : (n : ℕ) (os : List Observation) (full plain : LocationSet) (o : RunOutcome)
-    → length (outcomeLines n os full plain o) ≤ 30 * length os + 11374
+-- ---- what brought each location into D
+cause-length : (x : Cause) → length (causeWord x) ≤ 6
 unfolding text
-outcome-bound n os full plain (runs.Refused r) = omega (arith, number-line-bound (text "refused") (refusalNumber r))
-outcome-bound n os full plain (runs.Ran c v) =
-    omega (arith, length-append (traceLines n os) (summary c full plain v), trace-length n os, summary-bound c full plain v)
+cause-length causes.Branch = omega arith
+cause-length causes.Jump = omega arith
+cause-length causes.Load = omega arith
+cause-length causes.Store = omega arith
 
-pub answer-bound : (n : ℕ) (os : List Observation) (a : RunAnswer) → length (answerLines n os a) ≤ 30 * length os + 11374
+pub first-line-length : (l : ℕ) (x : First)
+    → length (firstLine l x)
+    ≡ 9 + length (locationText l) + length (decimal (x .index)) + length (causeWord (x .cause)) + length (decimal (x .label))
+unfolding firstLine line text
+first-line-length l x = simp length-append (omega arith)
+
+first-line-bound : (l : ℕ) (x : First) → length (firstLine l x) ≤ 77
+first-line-bound l x =
+    omega (
+      arith,
+      first-line-length l x,
+      location-length l,
+      decimal-length (x .index),
+      cause-length (x .cause),
+      decimal-length (x .label),
+    )
+
+first-lines-length : (s : LocationSet) (xs : List First) (l k : ℕ) → length (firstLines s xs l k) ≤ 77 * k
+unfolding firstLines
+first-lines-length s xs l zero = omega arith
+first-lines-length s xs l (suc k) =
+    let x = getD xs l noReport in
+    omega (
+      arith,
+      length-append (cond (member s l) (firstLine l x) []) (firstLines s xs (l + 1) k),
+      cond-length (member s l) (firstLine l x) [] 77 (first-line-bound l x) (omega arith),
+      first-lines-length s xs (l + 1) k,
+    )
+
+pub first-lines-bound : (s : LocationSet) (xs : List First) → length (firstLines s xs 0 limit) ≤ 19712
+first-lines-bound s xs = omega (arith, first-lines-length s xs 0 limit)
+
+-- ---- the whole
+outcome-bound : (n : ℕ) (os : List Observation) (full plain : LocationSet) (xs : List First) (o : RunOutcome)
+    → length (outcomeLines n os full plain xs o) ≤ 30 * length os + 31086
+unfolding text
+outcome-bound n os full plain xs (runs.Refused r) = omega (arith, number-line-bound (text "refused") (refusalNumber r))
+outcome-bound n os full plain xs (runs.Ran c v) =
+    omega (
+      arith,
+      length-append (traceLines n os ++ summary c full plain v) (firstLines full xs 0 limit),
+      length-append (traceLines n os) (summary c full plain v),
+      trace-length n os,
+      summary-bound c full plain v,
+      first-lines-bound full xs,
+    )
+
+pub answer-bound : (n : ℕ) (os : List Observation) (a : RunAnswer) → length (answerLines n os a) ≤ 30 * length os + 31086
 unfolding answerLines
-answer-bound n os a = outcome-bound n os (a .full) (a .plain) (a .outcome)
+answer-bound n os a = outcome-bound n os (a .full) (a .plain) (a .firsts) (a .outcome)

@@ -1,9 +1,10 @@
 // The printed run: the lines of an answer and its trace, written into an area of bytes that the caller lends.
 // Each function writes from a place on, as far as the area goes, and returns the next place.
-use location::Address;
 use location::Location;
 use location::LocationSet;
+use rules::Cause;
 use rules::Counts;
+use rules::First;
 use rules::RunAnswer;
 use rules::RunOutcome;
 use rules::Stop;
@@ -12,26 +13,35 @@ use rules::observation::LOAD;
 use rules::observation::PC;
 use rules::observation::ROLLBACK;
 use rules::observation::START;
-ghost use mathlib.Core.Path.{_≡_};
+ghost use mathlib.Core.List.{_∷_};
 ghost use Prim.Native.Nat.{_+_, _^_, _<_};
 ghost use lib.ListN.{length};
 ghost use Rattle.location.specs.Sets.{limit};
-ghost use Rattle.rules.specs.Rules.Answers.{text, stopWord, verdictWord};
+ghost use Rattle.rules.specs.Rules.Answers.{text, stopWord, verdictWord, causeWord};
 ghost use Rattle.rules.specs.Rules.Instructions.{observed, pc};
 ghost use Rattle.rules.specs.Rules.Listing.{decimal, line, numberLine, observationLine, traceLines, locationText, members, setLine, summary};
+ghost use Rattle.rules.specs.Rules.Listing.{firstLine, firstLines};
 ghost use Rattle.byte_writer.specs.Writing.{Put};
-ghost use Rattle.listing.specs.Lines.{observationsIn, memberText, printed};
+ghost use Rattle.listing.specs.Lines.{observationsIn, memberText, reportText, printed};
 
 // Cells are numbered after the registers.
 const REGISTERS: usize = Location::REGISTERS as usize;
+
+// A blank and the number.
+fn put_number(out: &mut [u8], at: usize, n: u64) -> usize
+    requires { ⌜ at + length (32 ∷ decimal n) < 2 ^ 64 ⌝ }
+    ensures { λ r. ⌜ Put (now (out .entry)) at (32 ∷ decimal n) (now (out .exit)) r ⌝ }
+{
+    let after_blank = byte_writer::put_text(out, at, b" ");
+    byte_writer::put_decimal(out, after_blank, n)
+}
 
 fn put_number_line(out: &mut [u8], at: usize, word: &[u8], n: u64) -> usize
     requires { ⌜ at + length (numberLine (now word) n) < 2 ^ 64 ⌝ }
     ensures { λ r. ⌜ Put (now (out .entry)) at (numberLine (now (word .entry)) n) (now (out .exit)) r ⌝ }
 {
     let after_word = byte_writer::put_text(out, at, word);
-    let after_blank = byte_writer::put_text(out, after_word, b" ");
-    let after_digits = byte_writer::put_decimal(out, after_blank, n);
+    let after_digits = put_number(out, after_word, n);
     byte_writer::put_text(out, after_digits, b"\n")
 }
 
@@ -75,16 +85,6 @@ fn put_trace(out: &mut [u8], at: usize, n: u64, count: usize, trace: &[u64]) -> 
     next
 }
 
-// The register or cell that stands at a place of the numbering.
-fn location_of(l: usize) -> Location
-    ensures { λ r. ⌜ r .0 ≡ l ⌝ }
-{
-    if l < REGISTERS {
-        return Location::register(l as u8);
-    }
-    Location::cell(Address::new((l - REGISTERS) as u64))
-}
-
 fn put_location(out: &mut [u8], at: usize, l: usize) -> usize
     requires { ⌜ at + length (locationText l) < 2 ^ 64 ⌝ }
     ensures { λ r. ⌜ Put (now (out .entry)) at (locationText l) (now (out .exit)) r ⌝ }
@@ -102,7 +102,7 @@ fn put_member(out: &mut [u8], at: usize, s: LocationSet, l: usize) -> usize
     requires { ⌜ at + length (memberText s l) < 2 ^ 64 ⌝ }
     ensures { λ r. ⌜ Put (now (out .entry)) at (memberText s l) (now (out .exit)) r ⌝ }
 {
-    if s.member(location_of(l)) {
+    if s.member(Location::new(l)) {
         return put_location(out, at, l);
     }
     at
@@ -174,6 +174,64 @@ fn put_summary(
     put_verdict(out, after_plain, verdict)
 }
 
+// A blank and the word of a rule.
+fn put_cause(out: &mut [u8], at: usize, cause: Cause) -> usize
+    requires { ⌜ at + length (32 ∷ causeWord cause) < 2 ^ 64 ⌝ }
+    ensures { λ r. ⌜ Put (now (out .entry)) at (32 ∷ causeWord cause) (now (out .exit)) r ⌝ }
+{
+    match cause {
+        Cause::Branch => byte_writer::put_text(out, at, b" branch"),
+        Cause::Jump => byte_writer::put_text(out, at, b" jump"),
+        Cause::Load => byte_writer::put_text(out, at, b" load"),
+        Cause::Store => byte_writer::put_text(out, at, b" store"),
+    }
+}
+
+// What brought location l into D.
+fn put_first(out: &mut [u8], at: usize, l: usize, x: First) -> usize
+    requires { ⌜ at + length (firstLine l x) < 2 ^ 64 ⌝ }
+    ensures { λ r. ⌜ Put (now (out .entry)) at (firstLine l x) (now (out .exit)) r ⌝ }
+{
+    let cause = x.cause;
+    let after_word = byte_writer::put_text(out, at, b"first");
+    let after_location = put_location(out, after_word, l);
+    let after_index = put_number(out, after_location, x.index as u64);
+    let after_cause = put_cause(out, after_index, cause);
+    let after_label = put_number(out, after_cause, x.label as u64);
+    byte_writer::put_text(out, after_label, b"\n")
+}
+
+// The line of location l, where it is in the set.
+fn put_report(out: &mut [u8], at: usize, s: LocationSet, l: usize, x: First) -> usize
+    requires { ⌜ at + length (reportText s l x) < 2 ^ 64 ⌝ }
+    ensures { λ r. ⌜ Put (now (out .entry)) at (reportText s l x) (now (out .exit)) r ⌝ }
+{
+    if s.member(Location::new(l)) {
+        return put_first(out, at, l, x);
+    }
+    at
+}
+
+// The lines of all locations of a set, ascending.
+fn put_firsts(
+    out: &mut [u8],
+    at: usize,
+    s: LocationSet,
+    firsts: [First; LocationSet::LIMIT],
+) -> usize
+    requires { ⌜ at + length (firstLines s firsts 0 limit) < 2 ^ 64 ⌝ }
+    ensures { λ r. ⌜ Put (now (out .entry)) at (firstLines s firsts 0 limit) (now (out .exit)) r ⌝ }
+{
+    let mut next = at;
+    let mut left = LocationSet::LIMIT;
+    while 0 < left {
+        let l = LocationSet::LIMIT - left;
+        next = put_report(&mut out[..], next, s, l, firsts[l]);
+        left -= 1;
+    }
+    next
+}
+
 // The lines of an answer of a program with n instructions, whose trace stands at the front of `trace`. The result is their
 // length; the area holds them from its front as far as they fit, and all its other bytes keep their contents.
 pub fn write_answer(n: usize, answer: RunAnswer, trace: &[u64], out: &mut [u8]) -> usize
@@ -188,8 +246,10 @@ pub fn write_answer(n: usize, answer: RunAnswer, trace: &[u64], out: &mut [u8]) 
         RunOutcome::Ran(counts, verdict) => {
             let full = answer.full;
             let plain = answer.plain;
-            let next = put_trace(out, 0, n as u64, counts.observations, trace);
-            put_summary(out, next, counts, full, plain, verdict)
+            let firsts = answer.firsts;
+            let after_trace = put_trace(out, 0, n as u64, counts.observations, trace);
+            let after_summary = put_summary(out, after_trace, counts, full, plain, verdict);
+            put_firsts(out, after_summary, full, firsts)
         }
     }
 }

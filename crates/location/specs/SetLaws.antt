@@ -69,7 +69,7 @@ unfolding bit
 bit-or a b k =
     rw (or-shr a b k, or-mod2 (a / 2 ^ k) (b / 2 ^ k)) (max-bit (a / 2 ^ k % 2) (b / 2 ^ k % 2) (omega arith) (omega arith))
 
-bit-zero : (k : ℕ) → bit 0 k ≡ false
+pub bit-zero : (k : ℕ) → bit 0 k ≡ false
 unfolding bit
 bit-zero k = rw (zero-div (2 ^ k))
 
@@ -231,7 +231,7 @@ inside-has s t h l e =
     rw (← inside-word s t h (l / 64)) (rw (bit-or (getD s (l / 64) 0) (getD t (l / 64) 0) (l % 64)) (or-left _ _ e))
 
 -- bit k of a half is bit k + 1
-bit-half : (x k : ℕ) → bit (x / 2) k ≡ bit x (suc k)
+pub bit-half : (x k : ℕ) → bit (x / 2) k ≡ bit x (suc k)
 unfolding bit
 bit-half x k = ap (λ (y : ℕ). eqb (y % 2) 1) (shr-shr x 1 k ∙ ap (λ (j : ℕ). x / 2 ^ j) (one-add k))
 
@@ -242,7 +242,7 @@ low-bit (suc zero) (suc zero) p q h = refl
 low-bit (suc zero) (suc (suc y)) p q h = absurd (omega arith)
 low-bit (suc (suc x)) y p q h = absurd (omega arith)
 
-bit-0 : (x : ℕ) → bit x 0 ≡ eqb (x % 2) 1
+pub bit-0 : (x : ℕ) → bit x 0 ≡ eqb (x % 2) 1
 unfolding bit
 bit-0 x = rw (div-one x)
 
@@ -261,21 +261,21 @@ areWords [] = true
 areWords (x ∷ s) = ltb x (2 ^ 64) && areWords s
 
 -- the numbers of the first word, and those of the rest
-has-head : (x l : ℕ) (s : List ℕ) → l < 64 → has (x ∷ s) l ≡ bit x l
+pub has-head : (x l : ℕ) (s : List ℕ) → l < 64 → has (x ∷ s) l ≡ bit x l
 unfolding has
 has-head x l s h =
     let d : l / 64 ≡ 0 = omega arith in
     let r : l % 64 ≡ l = omega arith in
     rw (d, r)
 
-has-tail : (x l : ℕ) (s : List ℕ) → has (x ∷ s) (64 + l) ≡ has s l
+pub has-tail : (x l : ℕ) (s : List ℕ) → has (x ∷ s) (64 + l) ≡ has s l
 unfolding has
 has-tail x l s =
     let d : (64 + l) / 64 ≡ suc (l / 64) = omega arith in
     let r : (64 + l) % 64 ≡ l % 64 = omega arith in
     rw (d, r)
 
-has-nil : (l : ℕ) → has [] l ≡ false
+pub has-nil : (l : ℕ) → has [] l ≡ false
 unfolding has
 has-nil l = bit-zero (l % 64)
 
@@ -391,3 +391,39 @@ subset-within s t h = record { each = inside-has (s .words) (t .words) h }
 pub within-subset : (s t : LocationSet) → areWords (s .words) ≡ true → Within s t → subset s t ≡ true
 unfolding subset member
 within-subset s t a w = has-inside (s .words) (t .words) a (w .each)
+
+-- ---- a set that has joined another, and the empty set
+inside-none : (n : ℕ) (t : List ℕ) → inside (none n) t ≡ true
+unfolding inside none
+inside-none zero t = refl
+inside-none (suc n) [] = inside-none n []
+inside-none (suc n) (y ∷ t) = and-true (eqb (bitOr 0 y) y) (inside (replicate n 0) t) (eq-eqb (bitOr 0 y) y (or-zero-l y)) (inside-none n t)
+
+inside-self : (s : List ℕ) → inside s s ≡ true
+unfolding inside
+inside-self [] = refl
+inside-self (x ∷ s) = and-true (eqb (bitOr x x) x) (inside s s) (eq-eqb (bitOr x x) x (or-self x)) (inside-self s)
+
+joined-word : (x y : ℕ) → bitOr x (bitOr y x) ≡ bitOr y x
+joined-word x y = or-comm x (bitOr y x) ∙ or-assoc y x x ∙ ap (bitOr y) (or-self x)
+
+inside-joined : (s t : List ℕ) → inside s (either t s) ≡ true
+unfolding inside either
+inside-joined [] t = refl
+inside-joined (x ∷ s) [] = inside-self (x ∷ s)
+inside-joined (x ∷ s) (y ∷ t) =
+    and-true (eqb (bitOr x (bitOr y x)) (bitOr y x)) (inside s (either t s)) (eq-eqb (bitOr x (bitOr y x)) (bitOr y x) (joined-word x y)) (inside-joined s t)
+
+pub subset-empty : (t : LocationSet) → subset empty t ≡ true
+unfolding subset empty
+subset-empty t = inside-none 4 (t .words)
+
+pub subset-joined : (s t : LocationSet) → subset s (union t s) ≡ true
+unfolding subset union
+subset-joined s t = inside-joined (s .words) (t .words)
+
+-- once is enough
+pub union-again : (t s : LocationSet) → union (union t s) s ≡ union t s
+unfolding union
+union-again t s =
+    ap (λ (ws : List ℕ). record { words = ws }) (either-assoc (t .words) (s .words) (s .words) ∙ ap (either (t .words)) (either-self (s .words)))

@@ -121,20 +121,15 @@ impl LocationSet {
         }
     }
 
-    // Whether every location of this set is in the other.
+    // Whether every location of this set is in the other. All words are tested at once, as a run's steps do it.
     pub fn subset(self, other: Self) -> bool
         ensures { λ r. ⌜ r ≡ subset self other ⌝ }
     {
         let a = self.words;
         let b = other.words;
-        let mut i = 0;
-        while i < 4 {
-            if a[i] | b[i] != b[i] {
-                return false;
-            }
-            i += 1;
-        }
-        true
+        let first = ((a[0] | b[0]) ^ b[0]) | ((a[1] | b[1]) ^ b[1]);
+        let last = ((a[2] | b[2]) ^ b[2]) | ((a[3] | b[3]) ^ b[3]);
+        first | last == 0
     }
 
     pub fn member(self, l: Location) -> bool

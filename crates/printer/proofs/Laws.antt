@@ -89,7 +89,7 @@ module _ (bs t e w : List ℕ) {a : RunAnswer} {t′ e′ w′ : List ℕ} (x : 
 
 -- ---- how long they are
 pub printed-bound : (n : ℕ) (a : RunAnswer) (trace : List ℕ) {out out′ : List ℕ} {r : ℕ} → Put out 0 (printed n a trace) out′ r
-    → r ≤ 15 * length trace + 11374
+    → r ≤ 15 * length trace + 31086
 unfolding printed
 printed-bound n a trace p =
     let os = observationsIn (observationCount (a .outcome)) trace in

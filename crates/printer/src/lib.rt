@@ -11,8 +11,8 @@ ghost use Rattle.printer.specs.Printing.{instructionCount, Prints, Liste
 // 512 observations of two words each.
 pub const TRACE: usize = 1024;
 
-// Enough for every listing of 512 observations: at most 30 bytes each, and at most 11,374 after them.
-pub const LINES: usize = 26734;
+// Enough for every listing of 512 observations: at most 30 bytes each, and at most 31,086 after them.
+pub const LINES: usize = 46446;
 
 // An end area that is long enough for every job: its locations, then the table outside the image.
 const END: usize = LocationSet::LIMIT + transfer::TABLE_WORDS;
@@ -32,7 +32,7 @@ fn instruction_count(job: &[u8]) -> usize
 // The run of a job in the lent trace area, and its lines from the front of `out` as far as they fit. The result is their length.
 pub fn print_run(job: &[u8], trace: &mut [u64], out: &mut [u8]) -> usize
     ensures exact { λ r. ⌜ Prints (now (job .entry)) (now (trace .entry)) (now (trace .exit)) (now (out .entry)) (now (out .exit)) r ⌝ }
-    ensures bounded { λ r. ⌜ r ≤ 15 * length (now (trace .entry)) + 11374 ⌝ }
+    ensures bounded { λ r. ⌜ r ≤ 15 * length (now (trace .entry)) + 31086 ⌝ }
 {
     let mut end = [0u64; END];
     let mut work = [0u64; work::WORDS];

@@ -5,6 +5,7 @@ pub mod Readings
 pub mod Refusals
 pub mod TestLoads
 pub mod Outside
+pub mod Firsts
 pub mod Operators
 pub mod Sets
 pub mod Texts

@@ -3,6 +3,7 @@ pub mod Limits
 pub mod Operators
 pub mod Expressions
 pub mod Instructions
+pub mod Firsts
 pub mod Outside
 pub mod Plain
 pub mod Mispredicting

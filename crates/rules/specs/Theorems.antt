@@ -2,7 +2,9 @@
 pub mod Shifts
 pub mod LoopLaws
 pub mod RunLaws
+pub mod Firsts
 pub mod StepLaws
+pub mod FirstSteps
 pub mod PlainRun
 pub mod Outside
 pub mod Undo
@@ -19,6 +21,7 @@ pub mod Tables
 pub mod CallLaws
 pub mod FilePlain
 pub mod FileSecrecy
+pub mod FileFirsts
 pub mod PairLaws
 pub mod SameWords
 pub mod Promises

@@ -99,11 +99,29 @@ pub enum RunOutcome {
     Ran(Counts, Verdict),
 }
 
-// The answer of a run: the two sets, D and the plain set, stand beside the outcome, and are empty where the job is refused.
+// The rule by which an instruction observes a set: of a branch's register, of a jump's value, of a load's or a store's address.
+pub enum Cause {
+    Branch,
+    Jump,
+    Load,
+    Store,
+}
+
+// What is reported of a location of D: the index of the first observation whose set holds it, the rule concerned and the label of that
+// instruction. A location that is not in D has index 0, Branch and label 0.
+pub struct First {
+    pub index: u32,
+    pub label: u16,
+    pub cause: Cause,
+}
+
+// The answer of a run: the two sets, D and the plain set, stand beside the outcome, and are empty where the job is refused; then there is
+// nothing to report of any location.
 pub struct RunAnswer {
     pub outcome: RunOutcome,
     pub full: LocationSet,
     pub plain: LocationSet,
+    pub firsts: [First; LocationSet::LIMIT],
 }
 
 pub enum PlainOutcome {

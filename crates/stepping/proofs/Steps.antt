@@ -14,18 +14,19 @@ use Rattle.location.specs.Sets.{registers, limit, empty, union}
 use Rattle.rules.specs.declared.Tagged.{Tagged}
 use Rattle.rules.specs.Rules.Calls.{observationWords, traceWords}
 use Rattle.rules.specs.Rules.Instructions.{Instr, beqz, Observation, pc, stored, windowCosts}
+use Rattle.rules.specs.Rules.Firsts.{ObservedSet}
 use Rattle.rules.specs.Rules.Outside.{remember, overfull}
 use Rattle.rules.specs.Rules.Plain.{State, at, put, withOutside, Code, loadedFrom, storedTo, storeOverfull, branchTo}
 use Rattle.rules.specs.Rules.Plain.{silent, loadEffect, storeEffect, goEffect}
 use Rattle.rules.specs.Rules.Plain as plain
 use Rattle.rules.specs.Rules.Mispredicting.{Branch, Machine, Step, lower, newWindow, rolling, opening, stepWith}
-use Rattle.rules.specs.Rules.Runs.{note}
+use Rattle.rules.specs.Rules.Runs.{observedSet, note}
 use Rattle.instruction.specs.declared.Instruction.{Instruction}
 use Rattle.instruction.specs.declared.Instruction.the-variants.{BranchZero}
 use Rattle.instruction.specs.Meaning.{meaning}
 use Rattle.work.specs.declared.machine.Control.{Control}
 use Rattle.work.specs.declared.machine.RolledBack.{RolledBack}
-use Rattle.work.specs.Layout.{labels}
+use Rattle.work.specs.Layout.{reports}
 use Rattle.work.specs.Words.{taggedAt, branchAt, changeAt}
 use Rattle.work.specs.Machines.{tableIn, stateIn, machineOf, Fit}
 use Rattle.work.specs.Moves.{lowerTo, windowOn, ordinaryNext, gone, openingNext, Moves, RollsBack}
@@ -44,21 +45,24 @@ use Rattle.stepping.proofs.Laws.{gathered, counted-back, depth-of, leng
 module _ (w w′ t t′ : List ℕ) (c c′ : Progress) (n : ℕ) (s : Step) (control : Control)
     (counted : c′ ≡ progressAfter c control (length (s .obs)) (s .seen)) where
   -- the counts and sets are what the rules have gathered after the step
-  noted : rolledBack control ≡ rolledBack (c .control) + s .back → (os : List Observation)
-      → gatheredOf (os ++ s .obs) c′ ≡ note (machineOf w (c .control) n) s (gatheredOf os c)
+  noted : rolledBack control ≡ rolledBack (c .control) + s .back → (os : List Observation) (xs : List ObservedSet)
+      → (let M = machineOf w (c .control) n in let g = gatheredOf os xs c in
+      gatheredOf (os ++ s .obs) (xs ++ (observedSet M s g ∷ [])) c′ ≡ note M s g)
   unfolding note
-  noted R os =
+  noted R os xs =
+      let more = xs ++ (observedSet (machineOf w (c .control) n) s (gatheredOf os xs c) ∷ []) in
       let P = gathered (branchAt w) (changeAt w) (stateIn w n) (c .control .window) (c .control .log) (c .control .depth) (c .plain) (s .seen) in
-      ap (gatheredOf (os ++ s .obs)) counted
+      ap (gatheredOf (os ++ s .obs) more) counted
       ∙ (λ i. record {
         trace = os ++ s .obs;
         steps = add-one (c .steps) i;
         rollbacks = R i;
         full = union (c .full) (s .seen);
         plain = P i;
+        sets = more;
       })
 
-  made-of : machineOf w′ control n ≡ s .next → Fit w′ control → drop labels w′ ≡ drop labels w
+  made-of : machineOf w′ control n ≡ s .next → Fit w′ control → drop reports w′ ≡ drop reports w
       → t′ ≡ sets t (2 * c .observations) (traceWords (s .obs)) → s .next .opened ≤ c .control .opened + 1
       → s .next .opened + c .control .depth ≡ c .control .opened + length (s .next .branches) + s .back
       → (0 < s .back → c .control .depth ≤ c .control .opened) → Made n s (standing w t c) (standing w′ t′ c′)
@@ -140,7 +144,7 @@ opened {w} {w′} {t} {t′} {c} {c′} {r} {window} {wrong} {target} {v} {l} {x
 
 -- ---- rule 3: from the machine's move to state σ and place q, with v left of the top's window
 module _ {n : ℕ} {w w′ t t′ : List ℕ} {c c′ : Progress} (i : Instruction) {v q : ℕ} {control : Control} {σ : State}
-    (m : machineOf w′ control n ≡ ordinaryNext (machineOf w (c .control) n) σ q v) (fits : Fit w′ control) (frame : drop labels w′ ≡ drop labels w)
+    (m : machineOf w′ control n ≡ ordinaryNext (machineOf w (c .control) n) σ q v) (fits : Fit w′ control) (frame : drop reports w′ ≡ drop reports w)
     (p : List ℕ) (code : Code) (left : v ≡ leftBy code (meaning p i) (c .control)) where
   -- the effect x is that state, that place, and what was counted and written
   carried : (x : plain.Effect) → σ ≡ x .state → q ≡ x .place → t′ ≡ sets t (2 * c .observations) (traceWords (x .obs))

@@ -6,6 +6,7 @@ use denote.Ref.{now}
 use Rattle.location.specs.declared.LocationSet.{LocationSet}
 use Rattle.location.specs.Sets.{union}
 use Rattle.rules.specs.Rules.Instructions.{Observation}
+use Rattle.rules.specs.Rules.Firsts.{ObservedSet}
 use Rattle.rules.specs.Rules.Mispredicting.{Machine}
 use Rattle.rules.specs.Rules.Promises.{LentArea}
 use Rattle.rules.specs.Rules.Runs.{Gathered}
@@ -37,9 +38,16 @@ machineAt x n = machineOf (x .work) (x .progress .control) n
 abbrev pub rolledBack : Control → ℕ
 rolledBack k = k .opened - k .depth
 
--- what the rules gather, with the observations that stand in the trace area
-abbrev pub gatheredOf : List Observation → Progress → Gathered
-gatheredOf os c = record { trace = os; steps = c .steps; rollbacks = rolledBack (c .control); full = c .full; plain = c .plain }
+-- what the rules gather, with the observations that stand in the trace area, and the sets that were observed
+abbrev pub gatheredOf : List Observation → List ObservedSet → Progress → Gathered
+gatheredOf os xs c = record {
+  trace = os;
+  steps = c .steps;
+  rollbacks = rolledBack (c .control);
+  full = c .full;
+  plain = c .plain;
+  sets = xs;
+}
 
 -- the plain set, with so many branches open
 abbrev pub gatherAt : ℕ → LocationSet → LocationSet → LocationSet

@@ -11,14 +11,15 @@ use Rattle.location.specs.Sets.{registers, limit}
 use Rattle.rules.specs.declared.Tagged.{Tagged}
 use Rattle.rules.specs.Rules.Limits.{maxBudget}
 use Rattle.rules.specs.Rules.Instructions.{Instr, Observation, loaded, stored, windowCosts}
+use Rattle.rules.specs.Rules.Firsts.{ObservedSet}
 use Rattle.rules.specs.Rules.Outside.{remember, overfull}
 use Rattle.rules.specs.Rules.Plain.{State, Code}
 use Rattle.rules.specs.Rules.Plain as plain
 use Rattle.rules.specs.Rules.Mispredicting.{Branch, Step, remaining, rolling, opening, stepWith}
-use Rattle.rules.specs.Rules.Runs.{note}
+use Rattle.rules.specs.Rules.Runs.{observedSet, note}
 use Rattle.rules.specs.Rules.Calls.{traceWords}
 use Rattle.work.specs.declared.machine.Control.{Control}
-use Rattle.work.specs.Layout.{labels}
+use Rattle.work.specs.Layout.{reports}
 use Rattle.work.specs.Words.{windowAt}
 use Rattle.work.specs.Machines.{stateIn, Fit, Left}
 use Rattle.work.specs.Moves.{gone}
@@ -27,20 +28,24 @@ use Rattle.instruction.specs.Meaning.{meaning}
 use Rattle.stepping.specs.declared.Progress.{Progress}
 use Rattle.stepping.specs.Progress.{Standing, machineAt, gatheredOf, progressAfter}
 
--- The counts stay far below 2 ^ 64: no more branches were opened than steps made, and the trace area has the observations made.
+-- The counts stay far below 2 ^ 64: no more branches were opened than steps made, no more than two observations a step, and the trace area has
+-- the observations made.
 pub record Counted (x : Standing) : Type 0 where
   pub opened : x .progress .control .opened ≤ x .progress .steps
   pub steps : x .progress .steps ≤ maxBudget
   pub room : 2 * x .progress .observations ≤ length (x .trace)
+  pub observed : x .progress .observations ≤ 2 * x .progress .steps
 
 -- From x the run has come to y by the rules' step s of a machine with n locations.
 pub record Made (n : ℕ) (s : Step) (x y : Standing) : Type 0 where
   pub machine : machineAt y n ≡ s .next
   pub fits : Fit (y .work) (y .progress .control)
-  pub frame : drop labels (y .work) ≡ drop labels (x .work)
+  pub frame : drop reports (y .work) ≡ drop reports (x .work)
   pub trace : y .trace ≡ sets (x .trace) (2 * x .progress .observations) (traceWords (s .obs))
   pub observations : y .progress .observations ≡ x .progress .observations + length (s .obs)
-  pub gathered : (os : List Observation) → gatheredOf (os ++ s .obs) (y .progress) ≡ note (machineAt x n) s (gatheredOf os (x .progress))
+  pub gathered : (os : List Observation) (xs : List ObservedSet)
+      → (let g = gatheredOf os xs (x .progress) in
+      gatheredOf (os ++ s .obs) (xs ++ (observedSet (machineAt x n) s g ∷ [])) (y .progress) ≡ note (machineAt x n) s g)
   pub opened : y .progress .control .opened ≤ x .progress .control .opened + 1
   pub steps : y .progress .steps ≡ x .progress .steps + 1
 

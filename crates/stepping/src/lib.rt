@@ -82,8 +82,8 @@ fn count_step(c: Progress, control: Control, observations: usize, seen: Location
     }
 }
 
-// What a run has gathered where a store stops it: the set of the store's address still joins the full set, and the plain set with nothing
-// open. The step is not made, so that nothing is counted.
+// What the next step observes is gathered, also where it is a store that stops the run: its set joins the full set, and the plain set with
+// nothing open. The step is not made, so that nothing is counted.
 pub fn gather_unmade(c: Progress, deps: LocationSet) -> Progress
     ensures { λ r. ⌜ r ≡ progressUnmade c deps ⌝ }
 {

@@ -6,7 +6,7 @@ use Prim.Native.Nat.{ℕ, zero, suc, _+_, _-_, _*_, _/_, _%_, _^_, _<_, _≤_}
 use native.Mathlib.Nat.{add-zero, le-refl}
 use native.Mathlib.Numerals.{add-one, add-two, add-three, add-four}
 use native.Mathlib.Omega.{arith}
-use lib.ListN.{length, getD, set}
+use lib.ListN.{length, set}
 use lib.Seq.{sets, length-sets, set-set, set-comm}
 use Rattle.location.specs.declared.LocationSet.{LocationSet}
 use Rattle.location.specs.Sets.{limit, empty, single, only, none}
@@ -15,15 +15,6 @@ use Rattle.rules.specs.declared.Tagged.{Tagged}
 use Rattle.rules.specs.Rules.Expressions.{tagged}
 use Rattle.work.specs.Layout.{operandBase, changeBase}
 use Rattle.work.specs.Words.{taggedIn, taggedAt, storedIn, stored, numberAt, operandLogged, changed, undone, taggedWords}
-
--- a list of four is its four elements
-pub four : (l : List ℕ) → length l ≡ 4 → getD l 0 0 ∷ getD l 1 0 ∷ getD l 2 0 ∷ getD l 3 0 ∷ [] ≡ l
-four [] h = absurd (omega arith)
-four (a ∷ []) h = absurd (omega arith)
-four (a ∷ b ∷ []) h = absurd (omega arith)
-four (a ∷ b ∷ c ∷ []) h = absurd (omega arith)
-four (a ∷ b ∷ c ∷ d ∷ []) h = refl
-four (a ∷ b ∷ c ∷ d ∷ e ∷ l) h = absurd (omega arith)
 
 pub store-five : (w : List ℕ) (i a b c d e : ℕ)
     → set (set (set (set (set w i a) (i + 1) b) (i + 2) c) (i + 3) d) (i + 4) e ≡ sets w i (a ∷ b ∷ c ∷ d ∷ e ∷ [])

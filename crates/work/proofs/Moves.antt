@@ -19,7 +19,7 @@ use Rattle.rules.specs.Rules.Changes.{Change, reworded}
 use Rattle.work.specs.declared.OpenBranch.{OpenBranch}
 use Rattle.work.specs.declared.machine.Control.{Control}
 use Rattle.work.specs.declared.machine.RolledBack.{RolledBack}
-use Rattle.work.specs.Layout.{operandBase, operands, changeBase, branchBase, labels, logBase, firstBranch}
+use Rattle.work.specs.Layout.{operandBase, operands, changeBase, branchBase, reports, logBase, firstBranch}
 use Rattle.work.specs.Words.{taggedAt, stored, countIn, appended, numberAt, changeAt, changed, extended, undone, branchAt, branchStored}
 use Rattle.work.specs.Words.{windowAt, taggedWords}
 use Rattle.work.specs.Machines.{stateIn, withOperand, withEntry, savedAt, branchesOf, machineOf, maxWindow, WindowBound, LogBound, Fit, Left}
@@ -34,6 +34,10 @@ use Rattle.work.proofs.Branches.{top-left, bound-left, logged-branches,
 together-bound : (e : ℕ → OpenBranch) (v d k : ℕ) → WindowBound e v d k → k + d ≤ maxWindow + 1
 together-bound e v zero k h = let z = h .0 in omega arith
 together-bound e v (suc d) k h = let b = h .1 in omega arith
+
+log-bound : (e : ℕ → OpenBranch) (v d k : ℕ) → WindowBound e v d k → k ≤ maxWindow
+log-bound e v zero k h = let z = h .0 in omega arith
+log-bound e v (suc d) k h = let b = h .1 in omega arith
 
 -- how many changes and branches there are together
 pub fit-bound : {w : List ℕ} {c : Control} → Fit w c → c .log + c .depth ≤ maxWindow + 1
@@ -70,7 +74,7 @@ go-law w c p v f b =
 
 -- ---- rule 3, with another state: `next` gives it, and the words w₁ hold it
 module _ (w w₁ : List ℕ) (c : Control) (p v : ℕ) (next : State → State) (f : Fit w c) (b : Left c v)
-    (state : (n : ℕ) → n ≤ limit → stateIn w₁ n ≡ next (stateIn w n)) (size : length w₁ ≡ length w) (frame : drop labels w₁ ≡ drop labels w) where
+    (state : (n : ℕ) → n ≤ limit → stateIn w₁ n ≡ next (stateIn w n)) (size : length w₁ ≡ length w) (frame : drop reports w₁ ≡ drop reports w) where
   abbrev k : ℕ
   k = c .log
 
@@ -128,8 +132,8 @@ module _ (w w₁ : List ℕ) (c : Control) (p v : ℕ) (next : State → State) 
       }
 
 -- the log has room for one change more, before the branches
-log-room : {w : List ℕ} {c : Control} → Fit w c → changeBase (c .log) + 6 ≤ labels
-log-room f = let b = fit-bound f in omega arith
+log-room : {w : List ℕ} {c : Control} → Fit w c → changeBase (c .log) + 6 ≤ reports
+log-room {w} {c} f = let b = log-bound (branchAt w) (c .window) (c .depth) (c .log) (f .bound) in omega arith
 
 -- operand l given the word x
 module _ (w : List ℕ) (c : Control) (l p v : ℕ) (x : Tagged) (f : Fit w c) (b : Left c v) (hl : l < operands) (e : length (x .deps .words) ≡ 4) where
@@ -142,15 +146,15 @@ module _ (w : List ℕ) (c : Control) (l p v : ℕ) (x : Tagged) (f : Fit w c) (
   pub give-plain : c .depth ≡ 0 → Moves w (stored w l x) c (gone c p v) (λ M. ordinaryNext M (withOperand (M .state) l x) p v)
   give-plain =
       stored-plain w (stored w l x) c p v (λ σ. withOperand σ l x) f b (λ n hn. state-stored w n l x hn hl e (omega (arith, f .room)))
-      (length-sets w (operandBase l) (taggedWords x)) (drop-sets (taggedWords x) w (operandBase l) labels (omega arith))
+      (length-sets w (operandBase l) (taggedWords x)) (drop-sets (taggedWords x) w (operandBase l) reports (omega arith))
 
   pub give-open : (c .depth ≡ 0 → ⊥) → Moves w (changed w (c .log) l x) c (loggedTo c p v) (λ M. ordinaryNext M (withOperand (M .state) l x) p v)
   give-open o =
       let q = log-room f in
       stored-open w (changed w (c .log) l x) c p v (λ σ. withOperand σ l x) f b (λ n hn. changed-state w n (c .log) l x hn hl room e)
       (length-changed w (c .log) l x)
-      (drop-sets (taggedWords x) (sets w (changeBase (c .log)) old) (operandBase l) labels (omega arith)
-      ∙ drop-sets old w (changeBase (c .log)) labels (omega arith))
+      (drop-sets (taggedWords x) (sets w (changeBase (c .log)) old) (operandBase l) reports (omega arith)
+      ∙ drop-sets old w (changeBase (c .log)) reports (omega arith))
       o (λ n hn. changed-logged w n (c .log) l x hn hl room e) (changed-log w 0 (c .log) l x (omega arith) hl room e (f .log))
       (changed-branch w 0 (c .log) l x (omega arith) hl room e)
 
@@ -179,14 +183,14 @@ module _ (w : List ℕ) (c : Control) (i a p v : ℕ) (x : Tagged) (f : Fit w c)
   append-plain =
       stored-plain w (appended w i a x) c p v (λ σ. withEntry σ a x) f b (λ n hn. appended-state w i a x hi past-log e n hn hc)
       (appended-length w i a x hi past-log e)
-      (drop-past (appended w i a x) w logBase labels (omega arith) (appended-drop w i a x hi past-log e))
+      (drop-past (appended w i a x) w logBase reports (omega arith) (appended-drop w i a x hi past-log e))
 
   pub append-open : (c .depth ≡ 0 → ⊥) → Moves w (extended w (c .log) i a x) c (loggedTo c p v) (λ M. ordinaryNext M (withEntry (M .state) a x) p v)
   append-open o =
       let q = log-room f in
       let r : changeBase (c .log) + 6 ≤ length w = omega (arith, f .room) in
       stored-open w (extended w (c .log) i a x) c p v (λ σ. withEntry σ a x) f b (λ n hn. extended-state w n (c .log) i a x hn hi hc r e)
-      (extended-length w 0 (c .log) i a x (omega arith) hi hc r e) (extended-frame w 0 (c .log) i a x (omega arith) hi hc r e labels q)
+      (extended-length w 0 (c .log) i a x (omega arith) hi hc r e) (extended-frame w 0 (c .log) i a x (omega arith) hi hc r e reports q)
       o (λ n hn. extended-logged w n (c .log) i a x hn hi hc r e) (extended-log w 0 (c .log) i a x (omega arith) hi hc r e (f .log))
       (extended-branch w 0 (c .log) i a x (omega arith) hi hc r e)
 
@@ -237,7 +241,7 @@ module _ (w : List ℕ) (c : Control) (p t u v : ℕ) (f : Fit w c) (b : Left c 
           opened = let o = f .opened in omega arith;
           log = pushed-log w 0 k d new (omega arith) r i refl h (f .log);
         };
-        frame = drop-sets ns w (branchBase d) labels (omega arith);
+        frame = drop-sets ns w (branchBase d) reports (omega arith);
       }
 
   pub open-law : (x : ℕ) → x ≡ windowAt (c .depth) u v → Moves w w₁ c (deeper x) (λ M. openingNext M p t u v)
@@ -339,5 +343,5 @@ module _ (w w₁ : List ℕ) (c : Control) (y : OpenBranch) (f : Fit w c) (h : 0
           opened = let o = f .opened in omega arith;
           log = subst (λ (j : ℕ). LogBound (numberAt w₁) (changeAt w₁) j (countIn w₁)) left (restored .log);
         };
-        frame = drop-past w₁ w logBase labels (omega arith) past;
+        frame = drop-past w₁ w logBase reports (omega arith) past;
       }

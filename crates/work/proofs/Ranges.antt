@@ -13,7 +13,7 @@ use Rattle.rules.specs.declared.Tagged.{Tagged}
 use Rattle.work.specs.declared.OpenBranch.{OpenBranch}
 use Rattle.work.specs.Layout.{changeBase, branchBase, logBase}
 use Rattle.work.specs.Words.{taggedIn, storedIn, numberAt, changeIn, changeAt, branchAt, branchStored, taggedWords}
-use Rattle.work.proofs.Laws.{four}
+use Rattle.location.proofs.Laws.{four}
 
 -- the n words from one on are the same in both
 pub record SameRange (w w′ : List ℕ) (from n : ℕ) : Type 0 where

@@ -40,7 +40,14 @@ firstBranch = 1202
 abbrev pub branchBase : ℕ → ℕ
 branchBase k = logBase + (firstBranch - 4 * k)
 
--- words 3576 to 4087: the word of each of 512 labels; words 1669 to 1679, 2886 to 3575 and 4088 to 4095 are free
+-- words 2886 to 3141: what is reported of each location, one word each; here the words of the machine end
+abbrev pub reports : ℕ
+reports = 2886
+
+abbrev pub reportBase : ℕ → ℕ
+reportBase l = reports + l
+
+-- words 3576 to 4087: the word of each of 512 labels; words 1669 to 1679, 3142 to 3575 and 4088 to 4095 are free
 abbrev pub labels : ℕ
 labels = 3576
 

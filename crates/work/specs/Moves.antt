@@ -9,7 +9,7 @@ use Rattle.rules.specs.Rules.Plain.{State}
 use Rattle.rules.specs.Rules.Mispredicting.{Branch, Machine, rolling}
 use Rattle.work.specs.declared.machine.Control.{Control}
 use Rattle.work.specs.declared.machine.RolledBack.{RolledBack}
-use Rattle.work.specs.Layout.{labels}
+use Rattle.work.specs.Layout.{reports}
 use Rattle.work.specs.Machines.{machineOf, Fit}
 
 -- the branches with v left of the top's window
@@ -43,11 +43,11 @@ openingNext M p target w v = record {
   opened = suc (M .opened);
 }
 
--- The words of one machine become those of the next, for any number of locations. The words from the table of labels on stay.
+-- The words of one machine become those of the next, for any number of locations. The words past the machine's stay.
 pub record Moves (w w′ : List ℕ) (c c′ : Control) (next : Machine → Machine) : Type 0 where
   pub machine : (n : ℕ) → n ≤ limit → machineOf w′ c′ n ≡ next (machineOf w c n)
   pub fits : Fit w′ c′
-  pub frame : drop labels w′ ≡ drop labels w
+  pub frame : drop reports w′ ≡ drop reports w
 
 -- Rule 1 on the top branch b.
 pub record RollsBack (w w′ : List ℕ) (c : Control) (r : RolledBack) : Type 0 where
@@ -56,4 +56,4 @@ pub record RollsBack (w w′ : List ℕ) (c : Control) (r : RolledBack) : Type 0
   pub id : (n : ℕ) (b : Branch) (bs : List Branch) → machineOf w c n .branches ≡ b ∷ bs → r .id ≡ b .id
   pub target : (n : ℕ) (b : Branch) (bs : List Branch) → machineOf w c n .branches ≡ b ∷ bs → r .target ≡ b .target
   pub fits : Fit w′ (r .control)
-  pub frame : drop labels w′ ≡ drop labels w
+  pub frame : drop reports w′ ≡ drop reports w

@@ -1,5 +1,5 @@
 // The state of a run in the working words that the caller lends: an operand for each location, the table of stores outside the image, the
-// log of changes, the open branches and the table of labels. specs/Layout.antt has the layout of the constants below for the proofs.
+// log of changes, the open branches, the words of the reports and the table of labels. specs/Layout.antt has the layout of the constants below for the proofs.
 pub mod machine;
 
 use location::Location;
@@ -36,6 +36,8 @@ pub const CHANGE: usize = 6;
 pub const BRANCHES: usize = 1202;
 // How many words a branch has.
 pub const BRANCH: usize = 4;
+// Location l has the word of its report, as the crate `firsts` makes it, at REPORTS + l. The machine's words end before it.
+pub const REPORTS: usize = 2886;
 // Label i has the word of its instruction, as the crate `descriptor` makes it, at LABELS + i.
 pub const LABELS: usize = 3576;
 // How many words there are; specs/Layout.antt says which of them are free.

@@ -1,4 +1,6 @@
 -- `write_run` meets its contract: every word of the answer is written. Assumes nothing.
+use mathlib.Core.Path.{_≡_}
+use lib.ListN.{length}
 use Rattle.answer_words.proofs.Laws.{run-written}
 use borrow.Author.Needs.{needs}
 use Rattle.answer_words.proofs.write_run.Statement.{statement}
@@ -6,11 +8,14 @@ use Rattle.answer_words.proofs.write_run.Tie as tie
 
 returns : tie.Need-returns
 returns c =
-    let at-counts = c .before in
+    let at-verdict = c .before .before in
+    let at-counts = at-verdict .before in
     let at-start = at-counts .before .before .before .before in
     let a = at-start .args in
-    run-written (a .answer .now) (a .c) (a .full) (a .plain) (a .v) (search needs) (search needs) (at-counts .write-counts .ensures)
-    (c .verdict-number .ensures)
+    let hf : length (a .full .words) ≡ 4 = search (needs, at-start .good .1 .0) in
+    let hp : length (a .plain .words) ≡ 4 = search (needs, at-start .good .1 .1 .0) in
+    run-written (a .answer .now) (a .c) (a .full) (a .plain) (a .v) (a .firsts) hf hp (at-counts .write-counts .ensures)
+    (at-verdict .verdict-number .ensures) (c .write-reports .ensures)
 
 pub write-run-spec : {M : Type 1} → statement M
 write-run-spec =
@@ -35,4 +40,5 @@ write-run-spec =
     (λ c. search needs)
     (λ c κs. search needs)
     (λ c. search needs)
+    (λ c κs. search needs)
     returns)

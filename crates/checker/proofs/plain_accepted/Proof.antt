@@ -32,17 +32,23 @@ run-in-areas-requires c κs =
     areas-fit (at-start .pre) (a .trace .now) (a .end .now) (a .work .now)
     (rw (at-locations .locations .ensures) at (at-areas-fit .areas-fit .ensures)) (not-false _ (at-if1 .if1 .left))
 
+clear-requires : tie.Need-clear-requires
+clear-requires c κs =
+    let at-run-in-areas = c .before .before .before .before .before .before .before in
+    at-run-in-areas .run-in-areas .ensures .work
+
 returns-2 : tie.Need-returns-2
 returns-2 c =
-    let at-run-in-areas = c .before .before .before .before .before .before .before in
+    let at-clear = c .before .before .before in
+    let at-run-in-areas = at-clear .before .before .before .before .before .before .before .before in
     let at-if1 = at-run-in-areas .before .before .before .before in
     let at-areas-fit = at-if1 .before in
     let at-locations = at-areas-fit .before .before .before in
     let at-start = at-locations .before .before .before .before .before in
     let a = at-start .args in
     plain-ran (at-start .pre) (a .trace .now) (a .end .now) (a .work .now)
-    (rw (at-locations .locations .ensures) at (at-areas-fit .areas-fit .ensures)) (not-false _ (at-if1 .if1 .left))
-    (at-run-in-areas .run-in-areas .ensures) (c .plain-report .ensures)
+    (rw (at-locations .locations .ensures) at (at-areas-fit .areas-fit .ensures)) (not-false _ (at-if1 .if1 .left)) _
+    (at-run-in-areas .run-in-areas .ensures) (c .plain-report .ensures) (at-clear .clear .ensures)
 
 pub plain-accepted-spec : {M : Type 1} → statement M
 plain-accepted-spec =
@@ -55,6 +61,7 @@ plain-accepted-spec =
     (λ c. search needs)
     returns
     run-in-areas-requires
+    clear-requires
     (λ c κs. search needs)
     (λ c. search needs)
     (λ c. search needs)

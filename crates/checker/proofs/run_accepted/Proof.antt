@@ -32,17 +32,29 @@ run-in-areas-requires c κs =
     areas-fit (at-start .pre .0) (a .trace .now) (a .end .now) (a .work .now)
     (rw (at-locations .locations .ensures) at (at-areas-fit .areas-fit .ensures)) (not-false _ (at-if1 .if1 .left))
 
+report-requires : tie.Need-report-requires
+report-requires c κs =
+    let at-run-in-areas = c .before .before .before .before .before .before .before in
+    at-run-in-areas .run-in-areas .ensures .work
+
+clear-requires : tie.Need-clear-requires
+clear-requires c κs =
+    let at-run-in-areas = c .before .before .before .before .before .before .before .before .before in
+    at-run-in-areas .run-in-areas .ensures .work
+
 returns-2 : tie.Need-returns-2
 returns-2 c =
-    let at-run-in-areas = c .before .before .before .before .before .before .before in
+    let at-clear = c .before .before in
+    let at-report = at-clear .before .before in
+    let at-run-in-areas = at-report .before .before .before .before .before .before .before .before in
     let at-if1 = at-run-in-areas .before .before .before .before in
     let at-areas-fit = at-if1 .before in
     let at-locations = at-areas-fit .before .before .before in
     let at-start = at-locations .before .before .before .before .before in
     let a = at-start .args in
     exact-ran (at-start .pre .0) (a .trace .now) (a .end .now) (a .work .now)
-    (rw (at-locations .locations .ensures) at (at-areas-fit .areas-fit .ensures)) (not-false _ (at-if1 .if1 .left))
-    (at-run-in-areas .run-in-areas .ensures) (at-start .pre .1) (c .report .ensures)
+    (rw (at-locations .locations .ensures) at (at-areas-fit .areas-fit .ensures)) (not-false _ (at-if1 .if1 .left)) _
+    (at-run-in-areas .run-in-areas .ensures) (at-start .pre .1) (at-report .report .ensures) (at-clear .clear .ensures)
 
 pub run-accepted-spec : {M : Type 1} → statement M
 run-accepted-spec =
@@ -55,7 +67,8 @@ run-accepted-spec =
     (λ c. search needs)
     returns
     run-in-areas-requires
-    (λ c κs. search needs)
+    report-requires
+    clear-requires
     (λ c. search needs)
     (λ c. search needs)
     (λ c. search needs)

@@ -7,13 +7,13 @@ use Rattle.checker_c.proofs.checker_run.Tie as tie
 returns : tie.Need-returns
 returns c =
     let at-arm = c .before .before in
-    let at-call = at-arm .before .before .before .before .before .before .before .before .before .before in
+    let at-call = at-arm .before .before .before .before .before .before .before .before .before .before .before in
     run-refused (at-call .run .ensures) (at-arm .outcome .given .1) (c .refusal-number .ensures)
 
 returns-2 : tie.Need-returns-2
 returns-2 c =
     let at-arm = c .before .before .before in
-    let at-call = at-arm .before .before .before .before .before .before .before .before .before .before in
+    let at-call = at-arm .before .before .before .before .before .before .before .before .before .before .before in
     run-returned (at-call .run .ensures) (at-arm .outcome2 .given .1) (c .write-run .ensures)
 
 pub checker-run-spec : {M : Type 1} → statement M

@@ -1,4 +1,4 @@
--- `job_run::run_in_areas` meets its contract: the run is made, its last state is saved, the working words are cleared. Assumes nothing.
+-- `job_run::run_in_areas` meets its contract: the run is made and its last state is saved. Assumes nothing.
 use native.Mathlib.Omega.{arith}
 use Rattle.job_run.specs.Accepted.{accepted-limits, accepted-list, accepted-length}
 use Rattle.job_run.proofs.Laws.{same-part, run-in}
@@ -49,21 +49,9 @@ save-state-requires c κs =
     let n = k .end in
     (omega arith, omega arith, omega arith)
 
-clear-requires : tie.Need-clear-requires
-clear-requires c κs =
-    let at-run = c .before .before .before .before .before .before .before .before .before .before .before in
-    let at-load = at-run .before .before .before .before .before .before in
-    let at-start = at-load .before .before .before .before .before .before in
-    let a = at-start .args in
-    let o = at-load .load .ensures .runs (a .mode) _ _ _ _ _ (same-part (a .t .state) (a .job .now)) (at-run .run .ensures) in
-    let s = o .size in
-    let m = at-start .pre .work in
-    omega arith
-
 returns : tie.Need-returns
 returns c =
-    let at-clear = c .before .before in
-    let at-save-state = at-clear .before .before .before .before in
+    let at-save-state = c .before .before in
     let at-locations = at-save-state .before .before .before in
     let at-run = at-locations .before .before .before .before .before in
     let at-load = at-run .before .before .before .before .before .before in
@@ -71,7 +59,7 @@ returns c =
     let a = at-start .args in
     let o = at-load .load .ensures .runs (a .mode) _ _ _ _ _ (same-part (a .t .state) (a .job .now)) (at-run .run .ensures) in
     run-in (at-start .pre .accepts) (a .mode) o
-    (rw (at-locations .locations .ensures) at (at-save-state .save-state .ensures)) (at-clear .clear .ensures)
+    (rw (at-locations .locations .ensures) at (at-save-state .save-state .ensures)) (at-start .pre .work)
 
 pub run-in-areas-spec : {M : Type 1} → statement M
 run-in-areas-spec =
@@ -84,7 +72,6 @@ run-in-areas-spec =
     run-requires
     locations-requires
     save-state-requires
-    clear-requires
     (λ c. search needs)
     (λ c. search needs)
     (λ c. search needs)

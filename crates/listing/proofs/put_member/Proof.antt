@@ -12,10 +12,10 @@ put-location-requires : tie.Need-put-location-requires
 put-location-requires c κs =
     let at-if1 = c .before in
     let at-member = at-if1 .before in
-    let at-location-of = at-member .before in
-    let at-start = at-location-of .before .before in
+    let at-new = at-member .before in
+    let at-start = at-new .before .before in
     let a = at-start .args in
-    let l = at-location-of .location-of in
+    let l = at-new .new in
     let m = at-member .member in
     omega (arith, ap length (member-text (a .s) (a .l) (l .result .0) (m .result) (l .ensures) (m .ensures) (at-if1 .if1 .taken)))
 
@@ -24,20 +24,20 @@ returns c =
     let at-put-location = c .before .before in
     let at-if1 = at-put-location .before .before in
     let at-member = at-if1 .before in
-    let at-location-of = at-member .before in
-    let at-start = at-location-of .before .before in
+    let at-new = at-member .before in
+    let at-start = at-new .before .before in
     let a = at-start .args in
-    let l = at-location-of .location-of in
+    let l = at-new .new in
     let m = at-member .member in
     rw (member-text (a .s) (a .l) (l .result .0) (m .result) (l .ensures) (m .ensures) (at-if1 .if1 .taken)) (at-put-location .put-location .ensures)
 
 returns-2 : tie.Need-returns-2
 returns-2 c =
     let at-member = c .before in
-    let at-location-of = at-member .before in
-    let at-start = at-location-of .before .before in
+    let at-new = at-member .before in
+    let at-start = at-new .before .before in
     let a = at-start .args in
-    let l = at-location-of .location-of in
+    let l = at-new .new in
     let m = at-member .member in
     rw (no-member-text (a .s) (a .l) (l .result .0) (m .result) (l .ensures) (m .ensures) (c .if1 .left)) (put-nothing (a .out .now) (a .at))
 

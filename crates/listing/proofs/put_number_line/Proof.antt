@@ -1,4 +1,4 @@
--- `put_number_line` meets its contract: the word, a blank, the digits and the newline one after the other. Assumes nothing.
+-- `put_number_line` meets its contract: the word, the number and the newline one after the other. Assumes nothing.
 use native.Mathlib.Omega.{arith}
 use Rattle.rules.specs.Rules.Listing.{line, numberLine}
 use Rattle.byte_writer.specs.Texts.{put-append}
@@ -9,49 +9,37 @@ use Rattle.listing.proofs.put_number_line.Tie as tie
 
 put-text-requires : tie.Need-put-text-requires
 put-text-requires c κs =
-    let at-start = c .before .before .before in
-    let a = at-start .args in
+    let a = c .before .before .before .args in
+    omega (arith, number-line-length (a .word .now) (a .n))
+
+put-number-requires : tie.Need-put-number-requires
+put-number-requires c κs =
+    let word = c .before .before .before in
+    let a = word .before .before .before .before .args in
     omega (arith, number-line-length (a .word .now) (a .n))
 
 put-text-requires-2 : tie.Need-put-text-requires-2
 put-text-requires-2 c κs =
-    let at-start = c .before .before .before .before .before .before .before .before in
-    let a = at-start .args in
-    omega (arith, number-line-length (a .word .now) (a .n))
-
-put-decimal-requires : tie.Need-put-decimal-requires
-put-decimal-requires c κs =
-    let at-start = c .before .before .before .before .before .before .before .before .before .before .before .before in
-    let a = at-start .args in
-    omega (arith, number-line-length (a .word .now) (a .n))
-
-put-text-requires-3 : tie.Need-put-text-requires-3
-put-text-requires-3 c κs =
-    let back-1 = c .before .before .before .before .before .before .before .before .before .before .before .before in
-    let at-start = back-1 .before .before .before .before .before in
-    let a = at-start .args in
+    let number = c .before .before .before .before in
+    let word = number .before .before .before .before in
+    let a = word .before .before .before .before .args in
     omega (arith, number-line-length (a .word .now) (a .n))
 
 returns : tie.Need-returns
 unfolding numberLine line
 returns c =
     let newline = c .before .before in
-    let digits = newline .before .before .before .before .before in
-    let blank = digits .before .before .before .before in
-    let word = blank .before .before .before .before .before in
-    put-append
-    (put-append (word .put-text .ensures) (put-append (blank .put-text2 .ensures) (digits .put-decimal .ensures)))
-    (newline .put-text3 .ensures)
+    let number = newline .before .before .before .before .before in
+    let word = number .before .before .before .before in
+    put-append (put-append (word .put-text .ensures) (number .put-number .ensures)) (newline .put-text2 .ensures)
 
 pub put-number-line-spec : {M : Type 1} → statement M
 put-number-line-spec =
     tie.close
     (tie.spec
     put-text-requires
+    put-number-requires
     (λ c. search needs)
     put-text-requires-2
-    put-decimal-requires
-    (λ c. search needs)
-    put-text-requires-3
     (λ c. search needs)
     returns)

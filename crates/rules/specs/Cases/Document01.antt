@@ -55,12 +55,13 @@ r01 = 0 ∷ 1 ∷ []
 unfoldable pub r01m1 : List ℕ
 r01m1 = 0 ∷ 1 ∷ 17 ∷ []
 
--- the printed run, line by line
+-- the printed run, line by line; the last three as document 02's F-6 has them
 unfoldable pub listing01 : List ℕ
 listing01 =
     lines (
     "start 0" ∷ "pc 2" ∷ "load 1" ∷ "load 3" ∷ "rollback 0" ∷ "pc end"
-    ∷ "stop finished" ∷ "steps 5" ∷ "rollbacks 1" ∷ "depends r0 r1 m1" ∷ "plain r0 r1" ∷ "verdict speculative" ∷ []
+    ∷ "stop finished" ∷ "steps 5" ∷ "rollbacks 1" ∷ "depends r0 r1 m1" ∷ "plain r0 r1" ∷ "verdict speculative"
+    ∷ "first r0 0 branch 1" ∷ "first r1 0 branch 1" ∷ "first m1 3 load 3" ∷ []
     )
 
 unfoldable pub document01 : List Row

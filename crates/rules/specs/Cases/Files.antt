@@ -3,12 +3,14 @@
 use mathlib.Core.Bool.{Bool, true}
 use mathlib.Core.List.{List, [], _∷_, _++_}
 use Prim.Native.Nat.{ℕ, _+_, _-_, _*_}
-use lib.ListN.{length, replicate}
+use lib.ListN.{length, set, replicate}
 use Rattle.location.specs.declared.LocationSet.{LocationSet}
-use Rattle.location.specs.Sets.{empty, single, union}
+use Rattle.location.specs.Sets.{limit, empty, single, union}
 use Rattle.rules.specs.declared.Stop.{Stop}
 use Rattle.rules.specs.declared.Verdict.{Verdict}
 use Rattle.rules.specs.declared.Counts.{Counts}
+use Rattle.rules.specs.declared.Cause.{Cause}
+use Rattle.rules.specs.declared.First.{First}
 use Rattle.rules.specs.declared.RunOutcome.the-variants as runs
 use Rattle.rules.specs.declared.RunAnswer.{RunAnswer}
 use Rattle.rules.specs.declared.PairAnswer.{PairAnswer}
@@ -17,8 +19,9 @@ use Rattle.rules.specs.declared.PlainOutcome.the-variants as plains
 use Rattle.rules.specs.declared.PlainAnswer.{PlainAnswer}
 use Rattle.rules.specs.declared.Tagged.{Tagged}
 use Prim.Native.String.{String}
-use Rattle.rules.specs.Rules.Answers.{text}
+use Rattle.rules.specs.Rules.Answers.{causeNumber, text}
 use Rattle.rules.specs.Rules.Expressions.{tagged}
+use Rattle.rules.specs.Rules.Firsts.{noReport}
 use Rattle.rules.specs.Rules.Plain.{Entry, at}
 use Rattle.rules.specs.Rules.Runs.{mispredictingRun, plainRun}
 use Rattle.rules.specs.Rules.JobFile.{Parsed, accepted, rejected, parse}
@@ -57,13 +60,37 @@ setOf (l ∷ ls) = union (single l) (setOf ls)
 abbrev pub counted : Stop → ℕ → ℕ → ℕ → Counts
 counted stop observations steps rollbacks = record { stop = stop; observations = observations; steps = steps; rollbacks = rollbacks }
 
--- an answer by its stop, counts of observations, steps and rollbacks, the locations of D and of the plain set, and verdict
+-- an answer by its stop, counts of observations, steps and rollbacks, the locations of D and of the plain set, and verdict, without
+-- its reports
 unfoldable pub ran : Stop → ℕ → ℕ → ℕ → List ℕ → List ℕ → Verdict → RunAnswer
 ran stop observations steps rollbacks full plain word = record {
   outcome = runs.Ran (counted stop observations steps rollbacks) word;
   full = setOf full;
   plain = setOf plain;
+  firsts = [];
 }
+
+-- an answer without its reports, which have rows of their own
+unfoldable pub unreported : RunAnswer → RunAnswer
+unreported r = record { outcome = r .outcome; full = r .full; plain = r .plain; firsts = [] }
+
+-- a report: the location, the index, the rule and the label
+pub record Report : Type 0 where
+  pub location : ℕ
+  pub first : First
+
+abbrev pub report : ℕ → ℕ → Cause → ℕ → Report
+report l index cause label = record { location = l; first = record { index = index; label = label; cause = cause } }
+
+-- the reports of all locations: these, and nothing of any other location
+unfoldable pub reports : List Report → List First
+reports [] = replicate limit noReport
+reports (r ∷ rs) = set (reports rs) (r .location) (r .first)
+
+-- as words
+unfoldable pub reportWords : List First → List ℕ
+reportWords [] = []
+reportWords (x ∷ xs) = x .index ∷ causeNumber (x .cause) ∷ x .label ∷ reportWords xs
 
 -- a plain run's answer by its stop, counts of observations and steps, and the locations of its plain set
 unfoldable pub plainRan : Stop → ℕ → ℕ → List ℕ → PlainAnswer
@@ -92,14 +119,17 @@ pub data Row : Type 0 where
   ends : List ℕ → Areas → RunAnswer → List ℕ → Row
   -- the entries of the table of stores outside the image after a run
   keeps : List ℕ → List Entry → Row
+  -- a run: the job, the words of the trace area, and what is reported of the locations of D
+  brings : List ℕ → ℕ → List Report → Row
   -- the words that are made from a seed
   makes : ℕ → List ℕ → Row
   -- the job, a seed, the stop of the job's own run, and whether the plain trace of the new state is the job's
   plainly : List ℕ → ℕ → Stop → Bool → Row
 
 -- What is compared: an answer with trace areas, whether a listing is the wanted one, an answer with all areas, an answer with whether the
--- end area is the wanted one, a word with its set, a table, words that are made, a stop with whether two traces are the same; or that the
--- job is refused. Where there are many words, whether they are the wanted ones computes in far fewer steps than the words side by side.
+-- end area is the wanted one, a word with its set, a table, whether the reports are the wanted ones, words that are made, a stop with whether
+-- two traces are the same; or that the job is refused. Where there are many words, whether they are the wanted ones computes in far fewer
+-- steps than the words side by side.
 pub data Seen : Type 0 where
   ranTo : RunAnswer → List ℕ → Seen
   plainTo : PlainAnswer → List ℕ → Seen
@@ -112,6 +142,7 @@ pub data Seen : Type 0 where
   endedAs : RunAnswer → Bool → Seen
   word : Tagged → Seen
   table : List Entry → Seen
+  brought : Bool → Seen
   made : List ℕ → Seen
   compared : Stop → Bool → Seen
   refused : Seen
@@ -149,7 +180,7 @@ plainTraces (accepted job) seed =
 unfoldable pub given : Row → Seen
 given (run job n trace answer) =
     let c = runCall job (areas n) in
-    ranTo (c .answer) (c .areas .trace)
+    ranTo (unreported (c .answer)) (c .areas .trace)
 given (pair job second n trace trace′ answer) =
     let c = pairCall job second (pairAreas n) in
     pairedTo (c .answer) (c .areas .first) (c .areas .second)
@@ -159,7 +190,7 @@ given (plain job n trace answer) =
     plainTo (c .answer) (c .areas .trace)
 given (leaves job before answer after) =
     let c = runCall job before in
-    left (c .answer) (c .areas)
+    left (unreported (c .answer)) (c .areas)
 given (plainLeaves job before answer after) =
     let c = plainCall job before in
     plainLeft (c .answer) (c .areas)
@@ -168,24 +199,26 @@ given (pairLeaves job second before answer after) =
     pairLeft (c .answer) (c .areas)
 given (ends job before answer after) =
     let c = runCall job before in
-    endedAs (c .answer) (sameWords (c .areas .end) after)
+    endedAs (unreported (c .answer)) (sameWords (c .areas .end) after)
 given (holds job l t) = word (lastAt (parse job) l)
 given (keeps job es) = table (lastTable (parse job))
+given (brings job n rs) = brought (sameWords (reportWords (runCall job (areas n) .answer .firsts)) (reportWords (reports rs)))
 given (testLeaves job seed before answer after) = testLeft (testLoadCall job seed before)
 given (makes seed ws) = made (newWords empty 0 seed (zeros (length ws)))
 given (plainly job seed stop same) = plainTraces (parse job) seed
 
 unfoldable pub wanted : Row → Seen
-wanted (run job n trace answer) = ranTo answer (front n trace)
+wanted (run job n trace answer) = ranTo (unreported answer) (front n trace)
 wanted (pair job second n trace trace′ answer) = pairedTo answer (front n trace) (front n trace′)
 wanted (prints job bytes) = printed true
 wanted (plain job n trace answer) = plainTo answer (front n trace)
-wanted (leaves job before answer after) = left answer after
+wanted (leaves job before answer after) = left (unreported answer) after
 wanted (plainLeaves job before answer after) = plainLeft answer after
 wanted (pairLeaves job second before answer after) = pairLeft answer after
-wanted (ends job before answer after) = endedAs answer true
+wanted (ends job before answer after) = endedAs (unreported answer) true
 wanted (holds job l t) = word t
 wanted (keeps job es) = table es
+wanted (brings job n rs) = brought true
 wanted (testLeaves job seed before answer after) = testLeft (record { answer = answer; areas = after })
 wanted (makes seed ws) = made ws
 wanted (plainly job seed stop same) = compared stop same

@@ -213,6 +213,9 @@ outsideFull =
     (fillingLines 0 64
     ++ lines (
     "load 0" ∷ "stop outside full" ∷ "steps 65" ∷ "rollbacks 0" ∷ "depends r0 r1 r2 r3 r4 r5 r6 r7 r8 r9 r10 r11 r12 r13 r14 r15 m0"
-    ∷ "plain r0 r1 r2 r3 r4 r5 r6 r7 r8 r9 r10 r11 r12 r13 r14 r15 m0" ∷ "verdict undecided" ∷ []
+    ∷ "plain r0 r1 r2 r3 r4 r5 r6 r7 r8 r9 r10 r11 r12 r13 r14 r15 m0" ∷ "verdict undecided"
+    ∷ "first r0 0 store 0" ∷ "first r1 1 store 1" ∷ "first r2 2 store 2" ∷ "first r3 3 store 3" ∷ "first r4 4 store 4" ∷ "first r5 5 store 5"
+    ∷ "first r6 6 store 6" ∷ "first r7 7 store 7" ∷ "first r8 0 store 0" ∷ "first r9 8 store 8" ∷ "first r10 16 store 16" ∷ "first r11 24 store 24"
+    ∷ "first r12 32 store 32" ∷ "first r13 40 store 40" ∷ "first r14 48 store 48" ∷ "first r15 56 store 56" ∷ "first m0 65 store 65" ∷ []
     ))
     ∷ []

@@ -145,9 +145,10 @@ readings =
     (record { trace = filled 9; end = filled 149; work = filled 4095 })
     -- only a place is printed as "end"; locations ascend, cells by their address; a missing file is an empty job
     ∷ prints (secretJob (2 ∷ 1 ∷ 1 ∷ 0 ∷ 2 ∷ 2 ∷ 1 ∷ 1 ∷ []) 2 (set zero17 0 2) 10)
-    (lines ("load 2" ∷ "load 0" ∷ "stop finished" ∷ "steps 2" ∷ "rollbacks 0" ∷ "depends r0" ∷ "plain r0" ∷ "verdict plain" ∷ []))
+    (lines ("load 2" ∷ "load 0" ∷ "stop finished" ∷ "steps 2" ∷ "rollbacks 0" ∷ "depends r0" ∷ "plain r0" ∷ "verdict plain" ∷ "first r0 0 load 0" ∷ []))
     ∷ prints (secretJob (2 ∷ 1 ∷ 1 ∷ 0 ∷ 2 ∷ 2 ∷ 1 ∷ 1 ∷ []) 2 zero17 10)
-    (lines ("load 0" ∷ "load 0" ∷ "stop finished" ∷ "steps 2" ∷ "rollbacks 0" ∷ "depends r0 m0" ∷ "plain r0 m0" ∷ "verdict plain" ∷ []))
+    (lines
+    ("load 0" ∷ "load 0" ∷ "stop finished" ∷ "steps 2" ∷ "rollbacks 0" ∷ "depends r0 m0" ∷ "plain r0 m0" ∷ "verdict plain" ∷ "first r0 0 load 0" ∷ "first m0 1 load 1" ∷ []))
     ∷ prints (secretJob (0 ∷ []) 1 (zeros 16) 0)
     (lines ("stop finished" ∷ "steps 1" ∷ "rollbacks 0" ∷ "depends" ∷ "plain" ∷ "verdict clean" ∷ []))
     ∷ prints [] (lines ("refused 1" ∷ []))
@@ -238,9 +239,9 @@ unfoldable pub listings : List Row
 listings =
     prints (secretJob (5 ∷ 0 ∷ 0 ∷ 0 ∷ []) 1 (set (zeros 16) 0 1) 1)
     (lines
-    ("start 0" ∷ "pc 0" ∷ "start 1" ∷ "pc 0" ∷ "rollback 1" ∷ "pc end" ∷ "rollback 0" ∷ "pc end" ∷ "stop finished" ∷ "steps 4" ∷ "rollbacks 2" ∷ "depends r0" ∷ "plain r0" ∷ "verdict plain" ∷ []))
+    ("start 0" ∷ "pc 0" ∷ "start 1" ∷ "pc 0" ∷ "rollback 1" ∷ "pc end" ∷ "rollback 0" ∷ "pc end" ∷ "stop finished" ∷ "steps 4" ∷ "rollbacks 2" ∷ "depends r0" ∷ "plain r0" ∷ "verdict plain" ∷ "first r0 0 branch 0" ∷ []))
     ∷ prints (secretJob (3 ∷ 1 ∷ 1 ∷ 0 ∷ 3 ∷ 1 ∷ 1 ∷ 2 ∷ []) 2 (set (set (zeros 16) 0 18446744073709551615) 2 2) 10)
     (lines
-    ("store 18446744073709551615" ∷ "store 2" ∷ "stop finished" ∷ "steps 2" ∷ "rollbacks 0" ∷ "depends r0 r2" ∷ "plain r0 r2" ∷ "verdict plain" ∷ []))
+    ("store 18446744073709551615" ∷ "store 2" ∷ "stop finished" ∷ "steps 2" ∷ "rollbacks 0" ∷ "depends r0 r2" ∷ "plain r0 r2" ∷ "verdict plain" ∷ "first r0 0 store 0" ∷ "first r2 1 store 1" ∷ []))
     ∷ prints (job 1 10 0) (lines ("stop spent" ∷ "steps 0" ∷ "rollbacks 0" ∷ "depends" ∷ "plain" ∷ "verdict undecided" ∷ []))
     ∷ []

@@ -5,11 +5,12 @@ use lib.ListN.{length}
 use Rattle.location.specs.Sets.{bit, has, none, only, either, inside, empty, single, union, subset, member}
 use Rattle.rules.specs.Rules.Expressions.{after, held, sound, pushed, evalOn, top, eval, gathered, setOn, exprSet}
 use Rattle.rules.specs.Rules.Instructions.{windowCosts}
+use Rattle.rules.specs.Rules.Firsts.{firstHolding, firstsFrom, firstsOf}
 use Rattle.rules.specs.Rules.Outside.{recall, remember, remembers, overfull}
 use Rattle.rules.specs.Rules.Plain.{at, put, ownFrom, firstState, values, endPlace, fetch, loadedFrom, storedTo, storeOverfull, chosen, branchTo, exec}
 use Rattle.rules.specs.Rules.Mispredicting.{remaining, lower, ordinary, newWindow, opening, forward, rolling, expired, stepOn, step, plainStep}
 use Rattle.rules.specs.Rules.Loop.{ended, loop}
-use Rattle.rules.specs.Rules.Runs.{gather, note, noteUnmade, overOn, over, fits, halt, run, first, blank, mispredictingRun, plainRun, judge, verdict}
+use Rattle.rules.specs.Rules.Runs.{gather, observedSet, note, noteUnmade, overOn, over, fits, halt, run, first, blank, mispredictingRun, plainRun, judge, verdict}
 use Rattle.rules.specs.Rules.Answers.{text}
 use Rattle.rules.specs.Rules.JobFile.{little, wordOf, byte, register, unary, binary, constant, tokenOf, token, tokens, expr, withRegister, jump, branch, conditional, fields, instr, instruction, nothingLeft, program, trailerAt, trailer, sized, limits, offsets, wordsAt, stateOf, publicOf, noneFrom, listed, jobOf, programOf, finish, parse}
 use Rattle.rules.specs.Rules.Calls.{traceWords, room, padded, entryWords, tableWords, endWords, longEnough, written, areasAfter, counts}
@@ -17,9 +18,9 @@ use Rattle.rules.specs.Rules.Calls.{runReport, runRefused, runParsed, ru
 use Rattle.rules.specs.Rules.Pairs.{withState, alikeFrom, sameWords, sameTrace, pairWord, pairAfter, pairRefused, secondFits, pairFits, pairAccepted, pairParsed, pairCall}
 use Rattle.rules.specs.Rules.TestLoads.{nextWord, newWords, newState, ownRunAlone, newStateRun, testLoadAccepted, testLoadRefused, stateFits}
 use Rattle.rules.specs.Rules.TestLoads.{testLoadParsed, testLoadCall}
-use Rattle.rules.specs.Rules.Listing.{digits, decimal, line, numberLine, kindWord, valueText, observationLine, traceLines, locationText, members, setLine, summary, answerLines, listingOf, listing}
+use Rattle.rules.specs.Rules.Listing.{digits, decimal, line, numberLine, kindWord, valueText, observationLine, traceLines, locationText, members, setLine, summary, firstLine, firstLines, answerLines, listingOf, listing}
 use Rattle.rules.specs.Rules.Encoding.{bytesOf, wordBytes}
-use Rattle.rules.specs.Cases.Files.{trailerBytes, file, lines, setOf, ran, plainRan, areas, pairAreas, front, lastAt, lastTable, plainTraces, given}
+use Rattle.rules.specs.Cases.Files.{trailerBytes, file, lines, setOf, ran, unreported, reports, reportWords, plainRan, areas, pairAreas, front, lastAt, lastTable, plainTraces, given}
 use Rattle.rules.specs.Cases.Files.{wanted, allGiven, allWanted}
 use Rattle.rules.specs.Cases.Document01.{printedProgram, barrierProgram, nestedProgram, state, public, job, wholeTrace, r01, r01m1, listing01, document01}
 use Rattle.rules.specs.Cases.Readings.{secretJob, zero17, deep, inner, restoring, conditionally, twice, mixed, ending, operations, shiftBy}
@@ -29,6 +30,7 @@ use Rattle.rules.specs.Cases.TestLoads.{unfinished, turnedAway}
 use Rattle.rules.specs.Cases.Outside.{entry, spilled, replacing, firstStored, storedAgain, storedInside, ordered, spilling, outside}
 use Rattle.rules.specs.Cases.Outside.{atTheEdge, edgeEnd, outsideAreas, countedFrom, summands, filling, fillingSeen, fillingShown}
 use Rattle.rules.specs.Cases.Outside.{fillingLines, registers, locations, overfilling, outsideFull}
+use Rattle.rules.specs.Cases.Firsts.{byTheBranch, eachStore, eachEighth, byTheStores, firsts}
 use Rattle.rules.specs.Cases.Refusals as refusal
 use Rattle.rules.specs.Cases.Refusals.{reads, numberOf, readNumbers, wantedNumbers, skips, offsetsAt, listBit, refusals}
 use Rattle.rules.specs.Cases.Operators.{computed, expected, high, all, boundaries}
@@ -64,6 +66,7 @@ pub record TablesHold : Type 0 where
   pub cases-of-outside : allGiven outside ≡ allWanted outside
   pub cases-of-outside-areas : allGiven outsideAreas ≡ allWanted outsideAreas
   pub cases-of-outside-full : allGiven outsideFull ≡ allWanted outsideFull
+  pub cases-of-firsts : allGiven firsts ≡ allWanted firsts
   pub cases-of-refusals : readNumbers refusals ≡ wantedNumbers refusals
 
 -- every definition that the tables compute with: a proof that unfolds this unfolds them all
@@ -71,21 +74,21 @@ unfoldable computing : Type 0
 unfolding bit has none only either inside empty single union subset member after held sound pushed evalOn top eval windowCosts
     recall remember remembers overfull at put ownFrom firstState values endPlace fetch loadedFrom storedTo storeOverfull chosen
     branchTo exec remaining lower ordinary newWindow opening forward rolling expired stepOn step plainStep ended loop gather
-    note noteUnmade overOn over fits halt run first blank mispredictingRun plainRun judge verdict text little wordOf byte
+    firstHolding firstsFrom firstsOf observedSet note noteUnmade overOn over fits halt run first blank mispredictingRun plainRun judge verdict text little wordOf byte
     register unary binary constant tokenOf token tokens expr withRegister jump branch conditional fields instr instruction
     nothingLeft program trailerAt trailer sized limits offsets wordsAt stateOf publicOf noneFrom listed jobOf programOf finish
     parse traceWords room padded entryWords tableWords endWords longEnough written areasAfter counts runReport runRefused
     runParsed runCall plainReport plainRefused plainParsed plainCall withState alikeFrom sameWords sameTrace pairWord pairAfter
     pairRefused secondFits pairFits pairAccepted pairParsed pairCall digits decimal line numberLine kindWord valueText
-    observationLine traceLines locationText members setLine summary answerLines listingOf listing bytesOf wordBytes trailerBytes
-    file lines setOf ran plainRan areas pairAreas front lastAt lastTable plainTraces given wanted allGiven allWanted
+    observationLine traceLines locationText members setLine summary firstLine firstLines answerLines listingOf listing bytesOf wordBytes trailerBytes
+    file lines setOf ran unreported reports reportWords plainRan areas pairAreas front lastAt lastTable plainTraces given wanted allGiven allWanted
     printedProgram barrierProgram nestedProgram state public job wholeTrace r01 r01m1 listing01 document01 secretJob zero17 deep
     inner restoring conditionally twice mixed ending operations shiftBy costing filled readings details areasLeft listings reads
     numberOf readNumbers wantedNumbers skips offsetsAt listBit refusals refusal.program nextWord newWords newState ownRunAlone
     newStateRun testLoadAccepted testLoadRefused stateFits testLoadParsed testLoadCall highest fromOne fromHighest xorshift
     chosenState leaking leaked longer plainFirst newStates unfinished turnedAway entry spilled replacing firstStored storedAgain
     storedInside ordered spilling outside atTheEdge edgeEnd outsideAreas countedFrom summands filling fillingSeen fillingShown
-    fillingLines registers locations overfilling outsideFull
+    fillingLines registers locations overfilling outsideFull byTheBranch eachStore eachEighth byTheStores firsts
 computing = Unit {0}
 
 document01-hold : allGiven document01 ≡ allWanted document01
@@ -136,6 +139,10 @@ outside-full-hold : allGiven outsideFull ≡ allWanted outsideFull
 unfolding computing
 outside-full-hold = refl
 
+firsts-hold : allGiven firsts ≡ allWanted firsts
+unfolding computing
+firsts-hold = refl
+
 refusals-hold : readNumbers refusals ≡ wantedNumbers refusals
 unfolding computing
 refusals-hold = refl
@@ -154,5 +161,6 @@ tables-hold = record {
   cases-of-outside = outside-hold;
   cases-of-outside-areas = outside-areas-hold;
   cases-of-outside-full = outside-full-hold;
+  cases-of-firsts = firsts-hold;
   cases-of-refusals = refusals-hold;
 }

@@ -1,5 +1,5 @@
--- The number and word of each case of an answer. Refusals have the documents' numbers; stops, verdicts and the words on a pair are
--- numbered from 0 in the order in which it names them (of a stop: finished first).
+-- The number and word of each case of an answer. Refusals have the documents' numbers; stops, verdicts, the rules of F-6 and the
+-- words on a pair are numbered from 0 in the order in which the documents name them (of a stop: finished first).
 -- Assumes nothing.
 use mathlib.Core.List.{List, [], _∷_}
 use Prim.Native.Nat.{ℕ}
@@ -9,6 +9,8 @@ use Rattle.rules.specs.declared.Stop.{Stop}
 use Rattle.rules.specs.declared.Stop.the-variants.{Finished, Spent, TraceFull, OutsideFull}
 use Rattle.rules.specs.declared.Verdict.{Verdict}
 use Rattle.rules.specs.declared.Verdict.the-variants as verdicts
+use Rattle.rules.specs.declared.Cause.{Cause}
+use Rattle.rules.specs.declared.Cause.the-variants as causes
 use Rattle.rules.specs.declared.PairWord.{PairWord}
 use Rattle.rules.specs.declared.PairWord.the-variants as pairs
 use Rattle.rules.specs.declared.Refusal.{Refusal}
@@ -54,6 +56,19 @@ verdictWord verdicts.Undecided = text "undecided"
 verdictWord verdicts.Clean = text "clean"
 verdictWord verdicts.Speculative = text "speculative"
 verdictWord verdicts.Plain = text "plain"
+
+-- the rules that F-6 names, in its order
+abbrev pub causeNumber : Cause → ℕ
+causeNumber causes.Branch = 0
+causeNumber causes.Jump = 1
+causeNumber causes.Load = 2
+causeNumber causes.Store = 3
+
+abbrev pub causeWord : Cause → List ℕ
+causeWord causes.Branch = text "branch"
+causeWord causes.Jump = text "jump"
+causeWord causes.Load = text "load"
+causeWord causes.Store = text "store"
 
 abbrev pub pairNumber : PairWord → ℕ
 pairNumber pairs.NotComparable = 0

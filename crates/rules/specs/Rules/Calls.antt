@@ -15,6 +15,7 @@ use Rattle.rules.specs.declared.PlainOutcome.the-variants as plains
 use Rattle.rules.specs.declared.PlainAnswer.{PlainAnswer}
 use Rattle.rules.specs.Rules.Limits.{maxEntries}
 use Rattle.rules.specs.Rules.Instructions.{Observation}
+use Rattle.rules.specs.Rules.Firsts.{firstsOf}
 use Rattle.rules.specs.Rules.Plain.{State, Entry, values}
 use Rattle.rules.specs.Rules.Runs.{Job, Result, mispredictingRun, plainRun, verdict}
 use Rattle.rules.specs.Rules.JobFile.{Parsed, accepted, rejected, parse}
@@ -94,13 +95,19 @@ pub record Called (A B : Type 0) : Type 0 where
 unfoldable pub counts : Result → Counts
 counts r = record { stop = r .stop; observations = length (r .gathered .trace); steps = r .gathered .steps; rollbacks = r .gathered .rollbacks }
 
--- "A run returns its stop, observation count, steps, rollbacks, D, plain set and verdict."
+-- "A run returns its stop, observation count, steps, rollbacks, D, plain set and verdict."; and for each location which observation brought
+-- it into D.
 unfoldable pub runReport : Job → Result → RunAnswer
-runReport job r = record { outcome = runs.Ran (counts r) (verdict job r); full = r .gathered .full; plain = r .gathered .plain }
+runReport job r = record {
+  outcome = runs.Ran (counts r) (verdict job r);
+  full = r .gathered .full;
+  plain = r .gathered .plain;
+  firsts = firstsOf (r .gathered .sets);
+}
 
--- "number only"
+-- "number only": nothing was observed
 unfoldable pub runRefused : Refusal → RunAnswer
-runRefused n = record { outcome = runs.Refused n; full = empty; plain = empty }
+runRefused n = record { outcome = runs.Refused n; full = empty; plain = empty; firsts = firstsOf [] }
 
 unfoldable pub runParsed : Parsed → Areas → Called RunAnswer Areas
 runParsed (rejected n) a = record { answer = runRefused n; areas = a }

@@ -1,16 +1,19 @@
--- The three demands, as statements about calls, and what the words on a pair of states mean. Theorems/ proves, of every
--- job file and all areas, demands 2 and 3, that a refusal alters nothing, and the words on a pair; that a call is exact is proved with its
--- code. The promises of the calls (Promises) are made of them.
+-- The three demands, as statements about calls, what a run reports of the locations of D, and what the words on a pair of states mean.
+-- Theorems/ proves, of every job file and all areas, demands 2 and 3, that a refusal alters nothing, the reports, and the words on a pair;
+-- that a call is exact is proved with its code. The promises of the calls (Promises) are made of them.
 -- Assumes nothing.
 use mathlib.Core.Path.{_≡_}
-use mathlib.Core.Bool.{true}
+use mathlib.Core.Bool.{true, false}
 use Prim.{⊥}
-use mathlib.Core.List.{List, [], _∷_}
+use mathlib.Core.List.{List, [], _∷_, _++_}
 use Prim.Native.Nat.{ℕ, zero, suc, _+_, _*_, _<_, _≤_}
 use lib.ListN.{length, getD, take, drop}
 use Rattle.location.specs.declared.LocationSet.{LocationSet}
-use Rattle.location.specs.Sets.{empty, member, subset}
-use Rattle.rules.specs.declared.Stop.the-variants.{Finished}
+use Rattle.location.specs.Sets.{limit, empty, member, subset}
+use Rattle.rules.specs.declared.Stop.the-variants.{Finished, OutsideFull}
+use Rattle.rules.specs.declared.Cause.{Cause}
+use Rattle.rules.specs.declared.Cause.the-variants.{Branch, Jump, Load, Store}
+use Rattle.rules.specs.declared.First.{First}
 use Rattle.rules.specs.declared.Verdict.{Verdict}
 use Rattle.rules.specs.declared.Verdict.the-variants.{Clean}
 use Rattle.rules.specs.declared.Counts.{Counts}
@@ -24,9 +27,11 @@ use Rattle.rules.specs.declared.PairWord.{PairWord}
 use Rattle.rules.specs.declared.PairWord.the-variants as words
 use Rattle.rules.specs.declared.PairAnswer.{PairAnswer}
 use Rattle.rules.specs.declared.PairAnswer.the-variants as pairs
-use Rattle.rules.specs.Rules.Instructions.{Observation}
-use Rattle.rules.specs.Rules.Plain.{Entry}
-use Rattle.rules.specs.Rules.Runs.{mispredictingRun}
+use Rattle.rules.specs.Rules.Expressions.{Expr}
+use Rattle.rules.specs.Rules.Instructions.{Instr, load, store, jmp, beqz, Observation, startKind, pcKind, loadKind, storeKind}
+use Rattle.rules.specs.Rules.Firsts.{ObservedSet, noReport, held}
+use Rattle.rules.specs.Rules.Plain.{Entry, Code, endPlace, fetch}
+use Rattle.rules.specs.Rules.Runs.{Job, mispredictingRun}
 use Rattle.rules.specs.Rules.JobFile.{Parsed, accepted, rejected, parse, trailer, locations, stateOf, publicOf, wordsAt}
 use Rattle.rules.specs.Rules.Calls.{Areas, Called, traceWords, room, tableSize, tableWords, workingWords, runCall, plainCall}
 use Rattle.rules.specs.Rules.Pairs.{PairAreas}
@@ -128,11 +133,13 @@ pub record SameOutside (full : LocationSet) (es : List Entry) (t t′ : List ℕ
   pub address : (i : ℕ) → getD t (1 + 2 * i) 0 ≡ getD t′ (1 + 2 * i) 0
   pub value : (i : ℕ) → subset (entrySet es i) full ≡ true → getD t (2 + 2 * i) 0 ≡ getD t′ (2 + 2 * i) 0
 
--- The same answer (stop, observation count, steps, rollbacks, both sets and verdict), the same trace, and outside the image the same
--- addresses, with the same words where they rest on the reported set. The first run is of the file f in the areas a, with the answer r.
+-- The same answer (stop, observation count, steps, rollbacks, both sets and verdict), the same trace, the same reports ("Two states that agree
+-- on D get the same reports."), and outside the image the same addresses, with the same words where they rest on the reported set. The first
+-- run is of the file f in the areas a, with the answer r.
 pub record SameCall (f : List ℕ) (a : Areas) (r : RunAnswer) (after : Areas) (g : List ℕ) (a′ : Areas) : Type 0 where
   pub answer : r ≡ runCall g a′ .answer
   pub trace : traceIn r after ≡ traceOf g a′
+  pub firsts : r .firsts ≡ runCall g a′ .answer .firsts
   pub outside : SameOutside (r .full) (remembered f a) (tableIn f (after .end)) (tableIn g (runCall g a′ .areas .end))
 
 -- "Wherever the run ends, finished or stopped, every second state alike to the first on the reported set (same routine, memory
@@ -148,6 +155,65 @@ pub record Demand3 (f : List ℕ) (a : Areas) (r : RunAnswer) (after : Areas) : 
       → (g : List ℕ) (a′ : Areas) → SameButState f g → SameLengths a a′
       → AlikeOn (publicOf (trailer f) f) (stateOf (trailer f) f) (stateOf (trailer f) g)
       → SameCall f a r after g a′
+
+-- ---- F-6: which observation brought a location in
+-- the sets that a run of the file f in the areas a observes, in order; a refused job observes none
+abbrev pub setsOf : Parsed → ℕ → List ObservedSet
+setsOf (rejected n) k = []
+setsOf (accepted job) k = mispredictingRun job k .gathered .sets
+
+unfoldable pub observedIn : List ℕ → Areas → List ObservedSet
+observedIn f a = setsOf (parse f) (room (a .trace))
+
+-- what an answer reports of location l
+abbrev pub reportOf : RunAnswer → ℕ → First
+reportOf r l = getD (r .firsts) l noReport
+
+-- "the first observation whose set holds it": the set `found` holds location l, none before it does, and x is what is reported of it
+pub record FirstWith (l : ℕ) (xs : List ObservedSet) (x : First) : Type 0 where
+  pub before : List ObservedSet
+  pub found : ObservedSet
+  pub after : List ObservedSet
+  pub split : xs ≡ before ++ found ∷ after
+  pub earlier : held before l ≡ false
+  pub holds : member (found .set) l ≡ true
+  pub report : x ≡ found .report
+
+-- "A branch's set stands at its start observation": the kind of the observation at which the set of each rule stands
+abbrev pub causeKind : Cause → ℕ
+causeKind Branch = startKind
+causeKind Jump = pcKind
+causeKind Load = loadKind
+causeKind Store = storeKind
+
+-- "indexes begin at 0; a store that stopped the run counts as the next one": the trace that was written has at the index an observation of
+-- the rule's kind, or the run has stopped before a store
+pub data Stands (n : Counts) (trace : List ℕ) (x : First) : Type 0 where
+  observed : x .index < n .observations → getD trace (2 * x .index) 0 ≡ causeKind (x .cause) → Stands n trace x
+  stopped : x .index ≡ n .observations → n .stop ≡ OutsideFull → x .cause ≡ Store → Stands n trace x
+
+-- "the rule concerned (branch, jump, load or store)": the instructions by which a set is observed
+pub data ObservesBy : Instr → Cause → Type 0 where
+  branch : (r l : ℕ) → ObservesBy (beqz r l) Branch
+  jump : (e : Expr) → ObservesBy (jmp e) Jump
+  loading : (r : ℕ) (e : Expr) → ObservesBy (load r e) Load
+  storing : (r : ℕ) (e : Expr) → ObservesBy (store r e) Store
+
+-- "and the label of that instruction": the program has one of that rule there
+pub record Labelled (code : Code) (x : First) : Type 0 where
+  pub below : x .label < endPlace code
+  pub rule : ObservesBy (fetch code (x .label)) (x .cause)
+
+-- "For each location in D the run reports the index of the first observation whose set holds it, the rule concerned (branch, jump, load or
+-- store) and the label of that instruction." The run's answer is r, and `after` are the areas after it.
+pub record Brought (f : List ℕ) (a : Areas) (r : RunAnswer) (after : Areas) : Type 0 where
+  pub first : (l : ℕ) → l < limit → member (r .full) l ≡ true → FirstWith l (observedIn f a) (reportOf r l)
+  pub stands : {n : Counts} {v : Verdict} → r .outcome ≡ runs.Ran n v
+      → (l : ℕ) → l < limit → member (r .full) l ≡ true → Stands n (traceIn r after) (reportOf r l)
+  pub instruction : (job : Job) → parse f ≡ accepted job
+      → (l : ℕ) → l < limit → member (r .full) l ≡ true → Labelled (job .code) (reportOf r l)
+  -- of any other location nothing is reported, and of none where the job is refused
+  pub nothing : (l : ℕ) → member (r .full) l ≡ false → reportOf r l ≡ noReport
 
 -- ---- the pair of states
 -- "the job's state and a second one": the words of the second state's bytes

@@ -9,13 +9,15 @@ use Rattle.location.specs.declared.LocationSet.{LocationSet}
 use Rattle.location.specs.Sets.{registers, limit, member}
 use Rattle.rules.specs.declared.Verdict.{Verdict}
 use Rattle.rules.specs.declared.Counts.{Counts}
+use Rattle.rules.specs.declared.First.{First}
 use Rattle.rules.specs.declared.RunOutcome.{RunOutcome}
 use Rattle.rules.specs.declared.RunOutcome.the-variants as runs
 use Rattle.rules.specs.declared.RunAnswer.{RunAnswer}
 use Rattle.rules.specs.Rules.Instructions.{Observation, pcKind}
+use Rattle.rules.specs.Rules.Firsts.{noReport}
 use Rattle.rules.specs.Rules.Plain.{endPlace}
 use Rattle.rules.specs.Rules.Runs.{mispredictingRun}
-use Rattle.rules.specs.Rules.Answers.{text, stopWord, verdictWord, refusalNumber}
+use Rattle.rules.specs.Rules.Answers.{text, stopWord, verdictWord, causeWord, refusalNumber}
 use Rattle.rules.specs.Rules.JobFile.{Parsed, accepted, rejected, parse}
 use Rattle.rules.specs.Rules.Calls.{runReport, runRefused}
 
@@ -73,14 +75,23 @@ summary c full plain v =
     ++ setLine (text "plain") plain
     ++ line (text "verdict ") (verdictWord v)
 
+-- "first r0 0 branch 1": the location, the index, the rule and the label
+unfoldable pub firstLine : ℕ → First → List ℕ
+firstLine l x = line (text "first") (locationText l ++ 32 ∷ decimal (x .index) ++ 32 ∷ causeWord (x .cause) ++ 32 ∷ decimal (x .label))
+
+-- "The listing gains a line for each, after the verdict, in ascending location": of the k locations from l on those in the set, which is D
+unfoldable pub firstLines : LocationSet → List First → ℕ → ℕ → List ℕ
+firstLines s xs l zero = []
+firstLines s xs l (suc k) = cond (member s l) (firstLine l (getD xs l noReport)) [] ++ firstLines s xs (l + 1) k
+
 -- "A refusal prints "refused" and its number alone."
-abbrev pub outcomeLines : ℕ → List Observation → LocationSet → LocationSet → RunOutcome → List ℕ
-outcomeLines n os full plain (runs.Refused r) = numberLine (text "refused") (refusalNumber r)
-outcomeLines n os full plain (runs.Ran c v) = traceLines n os ++ summary c full plain v
+abbrev pub outcomeLines : ℕ → List Observation → LocationSet → LocationSet → List First → RunOutcome → List ℕ
+outcomeLines n os full plain xs (runs.Refused r) = numberLine (text "refused") (refusalNumber r)
+outcomeLines n os full plain xs (runs.Ran c v) = traceLines n os ++ summary c full plain v ++ firstLines full xs 0 limit
 
 -- an answer with its trace, of a program with n instructions
 unfoldable pub answerLines : ℕ → List Observation → RunAnswer → List ℕ
-answerLines n os a = outcomeLines n os (a .full) (a .plain) (a .outcome)
+answerLines n os a = outcomeLines n os (a .full) (a .plain) (a .firsts) (a .outcome)
 
 -- "lends 512 observations"
 abbrev pub printedRoom : ℕ

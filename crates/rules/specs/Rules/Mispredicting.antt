@@ -8,8 +8,10 @@ use lib.Dec.{eqb, leb}
 use lib.ListN.{getD}
 use Rattle.location.specs.declared.LocationSet.{LocationSet}
 use Rattle.location.specs.Sets.{registerLocation, empty}
-use Rattle.rules.specs.Rules.Instructions.{Instr, beqz, kind, isBarrier, branching, other, branchView, Observation, start, rollback, pc}
+use Rattle.rules.specs.declared.Cause.{Cause}
+use Rattle.rules.specs.Rules.Instructions.{Instr, skip, beqz, kind, isBarrier, branching, other, branchView, Observation, start, rollback, pc}
 use Rattle.rules.specs.declared.Tagged.{Tagged}
+use Rattle.rules.specs.Rules.Firsts.{causeOf}
 use Rattle.rules.specs.Rules.Plain.{StateOf, EffectOf, at, Code, endPlace, fetch, exec, branchTo}
 
 -- "a stack of open branches, each with its id, saved registers and memory, true target and remaining window"
@@ -32,12 +34,13 @@ pub record MachineOf (W : Type 0) : Type 0 where
 abbrev pub Machine : Type 0
 Machine = MachineOf Tagged
 
--- the machine after a step, its observations, the set of what is observed, 1 for a rollback, and whether it is a store that needs one
--- address too many
+-- the machine after a step, its observations, the set of what is observed and the rule concerned, 1 for a rollback, and whether it is a
+-- store that needs one address too many
 pub record StepOf (W : Type 0) : Type 0 where
   pub next : MachineOf W
   pub obs : List Observation
   pub seen : LocationSet
+  pub cause : Cause
   pub back : ℕ
   pub overfull : Bool
 
@@ -63,6 +66,7 @@ stepWith code M i x = record {
   next = record { state = x .state; place = x .place; branches = lower code i (M .branches); opened = M .opened };
   obs = x .obs;
   seen = x .seen;
+  cause = causeOf i;
   back = 0;
   overfull = x .overfull;
 }
@@ -87,6 +91,7 @@ opening code M r l =
       next = record { state = M .state; place = branchTo t next l; branches = b ∷ bs; opened = suc (M .opened) };
       obs = start (M .opened) ∷ pc (branchTo t next l) ∷ [];
       seen = t .deps;
+      cause = causeOf (beqz r l);
       back = 0;
       overfull = false;
     }
@@ -96,12 +101,13 @@ unfoldable pub forward : Code → Machine → Instr → Step
 forward code M i = elim (branchView i) [ branching r l ↦ opening code M r l | other ↦ ordinary code M i ]
 
 -- Rule 1: "restore the top's registers and memory, go to its true target, drop it." "Rollback restores sets too."; "a rollback restores
--- the table too".
+-- the table too". No set is observed.
 unfoldable pub rolling : {W : Type 0} → MachineOf W → BranchOf W → List (BranchOf W) → StepOf W
 rolling M b bs = record {
   next = record { state = b .saved; place = b .target; branches = bs; opened = M .opened };
   obs = rollback (b .id) ∷ pc (b .target) ∷ [];
   seen = empty;
+  cause = causeOf skip;
   back = 1;
   overfull = false;
 }

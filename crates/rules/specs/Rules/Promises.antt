@@ -7,6 +7,8 @@
 --   secret     demand 3: a second state that is alike on the reported set (with a clean verdict: on the public list) gives the same
 --              trace, counts, stop, sets and verdict, and remembers the same addresses outside the image, with the same values where
 --              their sets lie in the reported set;
+--   brought    F-6: of each location of D the first observation whose set holds it, with its index in the trace, its rule and the label of
+--              its instruction; of no other location anything;
 --   meaning    what each word on a pair says of the two traces and of the two plain runs.
 -- Assumes nothing.
 use mathlib.Core.List.{List}
@@ -19,13 +21,14 @@ use Rattle.rules.specs.declared.PairAnswer.{PairAnswer}
 use Rattle.rules.specs.Rules.Answers.{runRefusal, plainRefusal, pairRefusal}
 use Rattle.rules.specs.Rules.Calls.{Areas, lent, runCall, plainCall}
 use Rattle.rules.specs.Rules.Pairs.{PairAreas, pairLent, pairCall}
-use Rattle.rules.specs.Rules.Demands.{Exact, Unaltered, Demand2, Demand3, PairMeaning}
+use Rattle.rules.specs.Rules.Demands.{Exact, Unaltered, Demand2, Demand3, Brought, PairMeaning}
 
 pub record RunPromise (f : List ℕ) (before : Areas) (r : RunAnswer) (after : Areas) : Type 0 where
   pub exact : Exact (runCall f before) r after
   pub unaltered : Unaltered runRefusal r before after
   pub plainly : Demand2 f before r after
   pub secret : Demand3 f before r after
+  pub brought : Brought f before r after
 
 pub record PlainPromise (f : List ℕ) (before : Areas) (r : PlainAnswer) (after : Areas) : Type 0 where
   pub exact : Exact (plainCall f before) r after

@@ -12,18 +12,20 @@ use Rattle.rules.specs.declared.Stop.the-variants.{Finished, Spent, Trac
 use Rattle.rules.specs.declared.Verdict.{Verdict}
 use Rattle.rules.specs.declared.Verdict.the-variants as verdicts
 use Rattle.rules.specs.Rules.Instructions.{Observation}
+use Rattle.rules.specs.Rules.Firsts.{ObservedSet}
 use Rattle.rules.specs.Rules.Plain.{Code, endPlace, firstState}
 use Rattle.rules.specs.Rules.Mispredicting.{Branch, Machine, Step, step, plainStep}
 use Rattle.rules.specs.Rules.Loop.{Halt, proceed, halted, Ended, loop}
 
 -- What a run gathers: "A run's trace is the list of all its observations in order"; the steps made, the rollbacks among them,
--- the full set D and the plain set.
+-- the full set D and the plain set; and the sets that were observed, in order.
 pub record Gathered : Type 0 where
   pub trace : List Observation
   pub steps : ℕ
   pub rollbacks : ℕ
   pub full : LocationSet
   pub plain : LocationSet
+  pub sets : List ObservedSet
 
 abbrev pub Result : Type 0
 Result = Ended Machine Gathered
@@ -32,6 +34,12 @@ Result = Ended Machine Gathered
 unfoldable pub gather : List Branch → LocationSet → LocationSet → LocationSet
 gather [] plain s = union plain s
 gather (b ∷ bs) plain s = plain
+
+-- The set that a step observes, with its index among the observations, the rule and the label: "A branch's set stands at its start
+-- observation, and indexes begin at 0; a store that stopped the run counts as the next one." So the index is the count of observations
+-- before the step. A step that observes nothing has the empty set.
+unfoldable pub observedSet : Machine → Step → Gathered → ObservedSet
+observedSet M s g = record { report = record { index = length (g .trace); label = M .place; cause = s .cause }; set = s .seen }
 
 -- "Each instruction carried out and each rollback is one step". "The full set D gathers the set of every observed address,
 -- jump value and branch register".
@@ -42,6 +50,7 @@ note M s g = record {
   rollbacks = g .rollbacks + s .back;
   full = union (g .full) (s .seen);
   plain = gather (M .branches) (g .plain) (s .seen);
+  sets = g .sets ++ (observedSet M s g ∷ []);
 }
 
 -- "That store's address set still joins D, and the plain set with nothing open.": of a store that stops the run; nothing else is counted,
@@ -53,6 +62,7 @@ noteUnmade M s g = record {
   rollbacks = g .rollbacks;
   full = union (g .full) (s .seen);
   plain = gather (M .branches) (g .plain) (s .seen);
+  sets = g .sets ++ (observedSet M s g ∷ []);
 }
 
 -- "Finished: END with nothing open."
@@ -95,7 +105,7 @@ unfoldable pub first : Job → Machine
 first job = record { state = firstState (job .init); place = 0; branches = []; opened = 0 }
 
 unfoldable pub blank : Gathered
-blank = record { trace = []; steps = 0; rollbacks = 0; full = empty; plain = empty }
+blank = record { trace = []; steps = 0; rollbacks = 0; full = empty; plain = empty; sets = [] }
 
 unfoldable pub mispredictingRun : Job → ℕ → Result
 mispredictingRun job room = run (step (job .code)) (job .code) room (job .budget) (first job) blank

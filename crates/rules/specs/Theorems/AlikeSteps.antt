@@ -114,6 +114,7 @@ pub record SameStep (D : LocationSet) (s t : Step) : Type 0 where
   pub next : Same D (s .next) (t .next)
   pub obs : s .obs ≡ t .obs
   pub seen : s .seen ≡ t .seen
+  pub cause : s .cause ≡ t .cause
   pub back : s .back ≡ t .back
   pub overfull : s .overfull ≡ t .overfull
 
@@ -149,6 +150,7 @@ module _ (code : Code) {D : LocationSet} where
           next = record { state = x .state; place = x .place; branches = same-lower i (h .branches); opened = h .opened };
           obs = x .obs;
           seen = x .seen;
+          cause = refl;
           back = refl;
           overfull = x .overfull;
         }
@@ -169,6 +171,7 @@ module _ (code : Code) {D : LocationSet} where
           };
           obs = ap₂ (λ (i p : ℕ). start i ∷ pc p ∷ []) (h .opened) wrong;
           seen = ap (λ (t : Tagged). t .deps) q;
+          cause = refl;
           back = refl;
           overfull = refl;
         }
@@ -191,6 +194,7 @@ module _ (code : Code) {D : LocationSet} where
       next = record { state = b .saved; place = b .target; branches = bs; opened = h .opened };
       obs = ap₂ (λ (i p : ℕ). rollback i ∷ pc p ∷ []) (b .id) (b .target);
       seen = refl;
+      cause = refl;
       back = refl;
       overfull = refl;
     }

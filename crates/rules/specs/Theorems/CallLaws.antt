@@ -2,7 +2,7 @@
 -- Assumes nothing.
 use mathlib.Core.Path.{_≡_, refl, sym, ap}
 use mathlib.Core.Bool.{Bool, true, false}
-use mathlib.Core.List.{List, [], _∷_}
+use mathlib.Core.List.{List, [], _∷_, _++_}
 use Prim.Native.Nat.{ℕ, _*_, _/_}
 use native.Mathlib.Omega.{arith}
 use lib.ListN.{length}
@@ -17,7 +17,7 @@ use Rattle.rules.specs.Rules.Instructions.{Observation}
 use Rattle.rules.specs.Rules.Runs.{Job, Result, mispredictingRun, plainRun}
 use Rattle.rules.specs.Rules.Answers.{runRefusal, plainRefusal}
 use Rattle.rules.specs.Rules.JobFile.{Parsed, accepted, rejected, parse}
-use Rattle.rules.specs.Rules.Calls.{traceWords, Areas, room, longEnough, written, areasAfter, Called, counts, runReport, runRefused, runParsed, runCall, plainReport, plainParsed, plainCall}
+use Rattle.rules.specs.Rules.Calls.{observationWords, traceWords, Areas, room, longEnough, written, areasAfter, Called, counts, runReport, runRefused, runParsed, runCall, plainReport, plainParsed, plainCall}
 use Rattle.rules.specs.Rules.Pairs.{withState}
 use Rattle.rules.specs.Rules.Demands.{Exact, Unaltered, SameLengths, traceIn, traceOf, plainTraceOf}
 
@@ -26,6 +26,11 @@ pub length-traceWords : (os : List Observation) → length (traceWords os) ≡ 2
 unfolding traceWords
 length-traceWords [] = refl
 length-traceWords (o ∷ os) = let h = length-traceWords os in omega arith
+
+pub traceWords-append : (os ps : List Observation) → traceWords (os ++ ps) ≡ traceWords os ++ traceWords ps
+unfolding traceWords
+traceWords-append [] ps = refl
+traceWords-append (o ∷ os) ps = ap (λ (ws : List ℕ). observationWords o ++ ws) (traceWords-append os ps)
 
 -- an accepted job, in areas that are long enough
 pub record Runs (f : List ℕ) (a : Areas) : Type 0 where

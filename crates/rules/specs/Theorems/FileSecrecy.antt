@@ -10,11 +10,12 @@ use Rattle.location.specs.declared.LocationSet.{LocationSet}
 use Rattle.rules.specs.declared.Verdict.the-variants as verdicts
 use Rattle.rules.specs.declared.Counts.{Counts}
 use Rattle.rules.specs.declared.RunOutcome.the-variants as runs
+use Rattle.rules.specs.Rules.Firsts.{firstsOf}
 use Rattle.rules.specs.Rules.Runs.{Job, Result, mispredictingRun, verdict}
-use Rattle.rules.specs.Rules.JobFile.{accepted, parse, trailer, locations, stateOf, publicOf}
+use Rattle.rules.specs.Rules.JobFile.{accepted, parse, trailer, stateOf, publicOf}
 use Rattle.rules.specs.Rules.Calls.{traceWords, Areas, room, tableWords, areasAfter, counts, runReport, runCall}
 use Rattle.rules.specs.Rules.Pairs.{withState}
-use Rattle.rules.specs.Rules.Demands.{SameLengths, traceIn, traceOf, tableIn, SameButState, AlikeOn, remembered, SameOutside, SameCall, Demand3}
+use Rattle.rules.specs.Rules.Demands.{SameLengths, traceIn, traceOf, tableIn, SameButState, AlikeOn, remembered, SameCall, Demand3}
 use Rattle.rules.specs.Theorems.Secrecy.{SameReport, demand3, demand3-clean}
 use Rattle.rules.specs.Theorems.JobLaws.{passed, job-init, job-public, init-most, length-stateOf, parse-other}
 use Rattle.rules.specs.Theorems.EveryState.{mispredicting-length}
@@ -40,6 +41,7 @@ same-answer x = λ i. record {
       (record { stop = x .stop i; observations = length (x .trace i); steps = x .steps i; rollbacks = x .rollbacks i }) (x .word i);
   full = x .full i;
   plain = x .plain i;
+  firsts = firstsOf (x .sets i);
 }
 
 -- the table that a call leaves, and the entries that it shows
@@ -69,6 +71,7 @@ module _ {f g : List ℕ} {a a′ : Areas} (r : Runs f a) (s : SameButState f g)
   same-call x = record {
     answer = rw (call-runs r, call-runs other-runs, same-room h) (same-answer x);
     trace = rw (trace-runs r, trace-runs other-runs, same-room h) (ap traceWords (x .trace));
+    firsts = rw (call-runs r, call-runs other-runs, same-room h) (ap firstsOf (x .sets));
     outside = rw (table-runs r, table-runs other-runs, remembered-runs r, call-runs r, same-room h) (same-tables (x .outside));
   }
 

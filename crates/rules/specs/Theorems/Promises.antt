@@ -13,6 +13,7 @@ use Rattle.rules.specs.Rules.Promises.{RunPromise, PlainPromise, PairPro
 use Rattle.rules.specs.Theorems.CallLaws.{exact-unaltered, run-unaltered, plain-unaltered}
 use Rattle.rules.specs.Theorems.FilePlain.{demand2-call}
 use Rattle.rules.specs.Theorems.FileSecrecy.{demand3-call}
+use Rattle.rules.specs.Theorems.FileFirsts.{brought-call}
 use Rattle.rules.specs.Theorems.PairLaws.{pair-meaning, pair-unaltered}
 
 pub run-promise : (f : List ℕ) (a : Areas) {r : RunAnswer} {after : Areas} → Exact (runCall f a) r after → RunPromise f a r after
@@ -21,6 +22,7 @@ run-promise f a x = record {
   unaltered = exact-unaltered runRefusal (runCall f a) a x (run-unaltered f a);
   plainly = rw (x .answer, x .areas) (demand2-call f a);
   secret = rw (x .answer, x .areas) (demand3-call f a);
+  brought = rw (x .answer, x .areas) (brought-call f a);
 }
 
 pub plain-promise : (f : List ℕ) (a : Areas) {r : PlainAnswer} {after : Areas} → Exact (plainCall f a) r after → PlainPromise f a r after

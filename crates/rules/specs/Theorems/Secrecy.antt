@@ -1,5 +1,5 @@
 -- Demand 3 of the definitions: two runs of one job, whose states are alike in the set D that the first run reports, have the same
--- trace, steps, rollbacks, stop, sets and verdict, finished or not, and outside the image the same addresses with words that agree.
+-- trace, steps, rollbacks, stop, sets, observed sets and verdict, finished or not, and outside the image the same addresses with words that agree.
 -- Assumes nothing.
 use mathlib.Core.Path.{_≡_, refl, sym, ap, ap₂, _∙_}
 use mathlib.Core.Bool.{Bool, true, false, not, cond}
@@ -21,7 +21,8 @@ use Rattle.rules.specs.Rules.Expressions.{tagged}
 use Rattle.rules.specs.Rules.Plain.{at, ownFrom, firstState, Code}
 use Rattle.rules.specs.Rules.Mispredicting.{Machine, Step, step}
 use Rattle.rules.specs.Rules.Loop.{ended}
-use Rattle.rules.specs.Rules.Runs.{Gathered, Result, note, noteUnmade, fits, run, Job, first, blank, mispredictingRun, isFinished, judge, verdict}
+use Rattle.rules.specs.Rules.Runs.{Gathered, Result, observedSet, note, noteUnmade, fits, run, Job, first, blank, mispredictingRun}
+use Rattle.rules.specs.Rules.Runs.{isFinished, judge, verdict}
 use Rattle.rules.specs.Rules.Pairs.{withState}
 use Rattle.rules.specs.Rules.Demands.{AlikeOn}
 use Rattle.rules.specs.Theorems.RunLaws.{run-over, run-spent, run-full, run-outside, run-step, run-ind, full-grows}
@@ -44,13 +45,18 @@ module _ (f : Machine → Step) (code : Code) (room : ℕ) (D : LocationSet)
   unfolding fits
   same-fits {M} {N} g h = ap (λ (n : ℕ). leb (length (g .trace) + n) room) (count M N h)
 
+  same-observed : {M N : Machine} {s t : Step} (g : Gathered) → Same D M N → SameStep D s t → observedSet M s g ≡ observedSet N t g
+  unfolding observedSet
+  same-observed g h x = rw (h .place, x .cause, x .seen)
+
   same-note : {M N : Machine} {s t : Step} (g : Gathered) → Same D M N → SameStep D s t → note M s g ≡ note N t g
   unfolding note
-  same-note {M} {N} {s} {t} g h x = rw (x .obs, x .seen, x .back, same-gather code (g .plain) (t .seen) (h .branches))
+  same-note {M} {N} {s} {t} g h x =
+      rw (same-observed g h x, x .obs, x .seen, x .back, same-gather code (g .plain) (t .seen) (h .branches))
 
   same-unmade : {M N : Machine} {s t : Step} (g : Gathered) → Same D M N → SameStep D s t → noteUnmade M s g ≡ noteUnmade N t g
   unfolding noteUnmade
-  same-unmade {M} {N} {s} {t} g h x = rw (x .seen, same-gather code (g .plain) (t .seen) (h .branches))
+  same-unmade {M} {N} {s} {t} g h x = rw (same-observed g h x, x .seen, same-gather code (g .plain) (t .seen) (h .branches))
 
   -- the set of a store that stops the run has joined D
   unmade-within : (M : Machine) (g : Gathered) → Within (noteUnmade M (f M) g .full) D → Within (f M .seen) D
@@ -132,6 +138,7 @@ pub record SameReport (job job′ : Job) (r s : Result) : Type 0 where
   pub rollbacks : r .gathered .rollbacks ≡ s .gathered .rollbacks
   pub full : r .gathered .full ≡ s .gathered .full
   pub plain : r .gathered .plain ≡ s .gathered .plain
+  pub sets : r .gathered .sets ≡ s .gathered .sets
   pub word : verdict job r ≡ verdict job′ s
   pub outside : AlikeOutside (r .gathered .full) (r .last .state .outside) (s .last .state .outside)
 
@@ -183,6 +190,7 @@ module _ (job : Job) (room : ℕ) (vs : List ℕ) (bound : length (job .init) �
         rollbacks = ap (λ (g : Gathered). g .rollbacks) (x .gathered);
         full = ap (λ (g : Gathered). g .full) (x .gathered);
         plain = ap (λ (g : Gathered). g .plain) (x .gathered);
+        sets = ap (λ (g : Gathered). g .sets) (x .gathered);
         word = ap₂ (λ (s : Stop) (g : Gathered). judge (job .public) s (g .full) (g .plain)) (x .stop) (x .gathered);
         outside = x .last .outside;
       }

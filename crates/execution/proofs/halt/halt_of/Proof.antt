@@ -8,31 +8,27 @@ use Rattle.work.specs.Machines.{machineOf}
 use Rattle.stepping.specs.Progress.{standing}
 use Rattle.execution.specs.Running.{codeIn}
 use Rattle.execution.proofs.Machine.{step-most}
-use Rattle.execution.proofs.Running.{halts-finished, halts-spent, halts-full, fitting, found-halted, found-proceed}
+use Rattle.execution.proofs.Running.{halts-finished, halts-spent, halts-full, fitting}
 use borrow.Author.Needs.{needs}
 use Rattle.execution.proofs.halt.halt_of.Statement.{statement}
 use Rattle.execution.proofs.halt.halt_of.Tie as tie
 
 returns : tie.Need-returns
 returns c =
-    let at-if1 = c .before in
-    let at-is-over = at-if1 .before in
+    let at-is-over = c .before in
     let at-start = at-is-over .before .before .before .before .before in
     let a = at-start .args in
-    found-halted (a .p .now) (a .t) (a .mode) _ (c .without-store .ensures)
-    (halts-finished (a .p .now) (a .t) (a .mode) (standing (a .work .now) (a .trace .now) (a .c))
-    (sym (at-is-over .is-over .ensures) ∙ at-if1 .if1 .taken))
+    halts-finished (a .p .now) (a .t) (a .mode) (standing (a .work .now) (a .trace .now) (a .c))
+    (sym (at-is-over .is-over .ensures) ∙ c .if1 .taken)
 
 returns-2 : tie.Need-returns-2
 returns-2 c =
-    let at-if2 = c .before in
-    let at-if1 = at-if2 .before .before .before in
+    let at-if1 = c .before .before .before in
     let at-is-over = at-if1 .before in
     let at-start = at-is-over .before .before .before .before .before in
     let a = at-start .args in
-    found-halted (a .p .now) (a .t) (a .mode) _ (c .without-store2 .ensures)
-    (halts-spent (a .p .now) (a .t) (a .mode) (standing (a .work .now) (a .trace .now) (a .c))
-    (sym (at-is-over .is-over .ensures) ∙ at-if1 .if1 .left) (at-if2 .if2 .taken))
+    halts-spent (a .p .now) (a .t) (a .mode) (standing (a .work .now) (a .trace .now) (a .c))
+    (sym (at-is-over .is-over .ensures) ∙ at-if1 .if1 .left) (c .if2 .taken)
 
 next-observations-requires : tie.Need-next-observations-requires
 next-observations-requires c κs =
@@ -54,21 +50,19 @@ add-if3 c =
 
 returns-3 : tie.Need-returns-3
 returns-3 c =
-    let at-if3 = c .before in
-    let at-next-observations = at-if3 .before .before in
+    let at-next-observations = c .before .before in
     let at-if2 = at-next-observations .before in
     let at-if1 = at-if2 .before .before .before in
     let at-is-over = at-if1 .before in
     let at-start = at-is-over .before .before .before .before .before in
     let a = at-start .args in
     let e = at-next-observations .next-observations .ensures in
-    let h = at-if3 .if3 .taken in
-    found-halted (a .p .now) (a .t) (a .mode) _ (c .without-store3 .ensures)
-    (halts-full (a .p .now) (a .t) (a .mode) (standing (a .work .now) (a .trace .now) (a .c)) (sym (at-is-over .is-over .ensures) ∙ at-if1 .if1 .left)
-    (at-if2 .if2 .left) (omega arith))
+    let h = c .if3 .taken in
+    halts-full (a .p .now) (a .t) (a .mode) (standing (a .work .now) (a .trace .now) (a .c)) (sym (at-is-over .is-over .ensures) ∙ at-if1 .if1 .left)
+    (at-if2 .if2 .left) (omega arith)
 
-next-store-requires : tie.Need-next-store-requires
-next-store-requires c κs =
+next-needs-requires : tie.Need-next-needs-requires
+next-needs-requires c κs =
     let at-if1 = c .before .before .before .before .before .before in
     let at-is-over = at-if1 .before in
     let at-start = at-is-over .before .before .before .before .before in
@@ -76,8 +70,8 @@ next-store-requires c κs =
 
 returns-4 : tie.Need-returns-4
 returns-4 c =
-    let at-next-store = c .before .before in
-    let at-if3 = at-next-store .before in
+    let at-next-needs = c .before in
+    let at-if3 = at-next-needs .before in
     let at-next-observations = at-if3 .before .before in
     let at-if2 = at-next-observations .before in
     let at-if1 = at-if2 .before .before .before in
@@ -88,14 +82,12 @@ returns-4 c =
     let h = at-if3 .if3 .left in
     let f = fitting (a .p .now) (a .t) (a .mode) (standing (a .work .now) (a .trace .now) (a .c))
     (sym (at-is-over .is-over .ensures) ∙ at-if1 .if1 .left) (at-if2 .if2 .left) (omega arith) in
-    let n = at-next-store .next-store .ensures (a .mode) (at-start .pre .steady) in
-    (record { fitting = f; full = sym (n .exact) ∙ c .if4 .taken }, n .rests (c .if4 .taken))
+    record { fitting = f; full = sym (at-next-needs .next-needs .ensures (a .mode) (at-start .pre .steady)) ∙ c .if4 .taken }
 
 returns-5 : tie.Need-returns-5
 returns-5 c =
-    let at-if4 = c .before in
-    let at-next-store = at-if4 .before .before in
-    let at-if3 = at-next-store .before in
+    let at-next-needs = c .before in
+    let at-if3 = at-next-needs .before in
     let at-next-observations = at-if3 .before .before in
     let at-if2 = at-next-observations .before in
     let at-if1 = at-if2 .before .before .before in
@@ -106,23 +98,18 @@ returns-5 c =
     let h = at-if3 .if3 .left in
     let f = fitting (a .p .now) (a .t) (a .mode) (standing (a .work .now) (a .trace .now) (a .c))
     (sym (at-is-over .is-over .ensures) ∙ at-if1 .if1 .left) (at-if2 .if2 .left) (omega arith) in
-    let n = at-next-store .next-store .ensures (a .mode) (at-start .pre .steady) in
-    found-proceed (a .p .now) (a .t) (a .mode) _ (c .without-store4 .ensures) (record { fitting = f; storable = sym (n .exact) ∙ at-if4 .if4 .left })
+    record { fitting = f; storable = sym (at-next-needs .next-needs .ensures (a .mode) (at-start .pre .steady)) ∙ c .if4 .left }
 
 pub halt-of-spec : {M : Type 1} → statement M
 halt-of-spec =
     tie.close
     (tie.spec
     (λ c κs. search needs)
-    (λ c κs. search needs)
     returns
-    (λ c κs. search needs)
     returns-2
     next-observations-requires
     add-if3
-    (λ c κs. search needs)
     returns-3
-    next-store-requires
+    next-needs-requires
     returns-4
-    (λ c κs. search needs)
     returns-5)

@@ -13,7 +13,8 @@ use Rattle.work.specs.Machines.{machineOf}
 use Rattle.evaluation.proofs.Laws.{register-value}
 use Rattle.execution.specs.Running.{codeIn}
 use Rattle.execution.proofs.Machine.{still-going}
-use Rattle.execution.proofs.Running.{locations-most, tried-as, opened-tried, code-of, fetched-valid, fetched-same}
+use borrow.Author.Tests.{not-true, not-false}
+use Rattle.execution.proofs.Running.{in-state, locations-most, tried-as, opened-tried, not-opened, code-of, fetched-valid, fetched-same}
 use Rattle.execution.proofs.Running.{branch-step, other-step, branch-room, other-room}
 use borrow.Author.Needs.{needs}
 use Rattle.execution.proofs.step.advance_by.Statement.{statement}
@@ -30,7 +31,7 @@ source-value-requires c κs =
 
 open-branch-requires : tie.Need-open-branch-requires
 open-branch-requires c κs =
-    let at-r = c .before .before .before in
+    let at-r = c .before .before .before .before .before .before .before in
     let at-opening-of = at-r .before .before in
     let at-source-value = at-opening-of .before in
     let at-start = at-source-value .before .before .before .before .before in
@@ -102,10 +103,34 @@ carry-out-requires c κs =
 
 returns : tie.Need-returns
 returns c =
-    let at-open-branch = c .before .before .before .before in
-    let at-r = at-open-branch .before .before .before .before in
+    let at-subset = c .before in
+    let at-r = at-subset .before .before .before .before in
     let at-opening-of = at-r .before .before in
-    let at-start = at-opening-of .before .before .before .before .before .before in
+    let at-source-value = at-opening-of .before in
+    let at-start = at-source-value .before .before .before .before .before in
+    let a = at-start .args in
+    let k = a .c .control in
+    let w = a .work .now in
+    let n = locations (a .t) in
+    let v = fetched-valid (a .p .now) (a .t) (a .mode) (a .work .now) (a .c .control) (at-start .pre .0 .ready .steady) (at-start .pre .0 .inside)
+    refl (at-start .pre .1) in
+    let o = rw (at-r .r .given .1) at (at-opening-of .opening-of .ensures (a .p .now) v) in
+    let same = fetched-same (a .p .now) (a .t) (a .mode) (a .work .now) (a .c .control) (at-start .pre .0 .ready .steady) (at-start .pre .0 .inside)
+    refl (at-start .pre .1) in
+    let step = branch-step (a .p .now) (a .t) (a .mode) w k (still-going (at-start .pre .0 .inside) (at-start .pre .0 .window)) same o in
+    let value = rw (o .1) at (at-source-value .source-value .ensures) ∙ register-value _ _ in
+    tried-as step (not-opened _ n _ _ _ _ (at-source-value .source-value .result) (in-state w n _ value (rw (o .1) at (v .below)) (omega arith))
+    (sym (at-subset .subset .ensures) ∙ not-true _ (c .if1 .taken)) refl)
+
+returns-2 : tie.Need-returns-2
+returns-2 c =
+    let at-open-branch = c .before .before .before .before in
+    let at-if1 = at-open-branch .before .before .before in
+    let at-subset = at-if1 .before in
+    let at-r = at-subset .before .before .before .before in
+    let at-opening-of = at-r .before .before in
+    let at-source-value = at-opening-of .before in
+    let at-start = at-source-value .before .before .before .before .before in
     let a = at-start .args in
     let k = a .c .control in
     let w = a .work .now in
@@ -119,10 +144,13 @@ returns c =
     let most = locations-most limits in
     let s = code-of (a .p .now) (a .t) (drop labels w) in
     let step = branch-step (a .p .now) (a .t) (a .mode) w k (still-going (at-start .pre .0 .inside) (at-start .pre .0 .window)) same o in
-    tried-as step (opened-tried _ _ _ _ (at-open-branch .open-branch .ensures .made n _ (omega arith) most (s .window) (s .costs)))
+    let value = rw (o .1) at (at-source-value .source-value .ensures) ∙ register-value _ _ in
+    tried-as step (opened-tried _ n _ _ _ _ (at-source-value .source-value .result) (in-state w n _ value (rw (o .1) at (v .below)) (omega arith))
+    (sym (at-subset .subset .ensures) ∙ not-false _ (at-if1 .if1 .left))
+    (at-open-branch .open-branch .ensures .made n _ (omega arith) most (s .window) (s .costs)))
 
-returns-2 : tie.Need-returns-2
-returns-2 c =
+returns-3 : tie.Need-returns-3
+returns-3 c =
     let at-carry-out = c .before .before .before .before in
     let at-instruction-of = at-carry-out .before .before .before in
     let at-enum-told = at-instruction-of .before in
@@ -149,13 +177,16 @@ advance-by-spec =
     source-value-requires
     (λ c κs. search needs)
     (λ c. search needs)
+    (λ c κs. search needs)
+    (λ c. search needs)
+    returns
     open-branch-requires
     (λ c. search needs)
     instruction-of-requires
     carry-out-requires
     (λ c. search needs)
     (λ c. search needs)
-    returns
+    returns-2
     (λ c. search needs)
     (λ c. search needs)
-    returns-2)
+    returns-3)

@@ -5,7 +5,7 @@ use native.Mathlib.Omega.{arith}
 use lib.ListN.{length}
 use Rattle.stepping.specs.Progress.{standing}
 use Rattle.execution.proofs.Machine.{closed-window, open-back, place-inside, window-left}
-use Rattle.execution.proofs.Running.{Stepping, rolled, rolls-two, rolls-fitting}
+use Rattle.execution.proofs.Running.{Stepping, rolled, rolls-two, rolls-quiet, rolls-fitting, known-empty}
 use Rattle.execution.proofs.Running.{stepping-starts, stepping-on, stepping-made, stepping-over, stepping-stuck}
 use Rattle.execution.proofs.Running.{moved-made, back-next, advance-next}
 use borrow.Author.Needs.{needs}
@@ -23,7 +23,7 @@ loop-holds : tie.Need-loop-holds Inv-loop μ-loop
 loop-holds c =
     let at-start = c .before .before .before in
     let q = at-start .pre in
-    (refl, refl, stepping-starts (at-start .args .p .now) (at-start .args .t) (at-start .args .mode) (q .ready) (q .next) (q .free))
+    (refl, refl, stepping-starts (at-start .args .p .now) (at-start .args .t) (at-start .args .mode) q)
 
 rule-of-requires : tie.Need-rule-of-requires Inv-loop μ-loop
 rule-of-requires c κs =
@@ -72,7 +72,8 @@ loop-again c =
     let s = at-loop .loop .inv .2 in
     let g = back-next _ _ _ (at-loop .loop .inv .2) (at-rule-of .rule-of .ensures) (at-enum-told2 .enum-told2 .given .1) in
     let f = rolls-fitting _ _ _ _ _ (s .ready .steady) g in
-    (search needs, search needs, stepping-on _ _ _ s (at-if1 .if1 .taken) (g .on) f (rolled _ _ _ _ _ (s .ready) g (at-roll-back .roll-back .ensures)))
+    let q = known-empty _ (rolls-quiet _ _ _ _ _ (s .ready .steady) g) in
+    (search needs, search needs, stepping-on _ _ _ s (at-if1 .if1 .taken) (g .on) f q (rolled _ _ _ _ _ (s .ready) g (at-roll-back .roll-back .ensures)))
 
 advance-requires : tie.Need-advance-requires Inv-loop μ-loop
 advance-requires c κs =
@@ -109,7 +110,7 @@ loop-less-2 c =
     let at-if1 = at-advance .before .before .before .before .before .before in
     let at-loop = at-if1 .before .before in
     let m = moved-made _ _ _ (at-loop .loop .inv .2) (at-advance .advance .ensures) (c .if2 .left) in
-    let more = m .1 .steps in
+    let more = m .2 .steps in
     let h = at-if1 .if1 .taken in
     omega arith
 
@@ -125,7 +126,7 @@ loop-again-2 c =
     let m = moved-made _ _ _ s (at-advance .advance .ensures) (c .if2 .left) in (
       at-advance .advance .kept .1 .1 .1 .0 ∙ at-loop .loop .inv .0,
       at-advance .advance .kept .1 .1 .1 .1 .0 ∙ at-loop .loop .inv .1,
-      stepping-on _ _ _ s (at-if1 .if1 .taken) (g .on) (m .0) (m .1),
+      stepping-on _ _ _ s (at-if1 .if1 .taken) (g .on) (m .0) (m .1) (m .2),
     )
 
 returns-3 : tie.Need-returns-3 Inv-loop μ-loop

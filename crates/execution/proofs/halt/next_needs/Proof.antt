@@ -1,4 +1,4 @@
--- `next_store` meets its contract: with room in the table nothing, nor for rule 1; else by the instruction at the place. Assumes nothing.
+-- `next_needs` meets its contract: with room in the table nothing, nor for rule 1; else by the instruction at the place. Assumes nothing.
 use mathlib.Core.Path.{sym, _∙_}
 use mathlib.Core.Bool.{true≢false}
 use native.Mathlib.Omega.{arith}
@@ -11,24 +11,21 @@ use Rattle.work.proofs.States.{entries-length}
 use Rattle.execution.specs.declared.Mode.the-variants as modes
 use Rattle.execution.specs.Running.{codeIn}
 use Rattle.execution.proofs.Machine.{closed-window, over-named, back-named, advance-named, place-inside}
-use Rattle.execution.proofs.Overfull.{step-fits, no-needs}
-use Rattle.execution.proofs.Running.{code-of, steady-any, rolls-fitting, fetched-valid, fetched-same, step-needs}
+use Rattle.execution.proofs.Overfull.{step-fits}
+use Rattle.execution.proofs.Running.{code-of, steady-any, rolls-fitting, fetched-valid, fetched-same, step-overfull}
 use borrow.Author.Needs.{needs}
-use Rattle.execution.proofs.halt.next_store.Statement.{statement}
-use Rattle.execution.proofs.halt.next_store.Tie as tie
+use Rattle.execution.proofs.halt.next_needs.Statement.{statement}
+use Rattle.execution.proofs.halt.next_needs.Tie as tie
 
 returns : tie.Need-returns
 returns c mode s =
-    let at-if1 = c .before in
-    let at-entry-count = at-if1 .before in
+    let at-entry-count = c .before in
     let a = at-entry-count .before .before .before .args in
     let w = a .work .now in
     let n = entries-length w 0 (countIn w) in
     let k = at-entry-count .entry-count .ensures in
-    let h = at-if1 .if1 .taken in
-    no-needs _
-    (step-fits mode (codeIn (a .p .now) (a .t) (drop labels w)) (machineOf w (a .c) (locations (a .t))) (omega arith))
-    (c .no-store .ensures .0)
+    let h = c .if1 .taken in
+    sym (step-fits mode (codeIn (a .p .now) (a .t) (drop labels w)) (machineOf w (a .c) (locations (a .t))) (omega arith))
 
 rule-of-requires : tie.Need-rule-of-requires
 rule-of-requires c κs =
@@ -60,8 +57,8 @@ instruction-of-requires c κs =
     let s = steady-any (a .p .now) (a .t) (at-start .pre .0) (at-start .pre .1) in
     fetched-valid (a .p .now) (a .t) modes.Mispredicting (a .work .now) (a .c) s (place-inside g) (at-new .new .ensures) (c .fetch .ensures)
 
-store-of-requires : tie.Need-store-of-requires
-store-of-requires c κs =
+store-needs-requires : tie.Need-store-needs-requires
+store-needs-requires c κs =
     let at-fetch = c .before in
     let at-new = at-fetch .before in
     let at-enum-told3 = at-new .before in
@@ -78,23 +75,21 @@ store-of-requires c κs =
 
 returns-2 : tie.Need-returns-2
 returns-2 c mode s =
-    let at-enum-told = c .before in
-    let at-rule-of = at-enum-told .before .before in
+    let at-rule-of = c .before .before in
     let at-start = at-rule-of .before .before .before .before .before in
     let a = at-start .args in
     let o = over-named (a .c) (a .t .count) (a .work .now) (locations (a .t))
-    (sym (at-enum-told .enum-told .given .1) ∙ at-rule-of .rule-of .ensures (a .work .now) (locations (a .t))) in
+    (sym (c .enum-told .given .1) ∙ at-rule-of .rule-of .ensures (a .work .now) (locations (a .t))) in
     absurd (true≢false (sym o ∙ at-start .pre .2))
 
 returns-3 : tie.Need-returns-3
 returns-3 c mode s =
-    let at-enum-told2 = c .before in
-    let at-rule-of = at-enum-told2 .before .before in
+    let at-rule-of = c .before .before in
     let at-start = at-rule-of .before .before .before .before .before in
     let a = at-start .args in
     let g = back-named (a .c) (a .t .count) (a .work .now) (locations (a .t))
-    (sym (at-enum-told2 .enum-told2 .given .1) ∙ at-rule-of .rule-of .ensures (a .work .now) (locations (a .t))) in
-    no-needs _ (rolls-fitting (a .p .now) (a .t) mode (a .work .now) (a .c) s g) (c .no-store3 .ensures .0)
+    (sym (c .enum-told2 .given .1) ∙ at-rule-of .rule-of .ensures (a .work .now) (locations (a .t))) in
+    sym (rolls-fitting (a .p .now) (a .t) mode (a .work .now) (a .c) s g)
 
 returns-4 : tie.Need-returns-4
 returns-4 c mode s =
@@ -114,25 +109,22 @@ returns-4 c mode s =
     (sym (at-enum-told3 .enum-told3 .given .1) ∙ at-rule-of .rule-of .ensures w (locations (a .t))) in
     let same = at-instruction-of .instruction-of .ensures
     ∙ fetched-same p (a .t) mode w k s (place-inside g) (at-new .new .ensures) (at-fetch .fetch .ensures) in
-    step-needs p (a .t) mode w k g same (c .store-of .ensures code k ec)
+    c .store-needs .ensures code k ec ∙ step-overfull p (a .t) mode w k g same
 
-pub next-store-spec : {M : Type 1} → statement M
-next-store-spec =
+pub next-needs-spec : {M : Type 1} → statement M
+next-needs-spec =
     tie.close
     (tie.spec
-    (λ c κs. search needs)
     (λ c κs. search needs)
     returns
     rule-of-requires
     (λ c. search needs)
-    (λ c κs. search needs)
     (λ c. search needs)
-    (λ c κs. search needs)
     (λ c. search needs)
     (λ c κs. search needs)
     fetch-requires
     instruction-of-requires
-    store-of-requires
+    store-needs-requires
     returns-2
     returns-3
     returns-4)
