@@ -17,6 +17,9 @@
  * its trace is the same in every load. The verdict of checker_run is a proof:
  * "clean" covers every state with the same public words.
  *
+ * Every instruction takes 1 of the window: the table of window costs is that of
+ * eight ones. Write the processor's numbers there if they were measured.
+ *
  * It takes no memory at run time: everything that the checker needs is lent to
  * it from the static areas below.
  */
@@ -39,6 +42,7 @@ enum {
 /* One byte more than the longest job, so that a longer file is seen as such. */
 static uint8_t job[CHECKER_JOB_BYTES_MAX + 1];
 static size_t job_len;
+static const uint8_t costs[CHECKER_KINDS] = CHECKER_UNIT_COSTS;
 /* The run and each load have trace areas of the same length. */
 static uint64_t trace1[2 * OBSERVATIONS_LENT];
 static uint64_t trace2[2 * OBSERVATIONS_LENT];
@@ -104,7 +108,7 @@ static int run_loads(uint64_t loads, uint64_t seed, int last_location)
     uint64_t first_leak = 0;  /* no seed is 0 */
     for (uint64_t i = 0; i < loads; i++) {
         uint64_t answer[CHECKER_TEST_LOAD_ANSWER_WORDS];
-        uint32_t refused = checker_test_load(job, job_len, seed,
+        uint32_t refused = checker_test_load(job, job_len, seed, costs, sizeof costs,
                                              trace1, sizeof trace1 / sizeof trace1[0],
                                              trace2, sizeof trace2 / sizeof trace2[0],
                                              work, sizeof work / sizeof work[0],
@@ -148,7 +152,7 @@ int main(int argc, char **argv)
         fprintf(stderr, "cannot read %s\n", argv[1]);
         return EXIT_NO_ANSWER;
     }
-    uint32_t refused = checker_run(job, job_len,
+    uint32_t refused = checker_run(job, job_len, costs, sizeof costs,
                                    trace1, sizeof trace1 / sizeof trace1[0],
                                    end, sizeof end / sizeof end[0],
                                    work, sizeof work / sizeof work[0],

@@ -1,19 +1,27 @@
 /*
  * release.c: decides by a job file whether a routine may be released.
  *
- *   release JOB.mua
+ *   release JOB.mua [COSTS]
  *
  * Prints the verdict, the counts, for each register and cell that an observation
  * depended on which one that was first, the first observations of the
  * mispredicting run, and the first of the stores outside memory that it remembers
- * at its stop, each with address and value. The exit status is 0 if the verdict is clean, 1 if
- * it is another one, and 2 if the job is refused or its file cannot be read.
+ * at its stop, each with address and value.
+ *
+ * COSTS says how much of a branch's window an instruction of each kind takes:
+ * eight numbers, such as 1,1,4,1,1,2,1,1, in the order skip, set, load, store,
+ * jmp, beqz, cset, spbarr. Without it every instruction takes 1.
+ *
+ * The exit status is 0 if the verdict is clean, 1 if it is another one, and 2 if
+ * the job or the table is refused, the file cannot be read or COSTS is not eight
+ * numbers.
  *
  * It takes no memory at run time: everything that the checker needs is lent to
  * it from the static areas below.
  */
 #include <inttypes.h>
 #include <stdio.h>
+#include <stdlib.h>
 
 #include "checker.h"
 
@@ -29,6 +37,7 @@ enum {
 /* One byte more than the longest job, so that a longer file is seen as such. */
 static uint8_t job[CHECKER_JOB_BYTES_MAX + 1];
 static size_t job_len;
+static uint8_t costs[CHECKER_KINDS] = CHECKER_UNIT_COSTS;
 static uint64_t trace[2 * OBSERVATIONS_LENT];
 static uint64_t end[CHECKER_END_WORDS_MAX];
 static uint64_t work[CHECKER_WORK_WORDS];
@@ -50,6 +59,23 @@ static int read_job(const char *path)
     int readable = ferror(file) == 0;
     fclose(file);
     return readable;
+}
+
+/* Reads eight decimal numbers with commas between them into the table; 1 if the
+ * text is that and each fits a byte. Whether they are costs the checker tells. */
+static int read_costs(const char *text)
+{
+    for (int kind = 0; kind < CHECKER_KINDS; kind++) {
+        char *rest;
+        unsigned long cost = strtoul(text, &rest, 10);
+        char after = kind + 1 < CHECKER_KINDS ? ',' : '\0';
+        if (text[0] < '0' || text[0] > '9' || cost > UINT8_MAX || *rest != after) {
+            return 0;
+        }
+        costs[kind] = (uint8_t)cost;
+        text = rest + 1;
+    }
+    return 1;
 }
 
 static void print_location(unsigned location)
@@ -129,15 +155,19 @@ static void print_answer(void)
 
 int main(int argc, char **argv)
 {
-    if (argc != 2) {
-        fprintf(stderr, "usage: release JOB.mua\n");
+    if (argc < 2 || argc > 3) {
+        fprintf(stderr, "usage: release JOB.mua [COSTS]\n");
+        return EXIT_NO_ANSWER;
+    }
+    if (argc > 2 && !read_costs(argv[2])) {
+        fprintf(stderr, "%s: not eight numbers with commas between them\n", argv[2]);
         return EXIT_NO_ANSWER;
     }
     if (!read_job(argv[1])) {
         fprintf(stderr, "cannot read %s\n", argv[1]);
         return EXIT_NO_ANSWER;
     }
-    uint32_t refused = checker_run(job, job_len,
+    uint32_t refused = checker_run(job, job_len, costs, sizeof costs,
                                    trace, sizeof trace / sizeof trace[0],
                                    end, sizeof end / sizeof end[0],
                                    work, sizeof work / sizeof work[0],

@@ -23,23 +23,23 @@
  * one: its result depends on its arguments alone.
  *
  * A function returns 0 if it carried out the call, or else the number of the
- * refusal, 1 to 13. After a refusal every area, and the answer too, is exactly
+ * refusal, 1 to 14. After a refusal every area, and the answer too, is exactly
  * as it was before the call.
  *
- * Any bytes may be given as a job or as a text, and areas of any length may be
- * lent: what does not fit is refused. What the caller has to see to is what C
- * cannot check:
+ * Any bytes may be given as a job, a table or a text, and areas of any length
+ * may be lent: what does not fit is refused. What the caller has to see to is
+ * what C cannot check:
  *   - each pointer is valid for the length given with it, and is not null even
  *     where that length is 0;
  *   - pointers to 64-bit words are aligned for them; the bytes of a job, a
- *     state or a text may start anywhere;
+ *     state, a table or a text may start anywhere;
  *   - the areas and the answer do not overlap each other, the job, the second
- *     state or the text;
+ *     state, the table or the text;
  *   - the answer has the number of words named at the function: it is an array
  *     of so many, or for checker_run a struct of them.
  *
- * Lengths of a job, of a state, of a text and of an output area are counted in
- * bytes, lengths of all other areas in 64-bit words.
+ * Lengths of a job, of a state, of a table, of a text and of an output area are
+ * counted in bytes, lengths of all other areas in 64-bit words.
  *
  * What the areas hold before a call has no influence on the result. Every word
  * and byte that is not named below as written keeps its contents.
@@ -91,6 +91,32 @@
  *
  * A location is a register or a memory cell: register r is location r, memory
  * cell a is location 16 + a. There are 16 + m of them, at most 256.
+ *
+ *
+ * THE WINDOW COSTS
+ *
+ * Every call with a mispredicting run takes a table of the processor that the
+ * routine is meant for: how much of an open branch's window an instruction of
+ * each kind takes. The table is eight bytes, one for each kind in the order of
+ * the kinds above, from skip to spbarr; each is 1 to 16.
+ *
+ * A branch that is opened with no other open costs nothing, and its window is
+ * w. A branch on a wrongly guessed path lowers the window of the innermost open
+ * branch by the entry of beqz, and opens with what remains there. Every other
+ * instruction on such a path lowers the window of the innermost open branch by
+ * the entry of its kind; only that window changes, and none falls below 0. A
+ * barrier leaves 0 whatever its entry is, which must be 1 to 16 all the same. A
+ * branch whose window is 0 is rolled back.
+ *
+ * With eight ones, CHECKER_UNIT_COSTS, every instruction counts alike, and w is
+ * a number of instructions. Before they took a table the calls had this one
+ * built in; with it they answer as they did.
+ *
+ *   static const uint8_t costs[CHECKER_KINDS] = CHECKER_UNIT_COSTS;
+ *
+ * What is said below of two runs holds of runs with the same table. A verdict
+ * is one for its table: another table may show more. The plain run has no
+ * windows and takes no table.
  *
  *
  * THE AREAS
@@ -159,6 +185,15 @@ extern "C" {
 /* The longest job, in bytes. */
 #define CHECKER_JOB_BYTES_MAX 16384
 
+/* Kinds of instruction: the bytes of a table of window costs. */
+#define CHECKER_KINDS 8
+
+/* The largest entry of a table; the smallest is 1. */
+#define CHECKER_COST_MAX 16
+
+/* The initialiser of a table in which every instruction costs 1. */
+#define CHECKER_UNIT_COSTS {1, 1, 1, 1, 1, 1, 1, 1}
+
 /* Words of the working area that every run and comparison needs. */
 #define CHECKER_WORK_WORDS 4096
 
@@ -197,8 +232,8 @@ extern "C" {
 
 /* Why a call was refused; 0 is no refusal. The tests are made in this order and
  * the first that fails gives the number, except that 4, 5 and 6 are all tried
- * on one instruction before the next instruction is read, and that 13 is tested
- * before 12. */
+ * on one instruction before the next instruction is read, that 14 is tested
+ * directly before 10, and that 13 is tested before 12. */
 enum checker_refusal {
     CHECKER_DONE = 0,
     /* The job is shorter than 16 bytes or longer than 16,384. */
@@ -234,7 +269,11 @@ enum checker_refusal {
      * the new state; tested last. */
     CHECKER_REFUSED_OUTPUT = 12,
     /* The seed is 0; tested after 10 and before 12 (checker_test_load only). */
-    CHECKER_REFUSED_SEED = 13
+    CHECKER_REFUSED_SEED = 13,
+    /* The table of window costs is not eight bytes long, or an entry is outside
+     * 1 to 16; tested directly before 10, so after 9 (checker_run,
+     * checker_compare and checker_test_load only). */
+    CHECKER_REFUSED_COSTS = 14
 };
 
 /* Why a run stopped. Finished is tested first, then spent, then trace full,
@@ -391,6 +430,7 @@ enum checker_print_answer {
  * The mispredicting run of a job.
  *
  * job, job_len      the job, in bytes
+ * costs, costs_len  the table of window costs: 8 bytes, 1 to 16 each
  * trace, trace_len  the trace area, in words
  * end, end_len      the end area, in words, at least 16 + m + 129
  * work, work_len    the working area, in words, at least 4,096
@@ -399,17 +439,18 @@ enum checker_print_answer {
  *                   of 256 locations index, cause and label of the first
  *                   observation that depended on it, 0 if it is not in D
  *
- * Returns 0 or a refusal number (1 to 8, or 10).
+ * Returns 0 or a refusal number (1 to 8, 10 or 14).
  *
  * A second state that holds the same words as the job's state at the locations
- * of D gives, in areas of the same lengths, the same answer and the same
- * observations (same program, public list and trailer). It also remembers
- * stores to the same addresses in the same order, and the same value for each
- * whose value depends on locations of D alone. After the verdict "clean" this
- * holds of every state that agrees with the job's at the public locations;
- * other public values are another job.
+ * of D gives, with the same table and in areas of the same lengths, the same
+ * answer and the same observations (same program, public list and trailer). It
+ * also remembers stores to the same addresses in the same order, and the same
+ * value for each whose value depends on locations of D alone. After the verdict
+ * "clean" this holds of every state that agrees with the job's at the public
+ * locations; other public values are another job.
  */
 uint32_t checker_run(const uint8_t *job, size_t job_len,
+                     const uint8_t *costs, size_t costs_len,
                      uint64_t *trace, size_t trace_len,
                      uint64_t *end, size_t end_len,
                      uint64_t *work, size_t work_len,
@@ -417,18 +458,18 @@ uint32_t checker_run(const uint8_t *job, size_t job_len,
 
 /*
  * The plain run of a job: no branch is guessed. It is lent the same areas as
- * checker_run, counts its steps against b and stops in the same way. Its
- * observations are pc, load and store only.
+ * checker_run, counts its steps against b and stops in the same way. It takes
+ * no table of window costs. Its observations are pc, load and store only.
  *
  * answer            7 words: stop, observations, steps, four words of the
  *                   plain set
  *
  * Returns 0 or a refusal number (1 to 8, or 10).
  *
- * If checker_run finishes, this run finishes in areas of the same lengths,
- * with the same registers, cells and remembered stores and the same plain set;
- * and its trace is that of checker_run without all that stands between each
- * outermost start and its rollback, both of them left out too.
+ * If checker_run finishes, with any table, this run finishes in areas of the
+ * same lengths, with the same registers, cells and remembered stores and the
+ * same plain set; and its trace is that of checker_run without all that stands
+ * between each outermost start and its rollback, both of them left out too.
  */
 uint32_t checker_plain_run(const uint8_t *job, size_t job_len,
                            uint64_t *trace, size_t trace_len,
@@ -442,6 +483,8 @@ uint32_t checker_plain_run(const uint8_t *job, size_t job_len,
  * job, job_len         the job, in bytes
  * second, second_len   the second state, laid out as in a job: 16 registers,
  *                      then m cells, 8 bytes each, little-endian
+ * costs, costs_len     the table of window costs of both runs: 8 bytes, 1 to 16
+ *                      each
  * trace1, trace1_len   the trace area of the run with the job's state
  * trace2, trace2_len   the trace area of the run with the second state; as many
  *                      words as trace1
@@ -452,10 +495,11 @@ uint32_t checker_plain_run(const uint8_t *job, size_t job_len,
  * Both runs are made and both traces written whatever the word is, and each
  * run starts with no store outside memory remembered. There is no end area.
  *
- * Returns 0 or a refusal number (1 to 10).
+ * Returns 0 or a refusal number (1 to 10, or 14).
  */
 uint32_t checker_compare(const uint8_t *job, size_t job_len,
                          const uint8_t *second, size_t second_len,
+                         const uint8_t *costs, size_t costs_len,
                          uint64_t *trace1, size_t trace1_len,
                          uint64_t *trace2, size_t trace2_len,
                          uint64_t *work, size_t work_len,
@@ -466,7 +510,10 @@ uint32_t checker_compare(const uint8_t *job, size_t job_len,
  * state and with one that is made from a seed.
  *
  * job, job_len         the job, in bytes
- * seed                 any number but 0; the same seed makes the same state
+ * seed                 any number but 0; the same seed makes the same state,
+ *                      with every table for which the job's own run finishes
+ * costs, costs_len     the table of window costs of both runs: 8 bytes, 1 to 16
+ *                      each
  * trace1, trace1_len   the trace area of the run with the job's state
  * trace2, trace2_len   the trace area of the run with the new state; as many
  *                      words as trace1
@@ -483,9 +530,9 @@ uint32_t checker_compare(const uint8_t *job, size_t job_len,
  *   x ^= x << 13; x ^= x >> 7; x ^= x << 17;
  *
  * where x is at first the seed. The new state then stands at the front of its
- * area, and the rest is checker_compare with it. It has the same plain trace as
- * the job, so that the word is never "not comparable" or "plain differs": a leak
- * that is shown is one of a wrongly guessed path.
+ * area, and the rest is checker_compare with it and the same table. It has the
+ * same plain trace as the job, so that the word is never "not comparable" or
+ * "plain differs": a leak that is shown is one of a wrongly guessed path.
  *
  * If the job's own run does not finish, no new state is made: the word is
  * "undecided", the answer holds that run's counts and then zeros, its trace is
@@ -499,10 +546,11 @@ uint32_t checker_compare(const uint8_t *job, size_t job_len,
  * 1, 2, 3. A job without such a location has its own state from every seed.
  * examples/batch.c runs 1,000 seeds.
  *
- * Returns 0 or a refusal number (1 to 8, 10, 12 or 13).
+ * Returns 0 or a refusal number (1 to 8, 10, 12, 13 or 14).
  */
 uint32_t checker_test_load(const uint8_t *job, size_t job_len,
                            uint64_t seed,
+                           const uint8_t *costs, size_t costs_len,
                            uint64_t *trace1, size_t trace1_len,
                            uint64_t *trace2, size_t trace2_len,
                            uint64_t *work, size_t work_len,

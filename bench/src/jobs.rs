@@ -1,16 +1,18 @@
-//! The jobs that are measured.
+//! The jobs that are measured, each with its table of window costs.
 
+use checker_tests::cost_tables::{KINDS, ONES};
 use checker_tests::examples::{barrier, nested, printed, r0_zero, seldom};
 use checker_tests::job_file::{
     assign, beqz, conditional, jmp, load, skip, spbarr, store, Instruction, Parts, Token, ADD, AND,
     MUL, NOT, SHL, SHR, SUB, XOR,
 };
 
-/// Jobs that are run one after the other, so many times in one round. Rounds are short, so that some
+/// Jobs that are run one after the other with one table, so many times in one round. Rounds are short, so that some
 /// of them are not interrupted by other programs.
 pub struct Workload {
     pub name: String,
     pub jobs: Vec<Vec<u8>>,
+    pub costs: [u8; KINDS],
     pub repeats: usize,
 }
 
@@ -20,6 +22,9 @@ pub const STEPS: u32 = 20_000;
 
 const CELLS: usize = 128;
 
+/// A table other than eight ones; the entries of neighbouring kinds differ.
+const MEASURED: [u8; KINDS] = [2, 3, 1, 2, 1, 3, 4, 1];
+
 /// The bits of a register that are one of 64 addresses outside memory, if the topmost of them is set.
 const OUTSIDE: u64 = 1 << 32 | 63;
 
@@ -27,6 +32,11 @@ pub fn workloads() -> Vec<Workload> {
     let mut all = vec![
         one("deep nesting, w 200, branches only", nesting(branches_only(), 200)),
         one("deep nesting, w 200, with changes", nesting(branches_and_changes(), 200)),
+        with_table(
+            "deep nesting, w 200, with changes, costs 2 3 1 2 1 3 4 1",
+            nesting(branches_and_changes(), 200),
+            MEASURED,
+        ),
         one("deep nesting, w 200, m 240", with_cells(nesting(branches_and_changes(), 200), 240)),
         one(
             "deep nesting, w 200, 64 addresses outside",
@@ -73,7 +83,11 @@ fn by_kind() -> Vec<(&'static str, Parts)> {
 }
 
 fn one(name: &str, parts: Parts) -> Workload {
-    Workload { name: name.to_string(), jobs: vec![parts.bytes()], repeats: 1 }
+    with_table(name, parts, ONES)
+}
+
+fn with_table(name: &str, parts: Parts, costs: [u8; KINDS]) -> Workload {
+    Workload { name: name.to_string(), jobs: vec![parts.bytes()], costs, repeats: 1 }
 }
 
 /// A job that runs until its budget is spent, with small numbers in all registers.
@@ -252,7 +266,8 @@ fn skips() -> Vec<Instruction> {
 /// Five example jobs, of four to six steps each.
 fn short_jobs() -> Workload {
     let jobs = [printed(), barrier(), nested(), r0_zero(), seldom()].map(|parts| parts.bytes());
-    Workload { name: "short jobs back to back".to_string(), jobs: jobs.to_vec(), repeats: 50 }
+    let name = "short jobs back to back".to_string();
+    Workload { name, jobs: jobs.to_vec(), costs: ONES, repeats: 50 }
 }
 
 /// A small job: one instruction, one step, 16 cells.

@@ -21,6 +21,7 @@ use checker_bench::timing::{best_of, processor};
 use checker_bench::verify::agrees_with_reference;
 use checker_tests::calls::run_words;
 use checker_tests::cases::{MOST_END_WORDS, WORKING_WORDS};
+use checker_tests::cost_tables::{KINDS, ONES};
 use checker_tests::library;
 
 const VERIFIED_JOBS: u64 = 20_000;
@@ -52,8 +53,8 @@ impl Areas {
     }
 }
 
-/// Runs one job and leaves the answer in the areas.
-type Runner<'a> = Box<dyn FnMut(&[u8], &mut Areas) + 'a>;
+/// Runs one job with a table and leaves the answer in the areas.
+type Runner<'a> = Box<dyn FnMut(&[u8], &[u8; KINDS], &mut Areas) + 'a>;
 
 fn main() -> ExitCode {
     let words: Vec<String> = std::env::args().skip(1).collect();
@@ -95,7 +96,7 @@ fn make_calls(words: &[String]) -> ExitCode {
     for _ in 0..calls {
         steps = 0;
         for job in &workload.jobs {
-            runner(black_box(job), &mut areas);
+            runner(black_box(job), black_box(&workload.costs), &mut areas);
             steps += areas.answer[2];
         }
     }
@@ -137,7 +138,7 @@ fn print_fixed_cost(rounds: usize, areas: &mut Areas) {
     let job = small_job();
     let [mut library, mut fast, _] = runners();
     let times = [&mut library, &mut fast]
-        .map(|runner| best_of(rounds, 100, || runner(black_box(&job), areas)));
+        .map(|runner| best_of(rounds, 100, || runner(black_box(&job), black_box(&ONES), areas)));
     let clearing = best_of(rounds, 100, || black_box(&mut areas.work).fill(0));
     println!();
     println!(
@@ -163,13 +164,14 @@ fn measure_growth(rounds: usize) -> ExitCode {
     let [mut library, _, _] = runners();
     let mut before: Option<(&str, usize, f64)> = None;
     for Sample { series, size, unit, units, steps, job } in samples() {
-        library(&job, &mut areas);
+        library(&job, &ONES, &mut areas);
         if areas.answer[2] != steps {
             eprintln!("{series} {size}: {} steps instead of {steps}", areas.answer[2]);
             return ExitCode::FAILURE;
         }
         let calls = if steps < 1_000 { 100 } else { 1 };
-        let time = best_of(rounds, calls, || library(black_box(&job), &mut areas));
+        let time =
+            best_of(rounds, calls, || library(black_box(&job), black_box(&ONES), &mut areas));
         let more = match before {
             Some((name, fewer, less)) if name == series && fewer < units => {
                 format!("{:.2} a {unit}", (time - less) / (units - fewer) as f64)
@@ -185,17 +187,17 @@ fn measure_growth(rounds: usize) -> ExitCode {
 fn runners<'a>() -> [Runner<'a>; 3] {
     let mut checker = Checker::default();
     [
-        Box::new(|job, areas| {
+        Box::new(|job, costs, areas| {
             let Areas { trace, end, work, answer } = areas;
-            library::run(job, trace, end, work, answer);
+            library::run(job, costs, trace, end, work, answer);
         }),
-        Box::new(move |job, areas| {
+        Box::new(move |job, costs, areas| {
             let Areas { trace, end, work, answer } = areas;
-            checker.run(job, trace, end, work, answer);
+            checker.run(job, costs, trace, end, work, answer);
         }),
-        Box::new(|job, areas| {
+        Box::new(|job, costs, areas| {
             let Areas { trace, end, work, answer } = areas;
-            if let Ok(ran) = reference::run(job, trace, end, work) {
+            if let Ok(ran) = reference::run(job, costs, trace, end, work) {
                 answer.copy_from_slice(&run_words(ran));
             }
         }),
@@ -221,7 +223,7 @@ fn measure(workload: &Workload, rounds: usize, areas: &mut Areas) -> Option<(u64
 fn run_round(workload: &Workload, runner: &mut Runner, areas: &mut Areas) {
     for _ in 0..workload.repeats {
         for job in &workload.jobs {
-            runner(black_box(job), areas);
+            runner(black_box(job), black_box(&workload.costs), areas);
             black_box(&areas.answer);
         }
     }
@@ -234,7 +236,7 @@ fn same_steps(workload: &Workload, runners: &mut [Runner], areas: &mut Areas) ->
         let mut results = Vec::new();
         for runner in runners.iter_mut() {
             areas.answer = [u64::MAX; ANSWER_WORDS];
-            runner(job, areas);
+            runner(job, &workload.costs, areas);
             let written = 2 * areas.answer[1] as usize;
             results.push((areas.answer, areas.trace.get(..written)?.to_vec(), areas.end.clone()));
         }

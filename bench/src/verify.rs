@@ -27,7 +27,8 @@ fn check(case: &Case, checker: &mut Checker) -> Result<(), String> {
     let call = case.call(Operation::Run, MARGIN);
     let mut made = call.prepared();
     let [trace, end, work] = made.areas.each_mut().map(Area::lent);
-    made.number = checker.run(&case.job, trace, end, work, exactly(made.answer.lent()));
+    made.number =
+        checker.run(&case.job, &case.costs, trace, end, work, exactly(made.answer.lent()));
     if made == call.by_reference() {
         Ok(())
     } else {

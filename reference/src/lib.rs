@@ -1,4 +1,4 @@
-//! A second implementation of document 01 and of requests F-1 to F-6 of document 02,
+//! A second implementation of document 01 and of requests F-1 to F-7 of document 02,
 //! written from the documents alone.
 //! It prefers clarity to speed: every branch saves a copy of the whole state.
 
@@ -21,6 +21,7 @@ mod text;
 mod text_printing;
 mod text_reading;
 mod trace;
+mod window_costs;
 
 pub use answer::{
     Cause, First, LoadAnswer, PairAnswer, PairWord, PlainAnswer, RunAnswer, RunCounts, Stop,
@@ -34,3 +35,4 @@ pub use run::{plain_run, run};
 pub use test_load::test_load;
 pub use text::{print_text, read_text};
 pub use trace::strike_out;
+pub use window_costs::WINDOW_COSTS;

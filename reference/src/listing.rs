@@ -6,10 +6,11 @@ use crate::location_set::LocationSet;
 use crate::machine::REGISTERS;
 use crate::run::speculative_run;
 use crate::trace::{observations, LOAD, PC, ROLLBACK, START, STORE};
+use crate::window_costs::WindowCosts;
 
 const LENT_OBSERVATIONS: usize = 512;
 
-/// Prints the mispredicting run of a job, with 512 observations lent.
+/// Prints the mispredicting run of a job, with 512 observations lent and window costs of 1.
 pub fn listing(job: &[u8]) -> Vec<u8> {
     listing_in(job, LENT_OBSERVATIONS)
 }
@@ -25,7 +26,7 @@ pub fn listing_in(job: &[u8], observations: usize) -> Vec<u8> {
 
 fn run_text(job: &Job, lent: usize) -> String {
     let mut area = vec![0; 2 * lent];
-    let (answer, _) = speculative_run(job, &mut area);
+    let (answer, _) = speculative_run(job, WindowCosts::DOCUMENT_01, &mut area);
     let mut text = String::new();
     for (kind, value) in observations(&area, answer.observations) {
         text.push_str(&observation_line(kind, value, job.program.len() as u64));

@@ -5,22 +5,26 @@ use crate::job::{read_job, Job};
 use crate::refusal::{self, require};
 use crate::run::{sequential_run, speculative_run, WORKING_WORDS};
 use crate::trace::observations;
+use crate::window_costs::WindowCosts;
 
-/// Makes the mispredicting run of the job's state and of the second state, and compares them.
+/// Makes the mispredicting run of the job's state and of the second state, both with the same
+/// table of window costs, and compares them.
 /// Both runs are made and both traces written whatever the word is.
 pub fn compare(
     job: &[u8],
     second: &[u8],
+    costs: &[u8],
     first_trace: &mut [u64],
     second_trace: &mut [u64],
     work: &mut [u64],
 ) -> Result<PairAnswer, u32> {
     let first_job = read_job(job)?;
     let second_job = first_job.with_state(second)?;
+    let costs = WindowCosts::read(costs)?;
     check_areas(first_trace, second_trace, work)?;
 
-    let (first, _) = speculative_run(&first_job, first_trace);
-    let (second, _) = speculative_run(&second_job, second_trace);
+    let (first, _) = speculative_run(&first_job, costs, first_trace);
+    let (second, _) = speculative_run(&second_job, costs, second_trace);
     work[..WORKING_WORDS].fill(0);
 
     let word = if !alike_in_public(&first_job, &second_job) {

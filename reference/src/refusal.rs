@@ -1,5 +1,5 @@
-//! The numbers of the refusals, in the order in which they are checked; a test load checks
-//! 13 before 12.
+//! The numbers of the refusals, in the order in which they are checked, with two exceptions:
+//! 14 is checked directly before 10, and a test load checks 13 before 12.
 
 /// A refusal is its number.
 pub type Refusal = u32;
@@ -17,6 +17,7 @@ pub const AREAS: u32 = 10;
 pub const TEXT: u32 = 11;
 pub const OUTPUT_AREA: u32 = 12;
 pub const SEED: u32 = 13;
+pub const COSTS: u32 = 14;
 
 /// Refuses with the number unless the condition holds.
 pub fn require(condition: bool, number: u32) -> Result<(), u32> {

@@ -8,11 +8,9 @@ use crate::machine::{execute, Instruction, State, Word};
 use crate::outside::OUTSIDE_WORDS;
 use crate::refusal::{self, require};
 use crate::trace::{TraceWriter, PC, ROLLBACK, START};
+use crate::window_costs::WindowCosts;
 
 pub const WORKING_WORDS: usize = 4_096;
-
-/// How much each kind of instruction lowers a window, by kind byte.
-const WINDOW_COSTS: [u64; 8] = [1; 8];
 
 /// A branch whose wrong path is being followed.
 struct OpenBranch {
@@ -32,6 +30,7 @@ enum Step<'a> {
 /// A mispredicting run between two steps.
 struct SpeculativeRun<'a> {
     job: &'a Job,
+    costs: WindowCosts,
     trace: TraceWriter<'a>,
     state: State,
     place: usize,
@@ -44,21 +43,23 @@ struct SpeculativeRun<'a> {
     observed: ObservedSets,
 }
 
-/// Makes the mispredicting run of a job.
+/// Makes the mispredicting run of a job with a table of window costs.
 pub fn run(
     job: &[u8],
+    costs: &[u8],
     trace: &mut [u64],
     end: &mut [u64],
     work: &mut [u64],
 ) -> Result<RunAnswer, u32> {
     let job = read_job(job)?;
+    let costs = WindowCosts::read(costs)?;
     check_areas(&job, end, work)?;
-    let (answer, state) = speculative_run(&job, trace);
+    let (answer, state) = speculative_run(&job, costs, trace);
     fill_areas(&state, end, work);
     Ok(answer)
 }
 
-/// Makes the plain run of a job.
+/// Makes the plain run of a job; it has no window and takes no table.
 pub fn plain_run(
     job: &[u8],
     trace: &mut [u64],
@@ -86,9 +87,10 @@ fn fill_areas(state: &State, end: &mut [u64], work: &mut [u64]) {
 }
 
 /// Makes the mispredicting run; gives the answer and the state at the stop.
-pub fn speculative_run(job: &Job, trace: &mut [u64]) -> (RunAnswer, State) {
+pub fn speculative_run(job: &Job, costs: WindowCosts, trace: &mut [u64]) -> (RunAnswer, State) {
     let mut run = SpeculativeRun {
         job,
+        costs,
         trace: TraceWriter::new(trace),
         state: State::new(&job.initial),
         place: 0,
@@ -187,6 +189,7 @@ impl<'a> SpeculativeRun<'a> {
     }
 
     /// Rule 2. A nested branch lowers the old top first and takes what remains there.
+    /// With nothing open no window is lowered: the opening costs nothing.
     fn open_branch(&mut self, register: usize, label: usize) {
         let tested = self.state.register(register);
         let next = self.place + 1;
@@ -202,7 +205,7 @@ impl<'a> SpeculativeRun<'a> {
         self.trace.push(PC, wrong as u64);
     }
 
-    /// Rule 3. Only the top's window changes.
+    /// Rule 3. Only the top's window changes. A barrier sets it to 0 whatever its entry is.
     fn carry_out(&mut self, instruction: &Instruction) {
         let end = self.job.program.len();
         let (next, observed) = execute(instruction, &mut self.state, self.place, end);
@@ -217,9 +220,10 @@ impl<'a> SpeculativeRun<'a> {
         }
     }
 
+    /// Takes the entry of the instruction's kind from the top's window, down to 0 at least.
     fn lower_top(&mut self, instruction: &Instruction) {
         if let Some(top) = self.open.last_mut() {
-            top.window = top.window.saturating_sub(WINDOW_COSTS[instruction.kind()]);
+            top.window = top.window.saturating_sub(self.costs.cost(instruction));
         }
     }
 

@@ -4,7 +4,7 @@ mod common;
 
 use check_box_reference::{
     compare, listing, plain_run, run, strike_out, test_load, PairWord, RunAnswer, RunCounts, Stop,
-    Verdict, OUTSIDE_LIMIT, OUTSIDE_WORDS,
+    Verdict, OUTSIDE_LIMIT, OUTSIDE_WORDS, WINDOW_COSTS,
 };
 use common::random::Random;
 use common::T::{C, R};
@@ -397,7 +397,7 @@ fn order_of_the_stops_on_a_wrong_path() {
 fn refusal_with_end(parts: &JobParts, end_words: usize) -> u32 {
     let areas = || [area(64), area(end_words), area(WORK)];
     let ([mut trace, mut end, mut work], bytes) = (areas(), parts.bytes());
-    let refusal = run(&bytes, &mut trace, &mut end, &mut work).err();
+    let refusal = run(&bytes, &WINDOW_COSTS, &mut trace, &mut end, &mut work).err();
     let [mut plain_trace, mut plain_end, mut plain_work] = areas();
     let plain = plain_run(&bytes, &mut plain_trace, &mut plain_end, &mut plain_work).err();
     assert_eq!(refusal, plain);
@@ -431,7 +431,7 @@ fn an_end_area_word_by_word() {
     ] {
         let parts = spilling(program, 1);
         let (mut trace, mut end, mut work) = (area(64), area(150), area(WORK));
-        run(&parts.bytes(), &mut trace, &mut end, &mut work).expect("accepted");
+        run(&parts.bytes(), &WINDOW_COSTS, &mut trace, &mut end, &mut work).expect("accepted");
         let mut words = [parts.registers.to_vec(), parts.cells, table].concat();
         words.resize(146, 0);
         assert_eq!(end, area_with(&words, 150));
@@ -527,7 +527,7 @@ fn areas_of_a_pair_are_as_before() {
     let parts = spilling(spills(1), 0);
     let (mut first, mut second, mut work) = (area(2), area(2), area(WORK));
     let state = parts.state_bytes();
-    let answer = compare(&parts.bytes(), &state, &mut first, &mut second, &mut work);
+    let answer = compare(&parts.bytes(), &state, &WINDOW_COSTS, &mut first, &mut second, &mut work);
     assert_eq!(answer.expect("accepted").word, PairWord::Equal);
     assert_eq!((first, second), (vec![STORE, 1_000], vec![STORE, 1_000]));
     assert_eq!(work, vec![0; WORK]);
@@ -543,7 +543,8 @@ fn a_test_load_whose_own_run_is_outside_full() {
         let (mut first, mut second, mut work) = (area(200), area(200), area(WORK));
         let (job, mut state) = (parts.bytes(), byte_area(150));
         let answer =
-            test_load(&job, 1, &mut first, &mut second, &mut work, &mut state).expect("accepted");
+            test_load(&job, 1, &WINDOW_COSTS, &mut first, &mut second, &mut work, &mut state)
+                .expect("accepted");
         let counts = RunCounts { stop: Stop::OutsideFull, steps, rollbacks: 0, observations };
         assert_eq!((answer.word, answer.first), (PairWord::Undecided, counts));
         assert_eq!(answer.second, None);
@@ -561,8 +562,8 @@ fn a_test_load_whose_second_run_is_outside_full() {
     parts.registers[2] = 1_000;
     let (mut first, mut second, mut work) = (area(200), area(200), area(WORK));
     let (job, mut state) = (parts.bytes(), byte_area(150));
-    let answer =
-        test_load(&job, 1, &mut first, &mut second, &mut work, &mut state).expect("accepted");
+    let answer = test_load(&job, 1, &WINDOW_COSTS, &mut first, &mut second, &mut work, &mut state)
+        .expect("accepted");
     let own = RunCounts { stop: Stop::Finished, steps: 67, rollbacks: 1, observations: 69 };
     let new = RunCounts { stop: Stop::OutsideFull, steps: 65, rollbacks: 0, observations: 66 };
     assert_eq!((answer.word, answer.first), (PairWord::Undecided, own));

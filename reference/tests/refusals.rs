@@ -1,8 +1,9 @@
-//! Each refusal number at its boundary, and the order of the checks (readings 1 to 5, 22).
+//! Each refusal number of document 01 at its boundary, and the order of the checks
+//! (readings 1 to 5, 22). Refusals 11 to 14 stand in the tests of their requests.
 
 mod common;
 
-use check_box_reference::{compare, listing, plain_run, run};
+use check_box_reference::{compare, listing, plain_run, run, WINDOW_COSTS};
 use common::T::{C, R};
 use common::*;
 
@@ -214,7 +215,7 @@ fn refusal_8_public_bit() {
 /// The refusal of a pair with areas of the given lengths; 0 if it is accepted.
 fn pair_refusal(bytes: &[u8], state: &[u8], lengths: [usize; 3]) -> u32 {
     let [mut first, mut second, mut work] = lengths.map(area);
-    match compare(bytes, state, &mut first, &mut second, &mut work) {
+    match compare(bytes, state, &WINDOW_COSTS, &mut first, &mut second, &mut work) {
         Ok(_) => 0,
         Err(number) => {
             assert_eq!([first, second, work], lengths.map(area));
@@ -239,7 +240,7 @@ fn refusal_10_areas_of_a_run() {
     {
         let areas = || (area(2), area(end_words), area(work_words));
         let (mut trace, mut end, mut work) = areas();
-        let result = run(&bytes, &mut trace, &mut end, &mut work).map(|_| ());
+        let result = run(&bytes, &WINDOW_COSTS, &mut trace, &mut end, &mut work).map(|_| ());
         assert_eq!(result.err().unwrap_or(0), number);
         let (mut plain_trace, mut plain_end, mut plain_work) = areas();
         let result =

@@ -8,12 +8,15 @@ use std::path::{Path, PathBuf};
 
 use check_box_reference::{
     compare, listing, plain_run, print_text, read_text, run, test_load, First, LoadAnswer,
-    RunAnswer, RunCounts,
+    RunAnswer, RunCounts, WINDOW_COSTS,
 };
 use common::{area, area_with, byte_area, byte_area_with, locations, WORK};
 
 /// The level from which the vectors have the reports of request F-6.
 const FIRSTS_LEVEL: u64 = 6;
+
+/// The level from which the vectors with a mispredicting run have the table of request F-7.
+const COSTS_LEVEL: u64 = 7;
 
 /// One block of the file: its key lines, and the lines that begin with "| ".
 /// Lines with the key "first" stand apart, because there is one for each location of D.
@@ -48,8 +51,25 @@ impl Vector {
     }
 
     /// A block without a level is of the lowest.
+    fn level(&self) -> u64 {
+        if self.fields.contains_key("level") {
+            self.numbers("level")[0]
+        } else {
+            0
+        }
+    }
+
     fn has_firsts(&self) -> bool {
-        self.fields.contains_key("level") && self.numbers("level")[0] >= FIRSTS_LEVEL
+        self.level() >= FIRSTS_LEVEL
+    }
+
+    /// The table of window costs; a vector below the level has none and is run with eight ones.
+    fn costs(&self) -> Vec<u8> {
+        if self.level() >= COSTS_LEVEL {
+            self.bytes("costs")
+        } else {
+            WINDOW_COSTS.to_vec()
+        }
     }
 
     fn refused(&self) -> Option<u32> {
@@ -120,7 +140,8 @@ fn run_lines(answer: &RunAnswer) -> Vec<String> {
 fn check_run(vector: &Vector) {
     let [mut trace, mut end, mut work] =
         ["trace", "end", "work"].map(|name| area(vector.lent(name)));
-    let lines = match run(&vector.bytes("job"), &mut trace, &mut end, &mut work) {
+    let (job, costs) = (vector.bytes("job"), vector.costs());
+    let lines = match run(&job, &costs, &mut trace, &mut end, &mut work) {
         Err(number) => refused_lines(number),
         Ok(answer) => {
             assert_eq!(answer.observations as usize * 2, vector.numbers("trace").len());
@@ -167,8 +188,8 @@ fn counts_line(key: &str, counts: &RunCounts) -> String {
 fn check_pair(vector: &Vector) {
     let [mut first, mut second, mut work] =
         ["trace1", "trace2", "work"].map(|name| area(vector.lent(name)));
-    let (job, state) = (vector.bytes("job"), vector.bytes("second"));
-    let lines = match compare(&job, &state, &mut first, &mut second, &mut work) {
+    let (job, state, costs) = (vector.bytes("job"), vector.bytes("second"), vector.costs());
+    let lines = match compare(&job, &state, &costs, &mut first, &mut second, &mut work) {
         Err(number) => refused_lines(number),
         Ok(answer) => {
             assert_eq!(answer.first.observations as usize * 2, vector.numbers("trace1").len());
@@ -198,8 +219,9 @@ fn check_load(vector: &Vector) {
     let [mut first, mut second, mut work] =
         ["trace1", "trace2", "work"].map(|name| area(vector.lent(name)));
     let mut state = byte_area(vector.lent("state"));
-    let (job, seed) = (vector.bytes("job"), vector.numbers("seed-word")[0]);
-    let lines = match test_load(&job, seed, &mut first, &mut second, &mut work, &mut state) {
+    let (job, seed, costs) = (vector.bytes("job"), vector.numbers("seed-word")[0], vector.costs());
+    let answer = test_load(&job, seed, &costs, &mut first, &mut second, &mut work, &mut state);
+    let lines = match answer {
         Err(number) => refused_lines(number),
         Ok(answer) => {
             assert_eq!(answer.first.observations as usize * 2, vector.numbers("trace1").len());
@@ -291,6 +313,9 @@ fn check(vector: &Vector) {
     let op = vector.field("op");
     // Only a mispredicting run by itself reports; plain runs, pairs and test loads do not.
     assert!(vector.firsts.is_empty() || ["run", "listing"].contains(&op), "lines \"first\"");
+    // From that level on each call with a mispredicting run takes a table, and no other does.
+    let takes_costs = vector.level() >= COSTS_LEVEL && ["run", "pair", "load"].contains(&op);
+    assert_eq!(vector.fields.contains_key("costs"), takes_costs, "line \"costs\"");
     match op {
         "run" => check_run(vector),
         "plain" => check_plain(vector),

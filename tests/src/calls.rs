@@ -27,13 +27,14 @@ pub struct Lengths {
     pub state: usize,
 }
 
-/// The second state is a pair's, the seed a test load's.
+/// The second state is a pair's, the seed a test load's. The table of window costs is for all but a plain run.
 #[derive(Clone, Copy)]
 pub struct Call<'a> {
     pub operation: Operation,
     pub job: &'a [u8],
     pub second: &'a [u8],
     pub seed: u64,
+    pub costs: &'a [u8],
     pub lengths: Lengths,
     pub fill: Fill,
 }
@@ -114,20 +115,24 @@ impl Call<'_> {
         let mut outcome = self.prepared();
         let job = Bytes::copied(self.job, self.fill);
         let second = Bytes::copied(self.second, self.fill);
+        let costs = Bytes::copied(self.costs, self.fill);
         let [a, b, work] = outcome.areas.each_mut().map(Area::lent);
         let answer = outcome.answer.lent();
         outcome.number = match self.operation {
-            Operation::Run => library::run(job.lent(), a, b, work, exactly(answer)),
+            Operation::Run => library::run(job.lent(), costs.lent(), a, b, work, exactly(answer)),
             Operation::Plain => library::plain_run(job.lent(), a, b, work, exactly(answer)),
             Operation::Pair => {
-                library::compare(job.lent(), second.lent(), a, b, work, exactly(answer))
+                let (second, costs) = (second.lent(), costs.lent());
+                library::compare(job.lent(), second, costs, a, b, work, exactly(answer))
             }
             Operation::Load => {
-                let state = outcome.state.lent();
-                library::test_load(job.lent(), self.seed, a, b, work, state, exactly(answer))
+                let (seed, costs, state) = (self.seed, costs.lent(), outcome.state.lent());
+                library::test_load(job.lent(), seed, costs, a, b, work, state, exactly(answer))
             }
         };
-        outcome.inputs_kept = job.is_unchanged(self.job) && second.is_unchanged(self.second);
+        outcome.inputs_kept = job.is_unchanged(self.job)
+            && second.is_unchanged(self.second)
+            && costs.is_unchanged(self.costs);
         outcome
     }
 
@@ -135,14 +140,15 @@ impl Call<'_> {
         let mut outcome = self.prepared();
         let [a, b, work] = outcome.areas.each_mut().map(Area::lent);
         let answered: Result<Vec<u64>, u32> = match self.operation {
-            Operation::Run => reference::run(self.job, a, b, work).map(run_words),
+            Operation::Run => reference::run(self.job, self.costs, a, b, work).map(run_words),
             Operation::Plain => reference::plain_run(self.job, a, b, work).map(plain_words),
             Operation::Pair => {
-                reference::compare(self.job, self.second, a, b, work).map(pair_words)
+                reference::compare(self.job, self.second, self.costs, a, b, work).map(pair_words)
             }
             Operation::Load => {
                 let state = outcome.state.lent();
-                reference::test_load(self.job, self.seed, a, b, work, state).map(load_words)
+                let (job, seed, costs) = (self.job, self.seed, self.costs);
+                reference::test_load(job, seed, costs, a, b, work, state).map(load_words)
             }
         };
         match answered {
@@ -228,7 +234,9 @@ impl Outcome {
             return Some(format!("{name} returned {}, not {}", self.number, expected.number));
         }
         if !self.inputs_kept {
-            return Some(format!("{name} changed the bytes of the job or the second state"));
+            return Some(format!(
+                "{name} changed the bytes of the job, the second state or the table"
+            ));
         }
         let areas = self.areas.iter().zip(&expected.areas).zip(self.operation.area_names());
         let answer = ((&self.answer, &expected.answer), "answer");

@@ -1,9 +1,11 @@
-//! Random cases: a job in some style, a treatment of it, a second state, a seed and lengths of areas.
+//! Random cases: a job in some style, a treatment of it, a second state, a seed, a table of window costs and lengths
+//! of areas.
 //! The seed alone decides the whole case.
 
 use check_box_reference::run;
 
 use crate::calls::{Call, Lengths, Operation};
+use crate::cost_tables::{damage_table, random_table};
 use crate::damage::{damaged_twice, flip_bits, overwrite, refused_with, truncate};
 use crate::generate::{random_job, random_style, Style};
 use crate::job_file::{budget, set_budget, state_bytes, Parts};
@@ -50,7 +52,7 @@ pub const TREATMENTS: [Treatment; 11] = [
 ];
 
 /// One case; each of the four calls is made on it. A fixed case has no style. The load seed is what a
-/// test load makes its state from.
+/// test load makes its state from, the costs are the table of all calls but the plain run.
 pub struct Case {
     pub name: String,
     pub style: Option<Style>,
@@ -58,6 +60,7 @@ pub struct Case {
     pub job: Vec<u8>,
     pub second: Vec<u8>,
     pub load_seed: u64,
+    pub costs: Vec<u8>,
     pub lengths: Lengths,
     pub salt: u64,
 }
@@ -66,8 +69,9 @@ impl Case {
     /// The call that is made of library and reference.
     pub fn call(&self, operation: Operation, margin: usize) -> Call<'_> {
         let fill = Fill { salt: self.salt, margin };
-        let (job, second, seed, lengths) = (&self.job, &self.second, self.load_seed, self.lengths);
-        Call { operation, job, second, seed, lengths, fill }
+        let (job, second, costs) = (&self.job, &self.second, &self.costs);
+        let (seed, lengths) = (self.load_seed, self.lengths);
+        Call { operation, job, second, seed, costs, lengths, fill }
     }
 }
 
@@ -82,6 +86,7 @@ pub fn random_case(seed: u64) -> Case {
         job: parts.bytes(),
         second: state_bytes(&second_state(&parts, &mut random)),
         load_seed: 1,
+        costs: random_table(&mut random),
         lengths: fitting_lengths(&parts, style, &mut random),
         salt: random.word(),
     };
@@ -89,6 +94,9 @@ pub fn random_case(seed: u64) -> Case {
     treat(&mut case, parts, &mut random);
     case.load_seed = load_seed(&mut random);
     case.lengths.state = state_length(state, &mut random);
+    if random.one_in(bad_tables(case.treatment)) {
+        damage_table(&mut case.costs, &mut random);
+    }
     case
 }
 
@@ -104,6 +112,15 @@ fn random_treatment(random: &mut Random) -> Treatment {
         89..=93 => Treatment::BitFlips,
         94..=96 => Treatment::Truncated,
         _ => Treatment::Overwritten,
+    }
+}
+
+/// One in how many tables is damaged: more where the areas or the second state may be refused too.
+fn bad_tables(treatment: Treatment) -> u64 {
+    match treatment {
+        Treatment::AreaLengths | Treatment::SecondLength => 3,
+        Treatment::OneRefusal | Treatment::TwoDamages => 4,
+        _ => 16,
     }
 }
 
@@ -171,7 +188,7 @@ fn fitting_lengths(parts: &Parts, style: Style, random: &mut Random) -> Lengths 
 fn extent(case: &Case) -> Option<(u64, u64)> {
     let Lengths { trace, end, work, .. } = case.lengths;
     let (mut trace, mut end, mut work) = (vec![0; trace], vec![0; end], vec![0; work]);
-    let answer = run(&case.job, &mut trace, &mut end, &mut work).ok()?;
+    let answer = run(&case.job, &case.costs, &mut trace, &mut end, &mut work).ok()?;
     Some((answer.observations, answer.steps))
 }
 

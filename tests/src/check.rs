@@ -2,6 +2,7 @@
 
 use crate::calls::{Operation, Outcome};
 use crate::cases::Case;
+use crate::cost_claims::costs_are_as_claimed;
 use crate::demands::{plain_agrees, states_alike};
 use crate::first_claims::firsts_are_as_claimed;
 use crate::load_claims::load_is_as_claimed;
@@ -29,6 +30,8 @@ pub fn check_case(case: &Case, margin: usize, tally: &mut Tally) -> Result<(), S
     states_alike(case, &run, margin, &mut random, tally)?;
     tally.first_claims += 1;
     firsts_are_as_claimed(case, &run, margin, &mut random)?;
+    tally.cost_claims += 1;
+    costs_are_as_claimed(case, &run, &plain, margin, &mut random)?;
     if load.number != 0 {
         return Ok(());
     }

@@ -1,5 +1,5 @@
 //! Demands 2 and 3 of document 01 as statements about the library alone: every run here is the
-//! library's, and nothing is compared with the reference.
+//! library's, and nothing is compared with the reference. Two runs that are compared have the same table.
 
 use check_box_reference::strike_out;
 
@@ -115,7 +115,7 @@ pub fn with_state(job: &[u8], state: &[u8]) -> Vec<u8> {
     changed
 }
 
-/// The areas of the second run held other words before it; only what is written must be the same.
+/// The second run has the same table. Its areas held other words before it; only what is written must be the same.
 fn same_run(
     case: &Case,
     run: &Outcome,
@@ -125,8 +125,8 @@ fn same_run(
 ) -> Result<(), String> {
     let job = with_state(&case.job, state);
     let fill = Fill { salt: random.word(), margin };
-    let (operation, lengths) = (Operation::Run, case.lengths);
-    let other = Call { operation, job: &job, second: &[], seed: 0, lengths, fill }.by_library();
+    let call = case.call(Operation::Run, margin);
+    let other = Call { job: &job, fill, ..call }.by_library();
     let same = other.number == 0
         && other.answer() == run.answer()
         && other.observations() == run.observations()
@@ -148,8 +148,8 @@ fn same_pair(
 ) -> Result<(), String> {
     let fill = Fill { salt: random.word(), margin };
     let lengths = Lengths { second_trace: case.lengths.trace, ..case.lengths };
-    let (operation, job) = (Operation::Pair, &case.job[..]);
-    let pair = Call { operation, job, second: state, seed: 0, lengths, fill }.by_library();
+    let call = case.call(Operation::Pair, margin);
+    let pair = Call { second: state, lengths, fill, ..call }.by_library();
     let answer = pair.answer();
     let counts = &run.answer()[..4];
     let same = pair.number == 0

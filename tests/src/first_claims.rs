@@ -58,7 +58,7 @@ pub fn depends_of(run: &Outcome) -> [u64; 4] {
 }
 
 /// The word that each line of the routine's text begins with.
-fn instructions_of(job: &[u8]) -> Vec<String> {
+pub fn instructions_of(job: &[u8]) -> Vec<String> {
     let mut out = vec![0; 8 * job.len()];
     let length = print_text(job, &mut out).expect("the job was accepted");
     let text = String::from_utf8_lossy(&out[..length]);

@@ -1,10 +1,13 @@
 //! Fixed cases: every length around each bound, each limit and its neighbours, every truncation and
 //! every bit of small jobs, each operator at its edges, test loads, stores outside memory, the sets
-//! of expressions, first observations. They are made before the random ones.
+//! of expressions, first observations, tables of window costs. They are made before the random ones. The table is
+//! that of eight ones but for the last.
 
 use crate::calls::Lengths;
 use crate::cases::{Case, Treatment, MOST_END_WORDS, OUTSIDE_WORDS, WORKING_WORDS};
+use crate::cost_tables::ONES;
 use crate::examples::{barrier, nested, printed, r0_zero};
+use crate::fixed_costs;
 use crate::fixed_files;
 use crate::fixed_firsts;
 use crate::fixed_loads;
@@ -36,6 +39,7 @@ pub fn all() -> Cases {
     fixed_outside::add(&mut cases);
     fixed_sets::add(&mut cases);
     fixed_firsts::add(&mut cases);
+    fixed_costs::add(&mut cases);
     for (number, case) in cases.iter_mut().enumerate() {
         case.name = format!("fixed-{number}");
         case.salt = number as u64 * 0x1_0001;
@@ -46,7 +50,8 @@ pub fn all() -> Cases {
 /// A case with any bytes as job and as second state.
 pub fn raw_case(job: Vec<u8>, second: Vec<u8>, lengths: Lengths) -> Case {
     let (name, style, treatment) = (String::new(), None, Treatment::Fixed);
-    Case { name, style, treatment, job, second, load_seed: 1, lengths, salt: 0 }
+    let costs = ONES.to_vec();
+    Case { name, style, treatment, job, second, load_seed: 1, costs, lengths, salt: 0 }
 }
 
 /// A case of a job put together from parts, whose second state differs in every cell.

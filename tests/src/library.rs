@@ -17,6 +17,8 @@ unsafe extern "C" {
     fn checker_run(
         job: *const u8,
         job_len: usize,
+        costs: *const u8,
+        costs_len: usize,
         trace: *mut u64,
         trace_len: usize,
         end: *mut u64,
@@ -43,6 +45,8 @@ unsafe extern "C" {
         job_len: usize,
         second: *const u8,
         second_len: usize,
+        costs: *const u8,
+        costs_len: usize,
         trace1: *mut u64,
         trace1_len: usize,
         trace2: *mut u64,
@@ -56,6 +60,8 @@ unsafe extern "C" {
         job: *const u8,
         job_len: usize,
         seed: u64,
+        costs: *const u8,
+        costs_len: usize,
         trace1: *mut u64,
         trace1_len: usize,
         trace2: *mut u64,
@@ -87,6 +93,7 @@ unsafe extern "C" {
 /// The mispredicting run; 0 or the refusal number.
 pub fn run(
     job: &[u8],
+    costs: &[u8],
     trace: &mut [u64],
     end: &mut [u64],
     work: &mut [u64],
@@ -97,6 +104,8 @@ pub fn run(
         checker_run(
             job.as_ptr(),
             job.len(),
+            costs.as_ptr(),
+            costs.len(),
             trace.as_mut_ptr(),
             trace.len(),
             end.as_mut_ptr(),
@@ -136,6 +145,7 @@ pub fn plain_run(
 pub fn compare(
     job: &[u8],
     second: &[u8],
+    costs: &[u8],
     trace1: &mut [u64],
     trace2: &mut [u64],
     work: &mut [u64],
@@ -148,6 +158,8 @@ pub fn compare(
             job.len(),
             second.as_ptr(),
             second.len(),
+            costs.as_ptr(),
+            costs.len(),
             trace1.as_mut_ptr(),
             trace1.len(),
             trace2.as_mut_ptr(),
@@ -159,10 +171,13 @@ pub fn compare(
     }
 }
 
-/// The pair of the job's state and one made from the seed; 0 or the refusal number.
+/// The pair of the job's state and one made from the seed; 0 or the refusal number. Its parameters are those of
+/// the C function.
+#[expect(clippy::too_many_arguments)]
 pub fn test_load(
     job: &[u8],
     seed: u64,
+    costs: &[u8],
     trace1: &mut [u64],
     trace2: &mut [u64],
     work: &mut [u64],
@@ -175,6 +190,8 @@ pub fn test_load(
             job.as_ptr(),
             job.len(),
             seed,
+            costs.as_ptr(),
+            costs.len(),
             trace1.as_mut_ptr(),
             trace1.len(),
             trace2.as_mut_ptr(),

@@ -36,12 +36,14 @@ fn describe(case: &Case, difference: &str) -> String {
     let style = case.style.map_or("none".to_string(), |style| format!("{style:?}"));
     format!(
         "seed {}\nwhat differed: {difference}\nstyle {style}, treatment {:?}\nlengths in words: \
-         {:?}, the state's in bytes\nsalt {}\nseed of the test load {}\nsecond state {}\nrepeat with: differential --case {}\n",
+         {:?}, the state's in bytes\nsalt {}\nseed of the test load {}\ntable of window costs \
+         {}\nsecond state {}\nrepeat with: differential --case {}\n",
         case.name,
         case.treatment,
         case.lengths,
         case.salt,
         case.load_seed,
+        hexadecimal(&case.costs),
         hexadecimal(&case.second),
         case.name
     )

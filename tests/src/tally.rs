@@ -1,15 +1,15 @@
 //! Counts of what was run, so that it can be judged how much the runs cover.
 
 use crate::calls::{Operation, Outcome};
-use crate::cases::{Case, TREATMENTS};
+use crate::cases::{Case, TREATMENTS, WORKING_WORDS};
+use crate::cost_tables::{fits, style_of, TABLE_STYLES};
 use crate::demands::{has, state_of};
 use crate::first_claims::depends_of;
 use crate::generate::STYLES;
+use crate::listed::{STOPS, VERDICTS};
 use crate::outside::{Remembered, EVENTS};
 use crate::outside_claims::{cells_of, OUTSIDE_FULL};
 
-const STOPS: [&str; 4] = ["finished", "spent", "trace full", "outside full"];
-const VERDICTS: [&str; 4] = ["undecided", "clean", "speculative", "plain"];
 const WORDS: [&str; 5] = ["not comparable", "undecided", "plain differs", "leak shown", "equal"];
 /// What a test load can give: the three words, the stop of an own run that did not finish, whether a state was
 /// made, and the stop of a second run that did not finish.
@@ -40,7 +40,11 @@ const FIRSTS: [&str; 6] =
     ["branch", "jump", "load", "store", "store that stopped the run", "not in the plain set"];
 
 /// The refusals of the four calls; 11 is one of texts alone.
-const REFUSALS: [usize; 12] = [1, 2, 3, 4, 5, 6, 7, 8, 9, 10, 12, 13];
+const REFUSALS: [usize; 13] = [1, 2, 3, 4, 5, 6, 7, 8, 9, 10, 12, 13, 14];
+
+/// A table that is refused, or would be, together with another cause: which of the two numbers is given.
+const TOGETHER: [&str; 5] =
+    ["1 to 8 before 14", "9 before 14", "14 before 10", "14 before 13", "14 before 12"];
 
 const LOAD: u64 = 3;
 const STORE: u64 = 4;
@@ -56,9 +60,12 @@ pub struct Tally {
     pub outside_claims: u64,
     pub load_claims: u64,
     pub first_claims: u64,
+    pub cost_claims: u64,
     styles: [u64; STYLES.len()],
     treatments: [u64; TREATMENTS.len()],
-    refusals: [u64; 14],
+    table_styles: [u64; TABLE_STYLES.len()],
+    refusals: [u64; 15],
+    together: [u64; TOGETHER.len()],
     run_stops: [u64; 4],
     plain_stops: [u64; 4],
     verdicts: [u64; 4],
@@ -82,6 +89,7 @@ impl Tally {
             self.styles[style as usize] += 1;
         }
         self.treatments[case.treatment as usize] += 1;
+        self.table_styles[style_of(&case.costs) as usize] += 1;
     }
 
     /// Counts a call whose outcome is as it must be.
@@ -89,6 +97,7 @@ impl Tally {
         self.calls += 1;
         self.refusals[outcome.number as usize] += 1;
         if outcome.number != 0 {
+            self.count_together(case, outcome);
             return;
         }
         let answer = outcome.answer();
@@ -104,6 +113,25 @@ impl Tally {
             Operation::Plain => self.plain_stops[answer[0] as usize] += 1,
             Operation::Pair => self.words[answer[0] as usize] += 1,
             Operation::Load => self.count_load(case, outcome),
+        }
+    }
+
+    /// The traits stand in the order of `TOGETHER`. A plain run takes no table.
+    fn count_together(&mut self, case: &Case, outcome: &Outcome) {
+        if outcome.operation == Operation::Plain || fits(&case.costs) {
+            return;
+        }
+        let (number, load) = (outcome.number, outcome.operation == Operation::Load);
+        let areas_fit = case.lengths.work >= WORKING_WORDS;
+        let traits = [
+            number <= 8,
+            number == 9,
+            number == 14 && !areas_fit,
+            number == 14 && load && case.load_seed == 0,
+            number == 14 && load && case.lengths.state < state_of(&case.job).len(),
+        ];
+        for (count, holds) in self.together.iter_mut().zip(traits) {
+            *count += u64::from(holds);
         }
     }
 
@@ -166,6 +194,7 @@ impl Tally {
     /// What never occurred although it should in a long run.
     pub fn missing(&self) -> Vec<String> {
         let refusals = REFUSALS.map(|number| (format!("refusal {number}"), self.refusals[number]));
+        let tables = TABLE_STYLES.map(|style| format!("table {style:?}"));
         let named = |kind: &'static str, names: &'static [&'static str], counts: &[u64]| {
             let names = names.iter().map(move |name| format!("{kind} {name}"));
             names.zip(counts.to_vec()).collect::<Vec<_>>()
@@ -181,6 +210,8 @@ impl Tally {
             .chain(named("outside memory", &EVENTS, &self.events))
             .chain(named("stores remembered at the stop", &TABLES, &self.tables))
             .chain(named("first observation", &FIRSTS, &self.firsts))
+            .chain(named("refusals", &TOGETHER, &self.together))
+            .chain(tables.into_iter().zip(self.table_styles))
             .filter(|(_, count)| *count == 0)
             .map(|(name, _)| name)
             .collect()
@@ -194,12 +225,15 @@ impl Tally {
         );
         let treatments = TREATMENTS.map(|treatment| format!("{treatment:?}"));
         println!("cases by treatment: {}", counts(&treatments, &self.treatments));
+        let tables = TABLE_STYLES.map(|style| format!("{style:?}"));
+        println!("tables of window costs: {}", counts(&tables, &self.table_styles));
         let refused = REFUSALS.map(|number| self.refusals[number]);
         println!(
             "calls accepted {}; refused: {}",
             self.refusals[0],
             counts(&REFUSALS.map(|number| format!("{number}")), &refused)
         );
+        println!("several causes, one of them the table: {}", counts(&TOGETHER, &self.together));
         println!("stops: {}", counts(&STOPS, &self.run_stops));
         println!("stops of plain runs: {}", counts(&STOPS, &self.plain_stops));
         println!("verdicts: {}", counts(&VERDICTS, &self.verdicts));
@@ -222,8 +256,8 @@ impl Tally {
             self.demand_2, self.demand_3, self.states_changed_outside_d, self.clean_states_changed
         );
         println!(
-            "claims of stores outside tried {}, of test loads {}, of first observations {}",
-            self.outside_claims, self.load_claims, self.first_claims
+            "claims of stores outside tried {}, of test loads {}, of first observations {}, of tables {}",
+            self.outside_claims, self.load_claims, self.first_claims, self.cost_claims
         );
     }
 }

@@ -6,9 +6,11 @@ use std::collections::HashMap;
 use check_box_reference::listing;
 
 use crate::calls::{Call, Lengths, Operation, Outcome};
+use crate::cost_tables::ONES;
 use crate::demands::has;
 use crate::lend::{Area, Fill};
 use crate::library::{LOCATIONS, REPORT_WORDS, RUN_COUNTS};
+use crate::listed::{CAUSES, VERDICTS};
 use crate::text::calls::{TextCall, TextOperation, TextOutcome};
 
 const WORKING_WORDS: usize = 4_096;
@@ -17,11 +19,11 @@ const WORKING_WORDS: usize = 4_096;
 const PAIR_WORDS: [&str; 5] =
     ["not comparable", "undecided", "plain differs", "leak shown", "equal"];
 
-/// The rules of an instruction that is observed, in the order of their numbers.
-const CAUSES: [&str; 4] = ["branch", "jump", "load", "store"];
-
 /// The level from which a vector has the first observation of each location of D, which is that of request F-6.
 const FIRSTS_LEVEL: u64 = 6;
+
+/// The level from which a call with a mispredicting run has a table of window costs, which is that of request F-7.
+const COSTS_LEVEL: u64 = 7;
 
 /// The filling that the files' heads prescribe, with some words or bytes around each area.
 const FILL: Fill = Fill { salt: 0, margin: 8 };
@@ -124,10 +126,21 @@ impl Vector {
         Ok([Vector::stop(stop)?, number(observations)?, number(steps)?, number(rollbacks)?])
     }
 
-    /// True if the vector has the first observations; one without a level is of the lowest.
+    /// The request after which the vector was made; one without a level is of the lowest.
+    fn level(&self) -> Result<u64, String> {
+        self.fields.get("level").map_or(Ok(0), |text| number(text))
+    }
+
     fn has_firsts(&self) -> Result<bool, String> {
-        let level = self.fields.get("level").map_or(Ok(0), |text| number(text))?;
-        Ok(level >= FIRSTS_LEVEL)
+        Ok(self.level()? >= FIRSTS_LEVEL)
+    }
+
+    /// The table of a call; a vector of before request F-7 has none, and its answer is that of eight ones.
+    fn costs(&self, operation: Operation) -> Result<Vec<u8>, String> {
+        if operation == Operation::Plain || self.level()? < COSTS_LEVEL {
+            return Ok(ONES.to_vec());
+        }
+        self.bytes("costs")
     }
 
     /// The words of the reports: zeros where a location has no line. There is a line for each location of D.
@@ -158,10 +171,7 @@ impl Vector {
         words.push(number(self.field("rollbacks")?)?);
         words.extend(self.set("depends")?);
         words.extend(self.set("plain")?);
-        words.push(position(
-            &["undecided", "clean", "speculative", "plain"],
-            self.field("verdict")?,
-        )?);
+        words.push(position(&VERDICTS, self.field("verdict")?)?);
         words.extend(if self.has_firsts()? {
             self.reports()?
         } else {
@@ -279,8 +289,9 @@ impl Vector {
         let job = self.bytes("job")?;
         let second = if operation == Operation::Pair { self.bytes("second")? } else { Vec::new() };
         let seed = if operation == Operation::Load { number(self.field("seed-word")?)? } else { 0 };
-        let lengths = self.lengths(operation)?;
-        let call = Call { operation, job: &job, second: &second, seed, lengths, fill: FILL };
+        let (costs, lengths) = (self.costs(operation)?, self.lengths(operation)?);
+        let (second, costs) = (&second[..], &costs[..]);
+        let call = Call { operation, job: &job, second, seed, costs, lengths, fill: FILL };
         match call.by_library().difference(&self.expected(&call)?) {
             Some(difference) => Err(difference),
             None => Ok(()),

@@ -4,6 +4,7 @@
 use check_box_reference::run;
 use checker_tests::calls::{Operation, Outcome};
 use checker_tests::cases::{Case, MOST_END_WORDS, WORKING_WORDS};
+use checker_tests::cost_tables::ONES;
 use checker_tests::demands::state_of;
 use checker_tests::fixed::examples;
 use checker_tests::fixed_loads;
@@ -105,8 +106,8 @@ fn own_runs_cut() {
     let loads = loads();
     for parts in examples() {
         let job = parts.bytes();
-        let ran =
-            run(&job, &mut [0; 100], &mut [0; MOST_END_WORDS], &mut [0; 4_096]).expect("accepted");
+        let ran = run(&job, &ONES, &mut [0; 100], &mut [0; MOST_END_WORDS], &mut [0; 4_096])
+            .expect("accepted");
         let stopped = |stop, job: &[u8], trace: Option<usize>| {
             let of_job = loads.iter().filter(|load| load.case.job == job);
             let of_trace =

@@ -2,6 +2,7 @@
 
 use check_box_reference::{run, test_load, LoadAnswer, PairWord};
 use checker_tests::cases::MOST_END_WORDS;
+use checker_tests::cost_tables::ONES;
 use checker_tests::demands::{has, public_of};
 use checker_tests::examples::{barrier, nested, printed, r0_zero, seldom};
 use checker_tests::job_file::Parts;
@@ -20,15 +21,15 @@ fn the_sequence_is_that_of_the_request() {
 fn load(job: &[u8], seed: u64, trace: usize) -> Result<(LoadAnswer, Vec<u8>), u32> {
     let (mut one, mut two) = (vec![0; trace], vec![0; trace]);
     let (mut work, mut state) = (vec![0; 4_096], vec![0; 2_048]);
-    let answer = test_load(job, seed, &mut one, &mut two, &mut work, &mut state)?;
+    let answer = test_load(job, seed, &ONES, &mut one, &mut two, &mut work, &mut state)?;
     Ok((answer, state))
 }
 
 /// The highest location that is neither public nor in the plain set.
 fn last_new_location(parts: &Parts) -> Option<usize> {
     let job = parts.bytes();
-    let answer =
-        run(&job, &mut [0; 100], &mut [0; MOST_END_WORDS], &mut [0; 4_096]).expect("accepted");
+    let answer = run(&job, &ONES, &mut [0; 100], &mut [0; MOST_END_WORDS], &mut [0; 4_096])
+        .expect("accepted");
     let kept = |location| has(public_of(&job), location) || has(answer.plain, location);
     (0..parts.state.len()).rev().find(|&location| !kept(location))
 }

@@ -11,11 +11,23 @@ const PC: u64 = 2;
 const LOAD: u64 = 3;
 const STORE: u64 = 4;
 
+/// The kinds of instruction, by which a cost is found.
+const SKIP_KIND: usize = 0;
+const ASSIGN_KIND: usize = 1;
+const LOAD_KIND: usize = 2;
+const STORE_KIND: usize = 3;
+const JUMP_KIND: usize = 4;
+const BRANCH_KIND: usize = 5;
+const CONDITIONAL_KIND: usize = 6;
+
 const REGISTERS: usize = 16;
 
 /// The stores outside memory stand behind all locations, and behind them their count, whose set is of no use.
 const FIRST_OUTSIDE: usize = 256;
 const COUNT: usize = FIRST_OUTSIDE + ENTRIES;
+
+/// What an instruction of each kind takes of a window, by kind byte.
+pub type Costs = [u8; 8];
 
 /// A set of locations in as many words as the job needs.
 type Set<const WORDS: usize> = [u64; WORDS];
@@ -67,6 +79,7 @@ pub struct Machine<'a, const WORDS: usize> {
     count: usize,
     cells: u64,
     first_window: u8,
+    costs: Costs,
     left: u32,
     place: usize,
     opened: u64,
@@ -150,6 +163,7 @@ impl<'a, const WORDS: usize> Machine<'a, WORDS> {
     pub fn new(
         decoded: &'a Decoded,
         header: &Header,
+        costs: &Costs,
         state: &[u8],
         trace: &'a mut [u64],
         work: &'a mut [u64],
@@ -177,6 +191,7 @@ impl<'a, const WORDS: usize> Machine<'a, WORDS> {
             count: 0,
             cells: (header.locations - REGISTERS) as u64,
             first_window: header.window,
+            costs: *costs,
             left: header.budget,
             place: 0,
             opened: 0,
@@ -288,19 +303,26 @@ impl<'a, const WORDS: usize> Machine<'a, WORDS> {
         }
     }
 
-    /// Rules 2 and 3. Every window cost is 1.
+    /// Rules 2 and 3.
     #[inline(always)]
     fn carry_out<const OPEN: bool>(&mut self, instruction: &Instruction) -> Made<WORDS> {
         match *instruction {
-            Instruction::Skip | Instruction::End => {}
-            // Going on lowers the window, so 1 becomes 0.
-            Instruction::Barrier => self.window = 1,
+            Instruction::Skip | Instruction::End => {
+                self.go_on::<OPEN, SKIP_KIND>(self.place + 1);
+            }
+            // With nothing open the window is not read before a branch sets it.
+            Instruction::Barrier => {
+                self.place += 1;
+                self.window = 0;
+            }
             Instruction::Assign { register, value } => {
                 let (value, set) = self.evaluate(value);
                 self.change::<OPEN>(usize::from(register), value, set);
+                self.go_on::<OPEN, ASSIGN_KIND>(self.place + 1);
             }
             Instruction::Conditional { register, condition, value } => {
                 self.assign_if::<OPEN>(register, condition, value);
+                self.go_on::<OPEN, CONDITIONAL_KIND>(self.place + 1);
             }
             Instruction::Load { register, address } => return self.load::<OPEN>(register, address),
             Instruction::Store { register, address } => {
@@ -309,16 +331,21 @@ impl<'a, const WORDS: usize> Machine<'a, WORDS> {
             Instruction::Jump { target } => return self.jump::<OPEN>(target),
             Instruction::Branch { register, label } => return self.open::<OPEN>(register, label),
         }
-        self.go_on::<OPEN>(self.place + 1);
         Ok(())
     }
 
+    /// Goes on at a place after an instruction of a kind; on a wrong path its cost lowers the top's window.
     #[inline(always)]
-    fn go_on<const OPEN: bool>(&mut self, place: usize) {
+    fn go_on<const OPEN: bool, const KIND: usize>(&mut self, place: usize) {
         self.place = place;
         if OPEN {
-            self.window -= 1;
+            self.lower::<KIND>();
         }
+    }
+
+    #[inline(always)]
+    fn lower<const KIND: usize>(&mut self) {
+        self.window = self.window.saturating_sub(self.costs[KIND]);
     }
 
     /// The value and the set of an expression; of a longer one the set is gathered first.
@@ -431,7 +458,7 @@ impl<'a, const WORDS: usize> Machine<'a, WORDS> {
             join(&mut set, &self.sets[FIRST_OUTSIDE + index % ENTRIES]);
         }
         self.change::<OPEN>(usize::from(to), value, set);
-        self.go_on::<OPEN>(self.place + 1);
+        self.go_on::<OPEN, LOAD_KIND>(self.place + 1);
         Ok(())
     }
 
@@ -446,7 +473,7 @@ impl<'a, const WORDS: usize> Machine<'a, WORDS> {
         join(&mut set, &self.sets[usize::from(from)]);
         let cell = usize::from(address as u8 + REGISTERS as u8);
         self.change::<OPEN>(cell, register(self.values, from), set);
-        self.go_on::<OPEN>(self.place + 1);
+        self.go_on::<OPEN, STORE_KIND>(self.place + 1);
         Ok(())
     }
 
@@ -481,7 +508,7 @@ impl<'a, const WORDS: usize> Machine<'a, WORDS> {
                 self.change::<OPEN>(COUNT, count + 1, [0; WORDS]);
             }
         }
-        self.go_on::<OPEN>(self.place + 1);
+        self.go_on::<OPEN, STORE_KIND>(self.place + 1);
         Ok(())
     }
 
@@ -491,7 +518,7 @@ impl<'a, const WORDS: usize> Machine<'a, WORDS> {
         let place = target.min(self.instructions.len() as u64 - 1);
         self.observe(PC, place)?;
         self.gathered::<OPEN>(&set, firsts::JUMP, 1)?;
-        self.go_on::<OPEN>(place as usize);
+        self.go_on::<OPEN, JUMP_KIND>(place as usize);
         Ok(())
     }
 
@@ -505,7 +532,10 @@ impl<'a, const WORDS: usize> Machine<'a, WORDS> {
         self.observe_two([START, self.opened], [PC, wrong as u64])?;
         let set = self.sets[usize::from(tested)];
         self.gathered::<OPEN>(&set, firsts::BRANCH, 2)?;
-        self.window = if OPEN { self.window - 1 } else { self.first_window };
+        match OPEN {
+            true => self.lower::<BRANCH_KIND>(),
+            false => self.window = self.first_window,
+        }
         let packed = frame(self.opened, target, self.window, self.log_length);
         self.frames[usize::from(self.depth)] = packed;
         self.depth = self.depth.wrapping_add(1);

@@ -80,6 +80,7 @@ pub fn refusal_number(n: Refusal) -> u32
         Refusal::Text => 11,
         Refusal::Output => 12,
         Refusal::Seed => 13,
+        Refusal::Costs => 14,
     }
 }
 

@@ -131,10 +131,18 @@ fn show_pair(name: &[u8], job: &[u8], second: &[u8]) {
     let mut first_trace = [0u64; printer::TRACE];
     let mut second_trace = [0u64; printer::TRACE];
     let mut work = [0u64; work::WORDS];
+    let costs = window_costs::fixed();
     write(b"case ");
     write(name);
     write(b"\n");
-    match checker::compare(job, second, &mut first_trace, &mut second_trace, &mut work) {
+    match checker::compare(
+        job,
+        second,
+        &costs,
+        &mut first_trace,
+        &mut second_trace,
+        &mut work,
+    ) {
         PairAnswer::Refused(_) => write(b"refused\n"),
         PairAnswer::Compared(word, _, _) => write_word(word),
     }

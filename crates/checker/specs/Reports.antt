@@ -1,7 +1,7 @@
 -- From a run that has ended to what the calls return and leave.
 -- Assumes nothing.
 use mathlib.Core.Path.{_≡_}
-use mathlib.Core.Bool.{false}
+use mathlib.Core.Bool.{true, false}
 use mathlib.Core.List.{List}
 use Prim.Native.Nat.{ℕ}
 use Rattle.location.specs.declared.LocationSet.{LocationSet}
@@ -16,6 +16,8 @@ use Rattle.rules.specs.Rules.Firsts.{firstsOf}
 use Rattle.rules.specs.Rules.Runs.{Result, Job, judge, verdict}
 use Rattle.rules.specs.Rules.JobFile.{accepted, rejected, parse}
 use Rattle.rules.specs.Rules.Calls.{Areas, longEnough, counts, runReport, runRefused, runParsed, runCall, plainReport, plainRefused, plainParsed, plainCall}
+use Rattle.rules.specs.Rules.Costs.{costsFit, withCosts}
+use Rattle.rules.specs.Theorems.Costs.{tabled-accepted, tabled-refused, tabled-rejected}
 use Rattle.execution.specs.declared.Ran.{Ran}
 use Rattle.execution.specs.Running.{Reports}
 
@@ -45,18 +47,25 @@ module _ {r : Ran} {R : Result} (e : Reports r R) where
 
 -- ---- the calls
 module _ (bs : List ℕ) (a : Areas) where
-  pub run-rejected : (n : Refusal) → parse bs ≡ rejected n → runCall bs a ≡ record { answer = runRefused n; areas = a }
+  pub run-rejected : (costs : List ℕ) (n : Refusal) → parse bs ≡ rejected n → runCall bs costs a ≡ record { answer = runRefused n; areas = a }
   unfolding runCall runParsed
-  run-rejected n e = rw (e, runParsed)
+  run-rejected costs n e = rw (tabled-rejected bs costs n e, runParsed)
 
   pub plain-rejected : (n : Refusal) → parse bs ≡ rejected n → plainCall bs a ≡ record { answer = plainRefused n; areas = a }
   unfolding plainCall plainParsed
   plain-rejected n e = rw (e, plainParsed)
 
   module _ (job : Job) (e : parse bs ≡ accepted job) where
-    pub run-short : longEnough job a ≡ false → runCall bs a ≡ record { answer = runRefused refusals.Areas; areas = a }
+    pub run-untabled : (costs : List ℕ) → costsFit costs ≡ false → runCall bs costs a ≡ record { answer = runRefused refusals.Costs; areas = a }
     unfolding runCall runParsed
-    run-short h = rw (e, h, runParsed)
+    run-untabled costs c = rw (tabled-refused bs costs job e c, runParsed)
+
+    pub run-short : (costs : List ℕ) → costsFit costs ≡ true → longEnough job a ≡ false
+        → runCall bs costs a ≡ record { answer = runRefused refusals.Areas; areas = a }
+    unfolding runCall runParsed longEnough
+    run-short costs c h =
+        let h′ : longEnough (withCosts job costs) a ≡ false = h in
+        rw (tabled-accepted bs costs job e c, h′, runParsed)
 
     pub plain-short : longEnough job a ≡ false → plainCall bs a ≡ record { answer = plainRefused refusals.Areas; areas = a }
     unfolding plainCall plainParsed

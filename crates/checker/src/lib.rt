@@ -3,7 +3,8 @@
 // What each call promises, for every input, is one record of crates/rules/specs/Rules/Promises.antt, which says each field:
 //   exact (demands 1 and 2), unaltered (demand 1), and for `run` plainly (demand 2), secret (demand 3) and brought (which observation brought
 //   each location of D in); for `compare` meaning, what the words on a pair say. `test_load` has TestLoadPromises.antt: compared (the plain
-//   trace of the new state is the job's, and the pair is checked) and unfinished.
+//   trace of the new state is the job's, and the pair is checked) and unfinished. The three calls with a mispredicting run take a table of
+//   window costs: fixed (eight ones give the answers of the fixed table) and bounded (any table keeps the bounds of the wrong paths).
 use execution::Mode;
 use execution::Ran;
 use job::JobOutcome;
@@ -90,32 +91,50 @@ fn run_accepted(
     job: &[u8],
     t: Trailer,
     public: LocationSet,
+    costs: &[u8],
     trace: &mut [u64],
     end: &mut [u64],
     work: &mut [u64],
 ) -> RunAnswer
     requires { ⌜ Accepts (now job) t × (public ≡ publicOf t (now job)) ⌝ }
-    ensures { λ r. ⌜ Exact (runCall (now (job .entry)) (areasAtEntry trace end work)) r (areasAtExit trace end work) ⌝ }
+    ensures { λ r. ⌜ Exact (runCall (now (job .entry)) (now (costs .entry)) (areasAtEntry trace end work)) r (areasAtExit trace end work) ⌝ }
 {
     let n = t.locations();
+    if !window_costs::costs_fit(costs) {
+        return run_refused(Refusal::Costs);
+    }
     if !job_run::areas_fit(n, &end[..], &work[..]) {
         return run_refused(Refusal::Areas);
     }
     let mode = Mode::Mispredicting;
-    let r = job_run::run_in_areas(job, t, mode, &mut trace[..], &mut end[..], &mut work[..]);
+    let r = job_run::run_in_areas(
+        job,
+        t,
+        mode,
+        costs,
+        &mut trace[..],
+        &mut end[..],
+        &mut work[..],
+    );
     let answer = report(public, r, &work[..]);
     work::clear(&mut work[..]);
     answer
 }
 
-// A run: as if every branch were guessed wrongly.
-pub fn run(job: &[u8], trace: &mut [u64], end: &mut [u64], work: &mut [u64]) -> RunAnswer
-    ensures { λ r. ⌜ RunPromise (now (job .entry)) (areasAtEntry trace end work) r (areasAtExit trace end work) ⌝ }
+// A run: as if every branch were guessed wrongly. `costs` says how much of a window each kind of instruction takes, a byte a kind.
+pub fn run(
+    job: &[u8],
+    costs: &[u8],
+    trace: &mut [u64],
+    end: &mut [u64],
+    work: &mut [u64],
+) -> RunAnswer
+    ensures { λ r. ⌜ RunPromise (now (job .entry)) (now (costs .entry)) (areasAtEntry trace end work) r (areasAtExit trace end work) ⌝ }
 {
     let read = job::read_job(job);
     let outcome = read.outcome;
     match outcome {
-        JobOutcome::Accepted(t) => run_accepted(job, t, read.public, trace, end, work),
+        JobOutcome::Accepted(t) => run_accepted(job, t, read.public, costs, trace, end, work),
         JobOutcome::Refused(n) => run_refused(n),
     }
 }
@@ -135,12 +154,21 @@ fn plain_accepted(
         return plain_refused(Refusal::Areas);
     }
     let mode = Mode::Plain;
-    let r = job_run::run_in_areas(job, t, mode, &mut trace[..], &mut end[..], &mut work[..]);
+    let costs = window_costs::fixed();
+    let r = job_run::run_in_areas(
+        job,
+        t,
+        mode,
+        &costs,
+        &mut trace[..],
+        &mut end[..],
+        &mut work[..],
+    );
     work::clear(&mut work[..]);
     plain_report(r)
 }
 
-// A plain run: every branch goes where its register says.
+// A plain run: every branch goes where its register says. It takes no table, as no window is ever lowered.
 pub fn plain_run(job: &[u8], trace: &mut [u64], end: &mut [u64], work: &mut [u64]) -> PlainAnswer
     ensures { λ r. ⌜ PlainPromise (now (job .entry)) (areasAtEntry trace end work) r (areasAtExit trace end work) ⌝ }
 {
@@ -152,15 +180,16 @@ pub fn plain_run(job: &[u8], trace: &mut [u64], end: &mut [u64], work: &mut [u64
     }
 }
 
-// The pair of the job's state and a second one: both runs are made and both traces written, whatever the word is.
+// The pair of the job's state and a second one: both runs are made, by one table, and both traces written, whatever the word is.
 pub fn compare(
     job: &[u8],
     second: &[u8],
+    costs: &[u8],
     first_trace: &mut [u64],
     second_trace: &mut [u64],
     work: &mut [u64],
 ) -> PairAnswer
-    ensures { λ r. ⌜ PairPromise (now (job .entry)) (now (second .entry)) (pairAtEntry «first_trace» «second_trace» work) r
+    ensures { λ r. ⌜ PairPromise (now (job .entry)) (now (second .entry)) (now (costs .entry)) (pairAtEntry «first_trace» «second_trace» work) r
         (pairAtExit «first_trace» «second_trace» work) ⌝ }
 {
     let read = job::read_job(job);
@@ -171,6 +200,7 @@ pub fn compare(
             t,
             read.public,
             second,
+            costs,
             &mut first_trace[..],
             &mut second_trace[..],
             &mut work[..],
@@ -183,12 +213,13 @@ pub fn compare(
 pub fn test_load(
     job: &[u8],
     seed: u64,
+    costs: &[u8],
     first_trace: &mut [u64],
     second_trace: &mut [u64],
     work: &mut [u64],
     state: &mut [u8],
 ) -> TestLoadAnswer
-    ensures { λ r. ⌜ TestLoadPromise (now (job .entry)) seed (testLoadAtEntry «first_trace» «second_trace» work state) r
+    ensures { λ r. ⌜ TestLoadPromise (now (job .entry)) seed (now (costs .entry)) (testLoadAtEntry «first_trace» «second_trace» work state) r
         (testLoadAtExit «first_trace» «second_trace» work state) ⌝ }
 {
     let read = job::read_job(job);
@@ -200,6 +231,7 @@ pub fn test_load(
             t,
             public,
             seed,
+            costs,
             first_trace,
             second_trace,
             work,

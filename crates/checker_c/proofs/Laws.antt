@@ -54,14 +54,14 @@ module _ {A : Type 0} {refusal : A → ℕ} {wordsOf : A → List ℕ} {Promise 
   }
 
 -- ---- each call
-module _ {f : List ℕ} {lent left : Areas} {a : RunAnswer} (h : RunPromise f lent a left) {before : List ℕ} where
+module _ {f costs : List ℕ} {lent left : Areas} {a : RunAnswer} (h : RunPromise f costs lent a left) {before : List ℕ} where
   pub run-refused : {n : Refusal} {r : ℕ} → a .outcome ≡ runs.Refused n → r ≡ refusalNumber n
-      → Returns runRefusal runAnswerWords before r before (λ x. RunPromise f lent x left)
+      → Returns runRefusal runAnswerWords before r before (λ x. RunPromise f costs lent x left)
   run-refused e = refused a h (rw e) (rw e)
 
   pub run-returned : {c : Counts} {v : Verdict} {after : List ℕ} → a .outcome ≡ runs.Ran c v
       → after ≡ sets before 0 (runWords c (a .full) (a .plain) v (a .firsts))
-      → Returns runRefusal runAnswerWords before 0 after (λ x. RunPromise f lent x left)
+      → Returns runRefusal runAnswerWords before 0 after (λ x. RunPromise f costs lent x left)
   run-returned e ew = carried-out a h (rw e) (rw e ew)
 
 module _ {f : List ℕ} {lent left : Areas} {a : PlainAnswer} (h : PlainPromise f lent a left) {before : List ℕ} where
@@ -74,28 +74,29 @@ module _ {f : List ℕ} {lent left : Areas} {a : PlainAnswer} (h : PlainPromise 
       → Returns plainRefusal plainAnswerWords before 0 after (λ x. PlainPromise f lent x left)
   plain-returned e ew = carried-out a h (rw e) (rw e ew)
 
-module _ {f second : List ℕ} {lent left : PairAreas} {a : PairAnswer} (h : PairPromise f second lent a left) {before : List ℕ} where
+module _ {f second costs : List ℕ} {lent left : PairAreas} {a : PairAnswer} (h : PairPromise f second costs lent a left) {before : List ℕ} where
   pub pair-refused : {n : Refusal} {r : ℕ} → a ≡ pairs.Refused n → r ≡ refusalNumber n
-      → Returns pairRefusal pairAnswerWords before r before (λ x. PairPromise f second lent x left)
+      → Returns pairRefusal pairAnswerWords before r before (λ x. PairPromise f second costs lent x left)
   pair-refused e = refused a h (rw e) (rw e)
 
   pub pair-returned : {w : PairWord} {c d : Counts} {after : List ℕ} → a ≡ pairs.Compared w c d
       → after ≡ sets before 0 (pairWords w c d)
-      → Returns pairRefusal pairAnswerWords before 0 after (λ x. PairPromise f second lent x left)
+      → Returns pairRefusal pairAnswerWords before 0 after (λ x. PairPromise f second costs lent x left)
   pair-returned e ew = carried-out a h (rw e) (rw e ew)
 
-module _ {f : List ℕ} {seed : ℕ} {lent left : TestLoadAreas} {a : TestLoadAnswer} (h : TestLoadPromise f seed lent a left) {before : List ℕ} where
+module _ {f : List ℕ} {seed : ℕ} {costs : List ℕ} {lent left : TestLoadAreas} {a : TestLoadAnswer} (h : TestLoadPromise f seed costs lent a left)
+    {before : List ℕ} where
   pub test-load-refused : {n : Refusal} {r : ℕ} → a ≡ tests.Refused n → r ≡ refusalNumber n
-      → Returns testLoadRefusal testLoadAnswerWords before r before (λ x. TestLoadPromise f seed lent x left)
+      → Returns testLoadRefusal testLoadAnswerWords before r before (λ x. TestLoadPromise f seed costs lent x left)
   test-load-refused e = refused a h (rw e) (rw e)
 
   pub unfinished-returned : {c : Counts} {after : List ℕ} → a ≡ tests.Undecided c → after ≡ sets before 0 (unfinishedWords c)
-      → Returns testLoadRefusal testLoadAnswerWords before 0 after (λ x. TestLoadPromise f seed lent x left)
+      → Returns testLoadRefusal testLoadAnswerWords before 0 after (λ x. TestLoadPromise f seed costs lent x left)
   unfinished-returned e ew = carried-out a h (rw e) (rw e ew)
 
   pub test-load-returned : {w : PairWord} {c d : Counts} {after : List ℕ} → a ≡ tests.Compared w c d
       → after ≡ sets before 0 (testLoadWords w c d)
-      → Returns testLoadRefusal testLoadAnswerWords before 0 after (λ x. TestLoadPromise f seed lent x left)
+      → Returns testLoadRefusal testLoadAnswerWords before 0 after (λ x. TestLoadPromise f seed costs lent x left)
   test-load-returned e ew = carried-out a h (rw e) (rw e ew)
 
 module _ {text lent left : List ℕ} {a : ReadAnswer} (h : ReadPromise text lent a left) {before : List ℕ} where

@@ -1,8 +1,8 @@
 // The calls for C and Rust: include/checker.h says what each takes and returns. A slice is a pointer and a length.
 //
 // The number and the words that each call returns are those of an answer for which the promise of the call that it makes holds, for
-// every input: demands 1 to 3, the meaning of the words on a pair, what a test load claims of its new state, and that a printed text
-// restores its program. A refusal leaves the answer's words as they were.
+// every input: demands 1 to 3, the meaning of the words on a pair, what a test load claims of its new state, what is claimed of a table of
+// window costs, and that a printed text restores its program. A refusal leaves the answer's words as they were.
 use rules::PairAnswer;
 use rules::PlainOutcome;
 use rules::PrintAnswer;
@@ -17,15 +17,16 @@ ghost use Rattle.checker_c.specs.Calls.{RunReturns, PlainReturns, PairRe
 #[no_mangle]
 pub extern "C" fn checker_run(
     job: &[u8],
+    costs: &[u8],
     trace: &mut [u64],
     end: &mut [u64],
     work: &mut [u64],
     answer: &mut [u64; 781],
 ) -> u32
     ensures { λ r. ⌜ RunReturns answer r
-        (λ x. RunPromise (now (job .entry)) (areasAtEntry trace end work) x (areasAtExit trace end work)) ⌝ }
+        (λ x. RunPromise (now (job .entry)) (now (costs .entry)) (areasAtEntry trace end work) x (areasAtExit trace end work)) ⌝ }
 {
-    let r = checker::run(job, &mut trace[..], &mut end[..], &mut work[..]);
+    let r = checker::run(job, costs, &mut trace[..], &mut end[..], &mut work[..]);
     let outcome = r.outcome;
     let full = r.full;
     let plain = r.plain;
@@ -66,18 +67,20 @@ pub extern "C" fn checker_plain_run(
 pub extern "C" fn checker_compare(
     job: &[u8],
     second: &[u8],
+    costs: &[u8],
     first_trace: &mut [u64],
     second_trace: &mut [u64],
     work: &mut [u64],
     answer: &mut [u64; 9],
 ) -> u32
     ensures { λ r. ⌜ PairReturns answer r
-        (λ x. PairPromise (now (job .entry)) (now (second .entry)) (pairAtEntry «first_trace» «second_trace» work) x
+        (λ x. PairPromise (now (job .entry)) (now (second .entry)) (now (costs .entry)) (pairAtEntry «first_trace» «second_trace» work) x
         (pairAtExit «first_trace» «second_trace» work)) ⌝ }
 {
     match checker::compare(
         job,
         second,
+        costs,
         &mut first_trace[..],
         &mut second_trace[..],
         &mut work[..],
@@ -94,6 +97,7 @@ pub extern "C" fn checker_compare(
 pub extern "C" fn checker_test_load(
     job: &[u8],
     seed: u64,
+    costs: &[u8],
     first_trace: &mut [u64],
     second_trace: &mut [u64],
     work: &mut [u64],
@@ -101,12 +105,13 @@ pub extern "C" fn checker_test_load(
     answer: &mut [u64; 10],
 ) -> u32
     ensures { λ r. ⌜ TestLoadReturns answer r
-        (λ x. TestLoadPromise (now (job .entry)) seed (testLoadAtEntry «first_trace» «second_trace» work state) x
+        (λ x. TestLoadPromise (now (job .entry)) seed (now (costs .entry)) (testLoadAtEntry «first_trace» «second_trace» work state) x
         (testLoadAtExit «first_trace» «second_trace» work state)) ⌝ }
 {
     match checker::test_load(
         job,
         seed,
+        costs,
         &mut first_trace[..],
         &mut second_trace[..],
         &mut work[..],

@@ -5,7 +5,6 @@ use mathlib.Core.Bool.{Bool, true, false, cond}
 use mathlib.Core.List.{List}
 use Prim.Native.Nat.{ℕ}
 use lib.Dec.{eqb}
-use lib.ListN.{drop}
 use borrow.Author.Tests.{eqb-true}
 use Rattle.location.specs.SetLaws.{and-left, and-right, subset-empty}
 use Rattle.rules.specs.declared.Trailer.{Trailer}
@@ -18,7 +17,6 @@ use Rattle.instruction.specs.Meaning.{meaning}
 use Rattle.descriptor.specs.declared.Descriptor.{Descriptor}
 use Rattle.descriptor.specs.Descriptors.{bare, isBare, isSkip}
 use Rattle.descriptor.specs.Reading.{nothing-shaped}
-use Rattle.work.specs.Layout.{labels}
 use Rattle.stepping.specs.Progress.{Standing, machineAt}
 use Rattle.stepping.specs.Steps.{CarriedOut}
 use Rattle.execution.specs.declared.Mode.{Mode}
@@ -73,4 +71,4 @@ module _ {p : List ℕ} {t : Trailer} {mode : Mode} {x y : Standing} (a : Advanc
       let n = nothing-shaped v (eqb-true (d .shape) 0 b) .0 in
       let step = other-step p t mode w c (still-going (a .inside) (a .window)) (sym n ∙ same) (opens-none mode (d .first)) in
       let f = ap (ordinary (codeAt p t x) (machineAt x (locations t))) e in
-      tried-as (f ∙ step) (performed (d .first) e h .tried (codeAt p t x) (code-of p t (drop labels w)))
+      tried-as (f ∙ step) (performed (d .first) e h .tried (codeAt p t x) (code-of p t w))

@@ -21,10 +21,11 @@ use Rattle.rules.specs.Rules.Plain.{Code}
 use Rattle.rules.specs.Rules.Limits.{maxInstructions}
 use Rattle.rules.specs.Rules.Runs.{Gathered, Result, gather, observedSet, note, fits, over, run}
 use Rattle.rules.specs.Theorems.RunLaws.{run-step}
+use Rattle.rules.specs.Theorems.Undo.{PositiveCosts}
 use Rattle.program.specs.Programs.{Describes}
 use Rattle.work.specs.declared.machine.Control.{Control}
 use Rattle.work.specs.Layout.{labels}
-use Rattle.work.specs.Words.{branchAt, changeAt}
+use Rattle.work.specs.Words.{branchAt, changeAt, costsIn}
 use Rattle.work.specs.Machines.{stateIn}
 use Rattle.work.proofs.Past.{SameMachine}
 use Rattle.firsts.specs.Reports.{report, packed, Told}
@@ -112,6 +113,7 @@ module _ (p : List ℕ) (t : Trailer) (mode : Mode) {x : Standing} (r : Ready p 
         loaded = record {
           limits = r .steady .loaded .limits;
           described = subst (Describes p (t .count)) (sym frame) (r .steady .loaded .described);
+          costs = subst (λ (ws : List ℕ). PositiveCosts (costsIn ws)) (sym frame) (r .steady .loaded .costs);
         };
         fits = same-machine .fits control (r .steady .fits);
         closed = r .steady .closed;

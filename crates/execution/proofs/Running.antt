@@ -26,12 +26,13 @@ use Rattle.rules.specs.Rules.JobFile.{locations}
 use Rattle.rules.specs.Rules.Calls.{written, traceWords, workingWords, counts}
 use Rattle.rules.specs.Theorems.RunLaws.{run-over, run-spent, run-full, run-outside, run-step}
 use Rattle.rules.specs.Theorems.JobLaws.{Limits}
+use Rattle.rules.specs.Theorems.Undo.{PositiveCosts}
 use Rattle.descriptor.specs.declared.Descriptor.{Descriptor}
 use Rattle.descriptor.specs.Descriptors.{descriptorIn, instructionIn, Valid}
 use Rattle.program.specs.Programs.{Describes, program-length, program-at}
 use Rattle.work.specs.declared.machine.Control.{Control}
 use Rattle.work.specs.Layout.{reports, labels}
-use Rattle.work.specs.Words.{taggedAt, branchAt, changeAt}
+use Rattle.work.specs.Words.{taggedAt, branchAt, changeAt, costsIn}
 use Rattle.work.specs.Machines.{stateIn, machineOf, Fit}
 use Rattle.stepping.specs.declared.Progress.{Progress}
 use Rattle.stepping.specs.Progress.{Standing, standing, machineAt, rolledBack, gatheredOf, progressUnmade}
@@ -102,9 +103,9 @@ module _ (code : Code) (n : ℕ) (x y : Standing) (r l : ℕ) (v : Tagged) (ev :
 
 module _ (p : List ℕ) (t : Trailer) where
   -- ---- the program
-  pub code-of : (ws : List ℕ) → CodeOf t (codeIn p t ws)
+  pub code-of : (w : List ℕ) → CodeOf t w (codeIn p t (drop labels w))
   unfolding codeIn endPlace
-  code-of ws = record { count = program-length p (t .count) ws; cells = refl; window = refl; costs = refl }
+  code-of w = record { count = program-length p (t .count) (drop labels w); cells = refl; window = refl; costs = refl }
 
   pub code-fetch : (ws : List ℕ) (i : ℕ) → i < t .count → fetch (codeIn p t ws) i ≡ instructionIn p (descriptorIn (getD ws i 0))
   unfolding codeIn fetch
@@ -132,7 +133,7 @@ module _ (p : List ℕ) (t : Trailer) where
       over-tested : over code machine ≡ overAt (control .depth) (t .count) (control .place)
       over-tested =
           over-by code (x .work) control (locations t)
-          ∙ ap (λ (k : ℕ). overAt (control .depth) k (control .place)) (code-of (drop labels (x .work)) .count)
+          ∙ ap (λ (k : ℕ). overAt (control .depth) k (control .place)) (code-of (x .work) .count)
 
       pub not-over : over code machine ≡ false → overAt (control .depth) (t .count) (control .place) ≡ false
       not-over h = sym over-tested ∙ h
@@ -234,7 +235,7 @@ module _ (p : List ℕ) (t : Trailer) where
             absurd (true≢false (sym (g .top) ∙ closed-not-expired (t .count) (x .work) (x .progress .control) (locations t) (r .steady .closed refl)))
         go modes.Mispredicting r g k =
             let M = machineAt x (locations t) in
-            let q = step-expired (codeAt p t x) M (rw (code-of (drop labels (x .work)) .count) (g .top)) in
+            let q = step-expired (codeAt p t x) M (rw (code-of (x .work) .count) (g .top)) in
             rw (q .rolls) (k .made (locations t) (q .top) (q .others) (locations-most (r .steady .loaded .limits)) (q .branches))
 
     -- its observations
@@ -244,7 +245,7 @@ module _ (p : List ℕ) (t : Trailer) where
         go : (m : Mode) → Steady p t m w c → Going c (t .count) w (locations t) true → 2 ≡ observedBy p t m w c
         go modes.Plain r g = absurd (true≢false (sym (g .top) ∙ closed-not-expired (t .count) w c (locations t) (r .closed refl)))
         go modes.Mispredicting r g =
-            let q = step-expired (codeIn p t (drop labels w)) (machineOf w c (locations t)) (rw (code-of (drop labels w) .count) (g .top)) in
+            let q = step-expired (codeIn p t (drop labels w)) (machineOf w c (locations t)) (rw (code-of w .count) (g .top)) in
             rw (q .rolls) (unfold rolling in refl)
 
     -- it observes no set
@@ -255,7 +256,7 @@ module _ (p : List ℕ) (t : Trailer) where
         go : (m : Mode) → Steady p t m w c → Going c (t .count) w (locations t) true → stepIn p t m w c .seen ≡ empty
         go modes.Plain r g = absurd (true≢false (sym (g .top) ∙ closed-not-expired (t .count) w c (locations t) (r .closed refl)))
         go modes.Mispredicting r g =
-            let q = step-expired (codeIn p t (drop labels w)) (machineOf w c (locations t)) (rw (code-of (drop labels w) .count) (g .top)) in
+            let q = step-expired (codeIn p t (drop labels w)) (machineOf w c (locations t)) (rw (code-of w .count) (g .top)) in
             rw (q .rolls) (unfold rolling in refl)
 
     -- it needs no address
@@ -266,7 +267,7 @@ module _ (p : List ℕ) (t : Trailer) where
         go : (m : Mode) → Steady p t m w c → Going c (t .count) w (locations t) true → stepIn p t m w c .overfull ≡ false
         go modes.Plain r g = absurd (true≢false (sym (g .top) ∙ closed-not-expired (t .count) w c (locations t) (r .closed refl)))
         go modes.Mispredicting r g =
-            let q = step-expired (codeIn p t (drop labels w)) (machineOf w c (locations t)) (rw (code-of (drop labels w) .count) (g .top)) in
+            let q = step-expired (codeIn p t (drop labels w)) (machineOf w c (locations t)) (rw (code-of w .count) (g .top)) in
             rw (q .rolls) (unfold rolling in refl)
 
     -- ---- the instruction at the place
@@ -294,7 +295,7 @@ module _ (p : List ℕ) (t : Trailer) where
         step-same : forwardBy mode described now-machine i ≡ stepBy mode described now-machine
         step-same =
             ap (forwardBy mode described now-machine) e
-            ∙ forward-step mode described now-machine (rw (code-of (drop labels w) .count) (g .top))
+            ∙ forward-step mode described now-machine (rw (code-of w .count) (g .top))
 
         pub observed-forward : length (forwardBy mode described now-machine i .obs) ≡ observedBy p t mode w c
         observed-forward = ap (λ (z : Step). length (z .obs)) step-same
@@ -354,6 +355,7 @@ module _ (p : List ℕ) (t : Trailer) where
               loaded = record {
                 limits = r .steady .loaded .limits;
                 described = subst (Describes p (t .count)) (sym label-frame) (r .steady .loaded .described);
+                costs = subst (λ (ws : List ℕ). PositiveCosts (costsIn ws)) (sym label-frame) (r .steady .loaded .costs);
               };
               fits = m .fits;
               closed =

@@ -13,7 +13,7 @@ use Rattle.rules.specs.declared.Tagged.{Tagged}
 use Rattle.rules.specs.declared.Trailer.{Trailer}
 use Rattle.rules.specs.Rules.Limits.{maxInstructions}
 use Rattle.rules.specs.Rules.Expressions.{eval}
-use Rattle.rules.specs.Rules.Instructions.{Observation, windowCosts}
+use Rattle.rules.specs.Rules.Instructions.{Observation}
 use Rattle.rules.specs.Rules.Firsts.{causeOf, ObservedSet, firstsOf}
 use Rattle.rules.specs.Rules.Plain.{Code, endPlace}
 use Rattle.rules.specs.Rules.Mispredicting.{Step, ordinary}
@@ -22,6 +22,7 @@ use Rattle.rules.specs.Rules.Runs.{Result, over, run}
 use Rattle.rules.specs.Rules.JobFile.{postfix, locations}
 use Rattle.rules.specs.Rules.Calls.{written, traceWords, counts}
 use Rattle.rules.specs.Theorems.JobLaws.{Limits}
+use Rattle.rules.specs.Theorems.Undo.{PositiveCosts}
 use Rattle.instruction.specs.declared.Instruction.{Instruction}
 use Rattle.instruction.specs.Meaning.{meaning}
 use Rattle.instruction.specs.Registers.{RegistersBelow}
@@ -30,7 +31,7 @@ use Rattle.descriptor.specs.Descriptors.{descriptorIn, firstTokens}
 use Rattle.program.specs.Programs.{programIn, Describes}
 use Rattle.work.specs.declared.machine.Control.{Control}
 use Rattle.work.specs.Layout.{labels}
-use Rattle.work.specs.Words.{taggedAt}
+use Rattle.work.specs.Words.{taggedAt, costsIn}
 use Rattle.work.specs.Machines.{stateIn, machineOf, Fit}
 use Rattle.stepping.specs.declared.Progress.{Progress}
 use Rattle.firsts.specs.Reports.{packed, reportsIn, Told}
@@ -45,21 +46,23 @@ use Rattle.execution.specs.declared.halt.Halt.the-variants as halt
 use Rattle.execution.specs.Next.{stepBy}
 
 -- ---- the program
--- what the steps of a job are given: the program that the words ws of its labels describe over the bytes p, and its trailer's numbers
+-- what the steps of a job are given: the program that the words ws from its labels on describe over the bytes p, its trailer's numbers, and the
+-- window costs that stand behind the labels
 unfoldable pub codeIn : List ℕ → Trailer → List ℕ → Code
-codeIn p t ws = record { prog = programIn p (t .count) ws; cells = t .cells; window = t .window; costs = windowCosts }
+codeIn p t ws = record { prog = programIn p (t .count) ws; cells = t .cells; window = t .window; costs = costsIn ws }
 
--- The numbers keep their limits, and each word of the table of labels describes an instruction.
+-- The numbers keep their limits, each word of the table of labels describes an instruction, and each kind of instruction costs 1 at least.
 pub record Loaded (p : List ℕ) (t : Trailer) (w : List ℕ) : Type 0 where
   pub limits : Limits t
   pub described : Describes p (t .count) (drop labels w)
+  pub costs : PositiveCosts (costsIn (drop labels w))
 
--- the job's code: what the rules are given, by its trailer
-pub record CodeOf (t : Trailer) (code : Code) : Type 0 where
+-- the job's code: what the rules are given, by its trailer and by the window costs of the words w
+pub record CodeOf (t : Trailer) (w : List ℕ) (code : Code) : Type 0 where
   pub count : endPlace code ≡ t .count
   pub cells : code .cells ≡ t .cells
   pub window : code .window ≡ t .window
-  pub costs : code .costs ≡ windowCosts
+  pub costs : code .costs ≡ costsIn (drop labels w)
 
 -- ---- where a run can go on
 -- the words hold a machine of the run
@@ -180,7 +183,7 @@ pub record Tried (n : ℕ) (s : Step) (x y : Standing) : Type 0 where
 
 -- rule 3 for the instruction i
 pub record Performed (p : List ℕ) (t : Trailer) (i : Instruction) (x y : Standing) : Type 0 where
-  pub tried : (code : Code) → CodeOf t code → Tried (locations t) (ordinary code (machineAt x (locations t)) (meaning p i)) x y
+  pub tried : (code : Code) → CodeOf t (x .work) code → Tried (locations t) (ordinary code (machineAt x (locations t)) (meaning p i)) x y
 
 -- the descriptor of the label at the place
 abbrev pub descriptorAt : List ℕ → Control → Descriptor

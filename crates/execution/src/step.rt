@@ -36,7 +36,7 @@ fn carry_out(
     let full = c.full;
     let seen = a.deps;
     match i {
-        Instruction::Skip => stepping::skip(c, i),
+        Instruction::Skip => stepping::skip(&work[..], c, i),
         Instruction::Assign(r, _) => stepping::assign(&mut work[..], c, i, r, a),
         Instruction::Load(r, _) => {
             if !seen.subset(full) {
@@ -55,20 +55,20 @@ fn carry_out(
                 return c;
             }
             let place = evaluation::jump_to(a.value, t.count);
-            stepping::go_to(&mut trace[..], c, i, place, a)
+            stepping::go_to(&work[..], &mut trace[..], c, i, place, a)
         }
         Instruction::BranchZero(_, l) => {
             if !seen.subset(full) {
                 return c;
             }
             let place = evaluation::branch_to(a, l, next);
-            stepping::go_to(&mut trace[..], c, i, place, a)
+            stepping::go_to(&work[..], &mut trace[..], c, i, place, a)
         }
         Instruction::AssignIf(r, _, e) => {
             let v = evaluation::chosen(p, &work[..], r, a, e);
             stepping::assign(&mut work[..], c, i, r, v)
         }
-        Instruction::Barrier => stepping::skip(c, i),
+        Instruction::Barrier => stepping::skip(&work[..], c, i),
     }
 }
 
@@ -139,10 +139,10 @@ fn advance(
     let label = Label::new(control.place);
     let word = program::word_of(&work[..], work::LABELS, label);
     if descriptor::is_skip(word) {
-        return stepping::skip(c, Instruction::Skip);
+        return stepping::skip(&work[..], c, Instruction::Skip);
     }
     if descriptor::is_bare(word) {
-        return stepping::skip(c, descriptor::bare_in(word));
+        return stepping::skip(&work[..], c, descriptor::bare_in(word));
     }
     let d = descriptor::descriptor_in(word);
     advance_by(p, t, mode, &mut work[..], &mut trace[..], c, d)

@@ -2,7 +2,6 @@
 -- Assumes nothing.
 use mathlib.Core.Path.{_≡_, refl}
 use mathlib.Core.Bool.{Bool, true, false, cond}
-use mathlib.Core.List.{List}
 use Prim.Native.Nat.{ℕ, zero-le, _+_, _-_, _≤_}
 use native.Mathlib.Omega.{arith}
 use lib.Dec.{eqb}
@@ -37,7 +36,6 @@ pub remaining-barrier : (code : Code) (i : Instr) (v k : ℕ) → k ≡ kind i �
 unfolding remaining
 remaining-barrier code i v k e h = rw (← e, h)
 
-pub remaining-other : (code : Code) (i : Instr) (v k c : ℕ) (costs : List ℕ) → code .costs ≡ costs → k ≡ kind i → (k ≡ 7 → ⊥)
-    → c ≡ getD costs k 0 → v - c ≡ remaining code i v
+pub remaining-other : (code : Code) (i : Instr) (v k c : ℕ) → k ≡ kind i → (k ≡ 7 → ⊥) → c ≡ getD (code .costs) (kind i) 0 → v - c ≡ remaining code i v
 unfolding remaining
-remaining-other code i v k c costs s e h g = rw (s, ← e, ← g, ne-eqb k 7 h)
+remaining-other code i v k c e h g = rw (← g, ← e, ne-eqb k 7 h)

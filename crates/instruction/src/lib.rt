@@ -1,4 +1,4 @@
-// Instructions: decoding them from the bytes of a program, and the window costs of their kinds.
+// Instructions: decoding them from the bytes of a program, their kinds, and what they leave of a window.
 use location::Label;
 use location::Location;
 use rules::Refusal;
@@ -7,7 +7,8 @@ use token::ExpressionRead;
 ghost use mathlib.Core.Path.{_≡_};
 ghost use mathlib.Core.List.{List};
 ghost use Prim.Native.Nat.{ℕ, _<_};
-ghost use Rattle.rules.specs.Rules.Instructions.{kind, windowCosts};
+ghost use lib.ListN.{getD};
+ghost use Rattle.rules.specs.Rules.Instructions.{kind};
 ghost use Rattle.rules.specs.Rules.JobFile.{wordOf, register, withRegister, jump, branch, conditional, instr};
 ghost use Rattle.rules.specs.Rules.Plain.{Code};
 ghost use Rattle.rules.specs.Rules.Mispredicting.{remaining};
@@ -200,13 +201,10 @@ pub fn decode(p: &[u8], at: usize) -> InstructionRead
     }
 }
 
-// What each kind of instruction takes from an open branch's window, by the kind's number.
-const WINDOW_COSTS: [u64; 8] = [1, 1, 1, 1, 1, 1, 1, 1];
-
 const BARRIER: usize = 7;
 
 // The kind's number, as in the kind byte.
-fn kind(i: Instruction) -> usize
+pub fn kind(i: Instruction) -> usize
     ensures below { λ r. ⌜ r < 8 ⌝ }
     ensures same { λ r. ⌜ ((p : List ℕ) → r ≡ kind (meaning p i)) ⌝ }
 {
@@ -222,24 +220,16 @@ fn kind(i: Instruction) -> usize
     }
 }
 
-// The window that an instruction leaves by any table of costs: lowered by its kind's entry, 0 at least; a barrier leaves 0.
-fn lowered_by(costs: [u64; 8], window: u64, i: Instruction) -> u64
-    ensures { λ r. ⌜ ((p : List ℕ) (code : Code) → code .costs ≡ costs → r ≡ remaining code (meaning p i) window) ⌝ }
+// The window that an instruction leaves: lowered by `cost`, which is its kind's entry in a table of window costs, 0 at least; a barrier
+// leaves 0.
+pub fn lowered(cost: u64, window: u64, i: Instruction) -> u64
+    ensures { λ r. ⌜ ((p : List ℕ) (code : Code) → cost ≡ getD (code .costs) (kind (meaning p i)) 0 → r ≡ remaining code (meaning p i) window) ⌝ }
 {
-    let k = kind(i);
-    if k == BARRIER {
+    if kind(i) == BARRIER {
         return 0;
     }
-    let cost = costs[k];
     if cost < window {
         return window - cost;
     }
     0
-}
-
-// The window that an instruction leaves by the table above.
-pub fn lowered(window: u64, i: Instruction) -> u64
-    ensures { λ r. ⌜ ((p : List ℕ) (code : Code) → code .costs ≡ windowCosts → r ≡ remaining code (meaning p i) window) ⌝ }
-{
-    lowered_by(WINDOW_COSTS, window, i)
 }

@@ -7,6 +7,8 @@ use lib.ListN.{length}
 use Rattle.rules.specs.declared.Trailer.{Trailer}
 use Rattle.rules.specs.Rules.Limits.{registersSize, listSize, trailerSize}
 use Rattle.rules.specs.Rules.JobFile.{trailer, locations, stateOf, publicOf, wordsAt}
+use Rattle.rules.specs.Rules.Runs.{Job}
+use Rattle.rules.specs.Rules.Costs.{withCosts}
 use Rattle.rules.specs.Rules.Pairs.{withState}
 use Rattle.rules.specs.Theorems.JobLaws.{Passed, passed, Limits, limits-hold, job-init, job-public, length-stateOf, state-list, list-length}
 use Rattle.job.specs.Answers.{Accepts}
@@ -34,5 +36,6 @@ module _ {bs : List ℕ} {t : Trailer} (a : Accepts bs t) where
   pub accepted-init : wordsAt (locations t) bs (t .state) ≡ a .job .init
   accepted-init = rw (a .trailer) (unfold stateOf in sym (job-init accepted-passed))
 
-  pub accepted-state : withState (a .job) (wordsAt (locations t) bs (t .state)) ≡ a .job
-  accepted-state = rw (a .trailer) (unfold stateOf in own-state accepted-passed)
+  pub accepted-state : (costs : List ℕ) → withState (withCosts (a .job) costs) (wordsAt (locations t) bs (t .state)) ≡ withCosts (a .job) costs
+  unfolding withState
+  accepted-state costs = rw (a .trailer) (unfold stateOf in ap (λ (j : Job). withCosts j costs) (own-state accepted-passed))

@@ -1,4 +1,5 @@
-// One run of an accepted job over lent areas: the plain or the mispredicting one, from the job's own state or from another.
+// One run of an accepted job over lent areas: the plain or the mispredicting one, from the job's own state or from another, by a table of
+// window costs.
 use execution::Mode;
 use execution::Ran;
 use rules::Trailer;
@@ -11,13 +12,14 @@ ghost use Rattle.rules.specs.Rules.Calls.{tableSize, workingWords};
 ghost use Rattle.rules.specs.Rules.Promises.{areasAtEntry, areasAtExit};
 ghost use Rattle.job_run.specs.JobRuns.{Runnable, LoadedFor, RunOf, AreasFit, RunIn};
 
-// The state that stands at an offset of some bytes and the words of the job's program are loaded for a run.
-fn load(job: &[u8], t: Trailer, states: &[u8], at: usize, work: &mut [u64])
-    requires { ⌜ Runnable (now job) t (now states) at (now work) ⌝ }
-    ensures { λ _. ⌜ LoadedFor (now (job .entry)) t (now (states .entry)) at (now (work .entry)) (now (work .exit)) ⌝ }
+// The state that stands at an offset of some bytes, the table of window costs and the words of the job's program are loaded for a run.
+fn load(job: &[u8], t: Trailer, costs: &[u8], states: &[u8], at: usize, work: &mut [u64])
+    requires { ⌜ Runnable (now job) t (now costs) (now states) at (now work) ⌝ }
+    ensures { λ _. ⌜ LoadedFor (now (job .entry)) t (now (costs .entry)) (now (states .entry)) at (now (work .entry)) (now (work .exit)) ⌝ }
 {
     let n = t.locations();
     transfer::load_state(states, at, n, &mut work[..]);
+    work::store_costs(&mut work[..], costs);
     let s = t.state;
     program::write_words(&job[0..s], t.count, &mut work[..], work::LABELS);
 }
@@ -27,16 +29,17 @@ pub fn run_state(
     job: &[u8],
     t: Trailer,
     mode: Mode,
+    costs: &[u8],
     states: &[u8],
     at: usize,
     work: &mut [u64],
     trace: &mut [u64],
 ) -> Ran
-    requires { ⌜ Runnable (now job) t (now states) at (now work) ⌝ }
-    ensures { λ r. ⌜ RunOf (now (job .entry)) t mode (now (states .entry)) at
+    requires { ⌜ Runnable (now job) t (now costs) (now states) at (now work) ⌝ }
+    ensures { λ r. ⌜ RunOf (now (job .entry)) t mode (now (costs .entry)) (now (states .entry)) at
         (now (work .entry)) (now (work .exit)) (now (trace .entry)) (now (trace .exit)) r ⌝ }
 {
-    load(job, t, states, at, &mut work[..]);
+    load(job, t, costs, states, at, &mut work[..]);
     let s = t.state;
     execution::run(&job[0..s], t, mode, &mut work[..], &mut trace[..])
 }
@@ -61,15 +64,16 @@ pub fn run_in_areas(
     job: &[u8],
     t: Trailer,
     mode: Mode,
+    costs: &[u8],
     trace: &mut [u64],
     end: &mut [u64],
     work: &mut [u64],
 ) -> Ran
-    requires { ⌜ AreasFit (now job) t (now end) (now work) ⌝ }
-    ensures { λ r. ⌜ RunIn (now (job .entry)) t mode (areasAtEntry trace end work) (areasAtExit trace end work) r ⌝ }
+    requires { ⌜ AreasFit (now job) t (now costs) (now end) (now work) ⌝ }
+    ensures { λ r. ⌜ RunIn (now (job .entry)) t mode (now (costs .entry)) (areasAtEntry trace end work) (areasAtExit trace end work) r ⌝ }
 {
     let s = t.state;
-    load(job, t, job, s, &mut work[..]);
+    load(job, t, costs, job, s, &mut work[..]);
     let r = execution::run(&job[0..s], t, mode, &mut work[..], &mut trace[..]);
     let n = t.locations();
     transfer::save_state(&work[..], n, &mut end[..]);

@@ -23,9 +23,11 @@ use Rattle.rules.specs.Rules.Runs.{Job, mispredictingRun}
 use Rattle.rules.specs.Rules.JobFile.{accepted, parse, locations, publicOf, wordsAt}
 use Rattle.rules.specs.Rules.Calls.{traceWords, written, workingWords, room, counts}
 use Rattle.rules.specs.Rules.Pairs.{withState, alikeFrom, pairWord, PairAreas, pairLent, pairAfter, pairRefused, secondFits, pairFits, pairAccepted}
-use Rattle.rules.specs.Rules.Pairs.{pairParsed, pairCall}
+use Rattle.rules.specs.Rules.Pairs.{pairTabled, pairParsed, pairCall}
+use Rattle.rules.specs.Rules.Costs.{costsFit, withCosts}
 use Rattle.rules.specs.Rules.Demands.{Exact}
 use Rattle.rules.specs.Theorems.RunLaws.{mispredicting-trace}
+use Rattle.rules.specs.Theorems.Costs.{tabled-accepted, tabled-refused}
 use Rattle.rules.specs.Theorems.CallLaws.{length-traceWords}
 use Rattle.rules.specs.Theorems.PairLaws.{Pairs, pair-runs}
 use Rattle.job.specs.Answers.{Accepts}
@@ -62,10 +64,10 @@ module _ (a b w : List ℕ) where
   unfolding pairFits
   fit-traces h = eqb-true (length a) (length b) (and-right (leb workingWords (length w)) (eqb (length a) (length b)) h)
 
--- an accepted job, in areas that fit
-pub ready-by : {bs : List ℕ} {t : Trailer} {public : LocationSet} → Accepts bs t → public ≡ publicOf t bs → (a b w : List ℕ)
-    → pairFits (pairLent a b w) ≡ true → Ready bs t public a b w
-ready-by k e a b w fit = record { accepts = k; listed = e; work = fit-work a b w fit; traces = fit-traces a b w fit }
+-- an accepted job and table, in areas that fit
+pub ready-by : {bs : List ℕ} {t : Trailer} {public : LocationSet} {costs : List ℕ} → Accepts bs t → public ≡ publicOf t bs → costsFit costs ≡ true
+    → (a b w : List ℕ) → pairFits (pairLent a b w) ≡ true → Ready bs t public costs a b w
+ready-by k e f a b w fit = record { accepts = k; listed = e; fits = f; work = fit-work a b w fit; traces = fit-traces a b w fit }
 
 -- ---- a run that has ended: what it wrote fits, and stands from the front
 module _ {t : Trailer} {a w a′ : List ℕ} {r : Ran} (job : Job) (e : EndsAs t a w a′ r (mispredictingRun job (room a))) where
@@ -101,18 +103,19 @@ module _ {t : Trailer} {a w a′ : List ℕ} {r : Ran} (job : Job) (e : EndsAs t
   left-there = rw same-room (record { counts = e .reports .counts; trace = observed-words })
 
 -- the job's own run, as its code has made it
-pub own-ran : {bs : List ℕ} {t : Trailer} {w w′ a a′ : List ℕ} {r : Ran} → Accepts bs t
-    → RunOf bs t modes.Mispredicting bs (t .state) w w′ a a′ r → OwnRan bs (r .counts) a′
-own-ran k o = record { left = λ job p. left-there job (own-run k modes.Mispredicting o job p) }
+pub own-ran : {bs : List ℕ} {t : Trailer} {costs w w′ a a′ : List ℕ} {r : Ran} → Accepts bs t
+    → RunOf bs t modes.Mispredicting costs bs (t .state) w w′ a a′ r → OwnRan bs costs (r .counts) a′
+own-ran {costs = costs} k o = record { left = λ job p. left-there (withCosts job costs) (own-run k modes.Mispredicting o job p) }
 
 -- after it the areas fit still
-pub ready-again : {bs : List ℕ} {t : Trailer} {public : LocationSet} {a b w w′ a′ : List ℕ} {r : Ran} → Ready bs t public a b w
-    → RunOf bs t modes.Mispredicting bs (t .state) w w′ a a′ r → Ready bs t public a′ b w′
-ready-again q o = record {
+pub ready-again : {bs : List ℕ} {t : Trailer} {public : LocationSet} {costs a b w w′ a′ : List ℕ} {r : Ran} → Ready bs t public costs a b w
+    → RunOf bs t modes.Mispredicting costs bs (t .state) w w′ a a′ r → Ready bs t public costs a′ b w′
+ready-again {costs = costs} q o = record {
   accepts = q .accepts;
   listed = q .listed;
+  fits = q .fits;
   work = let z = o .size in let h = q .work in omega arith;
-  traces = same-length (q .accepts .job) (own-run (q .accepts) modes.Mispredicting o (q .accepts .job) (q .accepts .parsed)) ∙ q .traces;
+  traces = same-length (withCosts (q .accepts .job) costs) (own-run (q .accepts) modes.Mispredicting o (q .accepts .job) (q .accepts .parsed)) ∙ q .traces;
 }
 
 -- ---- the word on two runs, of what the code has found
@@ -124,8 +127,9 @@ word-found bs t public second a b n n′ ea ew =
     rw (ew, ea, same-part (2 * n .observations) a, same-part (2 * n′ .observations) b)
 
 -- ---- the second run
-module _ {bs : List ℕ} {t : Trailer} {public : LocationSet} {second a b w w₁ b′ : List ℕ} {c : Counts} {r : Ran}
-    (q : Comparable bs t public second a b w) (own : OwnRan bs c a) (o : RunOf bs t modes.Mispredicting second 0 w w₁ b b′ r) where
+module _ {bs : List ℕ} {t : Trailer} {public : LocationSet} {second costs a b w w₁ b′ : List ℕ} {c : Counts} {r : Ran}
+    (q : Comparable bs t public second costs a b w) (own : OwnRan bs costs c a)
+    (o : RunOf bs t modes.Mispredicting costs second 0 w w₁ b b′ r) where
   -- the words of the second state
   abbrev vs : List ℕ
   vs = wordsAt (locations t) second 0
@@ -138,8 +142,12 @@ module _ {bs : List ℕ} {t : Trailer} {public : LocationSet} {second a b w w₁
     abbrev known : Accepts bs t
     known = record { job = job; parsed = p; trailer = q .ready .accepts .trailer }
 
+    -- the job with its table, and the same with the second state
+    abbrev tableJob : Job
+    tableJob = withCosts job costs
+
     abbrev other : Job
-    other = withState job vs
+    other = withState tableJob vs
 
     second-ends : EndsAs t b w₁ b′ r (mispredictingRun other (room b))
     second-ends = o .ran job p
@@ -152,17 +160,17 @@ module _ {bs : List ℕ} {t : Trailer} {public : LocationSet} {second a b w w₁
     second-trace = observed-words other second-ends ∙ ap (λ (k : ℕ). traceWords (mispredictingRun other k .gathered .trace)) rooms
 
     -- the word is that of the rules' two runs
-    same-word : wordOn bs t public second c (r .counts) a b′ ≡ pairWord job vs (room a)
+    same-word : wordOn bs t public second c (r .counts) a b′ ≡ pairWord tableJob vs (room a)
     unfolding counts
     same-word =
         let l = own .left job p in
         let n = second-counts in
         (λ i. pairWordOf (alikeFrom ((q .ready .listed ∙ accepted-public known) i) 0 (accepted-init known i) vs) (l .counts i .stop) (n i .stop)
         (l .trace i) (second-trace i))
-        ∙ word-same job vs (room a)
+        ∙ word-same tableJob vs (room a)
 
     second-of : {word : PairWord} → word ≡ wordOn bs t public second c (r .counts) a b′
-        → SecondOf job vs (room a) b b′ (record { word = word; counts = r .counts })
+        → SecondOf tableJob vs (room a) b b′ (record { word = word; counts = r .counts })
     second-of er = record {
       word = er ∙ same-word;
       counts = second-counts;
@@ -174,8 +182,9 @@ module _ {bs : List ℕ} {t : Trailer} {public : LocationSet} {second a b w w₁
   first-fits =
       let job = q .ready .accepts .job in
       let l = own .left job (q .ready .accepts .parsed) in
-      let n : c .observations ≡ length (mispredictingRun job (room a) .gathered .trace) = ap (λ (x : Counts). x .observations) (l .counts) in
-      let m = mispredicting-trace job (room a) in omega arith
+      let x = withCosts job costs in
+      let n : c .observations ≡ length (mispredictingRun x (room a) .gathered .trace) = ap (λ (y : Counts). y .observations) (l .counts) in
+      let m = mispredicting-trace x (room a) in omega arith
 
   pub second-fits : 2 * r .counts .observations ≤ length b′
   second-fits =
@@ -184,45 +193,47 @@ module _ {bs : List ℕ} {t : Trailer} {public : LocationSet} {second a b w w₁
 
   pub second-ran : {w₂ : List ℕ} {word : PairWord} → w₂ ≡ written (replicate workingWords 0) w₁
       → word ≡ wordOn bs t public second c (r .counts) a b′
-      → SecondRan bs t second (room a) b w b′ w₂ (record { word = word; counts = r .counts })
+      → SecondRan bs t second costs (room a) b w b′ w₂ (record { word = word; counts = r .counts })
   second-ran ew er = record {
     ran = λ job p. second-of job p er;
     work = ew ∙ cleared-same workingWords w₁ w (o .past);
   }
 
 -- ---- both runs
-module _ {bs : List ℕ} {t : Trailer} {public : LocationSet} {second a b w w₁ w₂ a′ b′ : List ℕ} {r : Ran} {s : SecondRun}
-    (q : Comparable bs t public second a b w) (o : RunOf bs t modes.Mispredicting bs (t .state) w w₁ a a′ r)
-    (x : SecondRan bs t second (room a′) b w₁ b′ w₂ s) where
+module _ {bs : List ℕ} {t : Trailer} {public : LocationSet} {second costs a b w w₁ w₂ a′ b′ : List ℕ} {r : Ran} {s : SecondRun}
+    (q : Comparable bs t public second costs a b w) (o : RunOf bs t modes.Mispredicting costs bs (t .state) w w₁ a a′ r)
+    (x : SecondRan bs t second costs (room a′) b w₁ b′ w₂ s) where
   abbrev accepts : Accepts bs t
   accepts = q .ready .accepts
 
+  -- the job with its table
   abbrev job : Job
-  job = accepts .job
+  job = withCosts (accepts .job) costs
 
   abbrev areas : PairAreas
   areas = pairLent a b w
 
-  compares : Pairs bs second areas
+  compares : Pairs bs second costs areas
   unfolding secondFits
   compares = record {
-    job = job;
+    read = accepts .job;
     parsed = accepts .parsed;
     sized = eq-eqb (length second) (8 * length (job .init)) (let z = accepted-size accepts in let s = q .sized in omega arith);
+    fits = q .ready .fits;
     enough = areas-enough a b w (q .ready .work) (q .ready .traces);
   }
 
   first-ends : EndsAs t a w₁ a′ r (mispredictingRun job (room a))
-  first-ends = own-run accepts modes.Mispredicting o job (accepts .parsed)
+  first-ends = own-run accepts modes.Mispredicting o (accepts .job) (accepts .parsed)
 
   -- the words of the second state
   abbrev words : List ℕ
   words = wordsAt (length (job .init)) second 0
 
   second-there : SecondOf job words (room a) b b′ s
-  second-there = rw (← accepted-size accepts, same-room job first-ends) at (x .ran job (accepts .parsed))
+  second-there = rw (← accepted-size accepts, same-room job first-ends) at (x .ran (accepts .job) (accepts .parsed))
 
-  pub exact-compared : Exact (pairCall bs second (pairLent a b w)) (answers.Compared (s .word) (r .counts) (s .counts)) (pairLent a′ b′ w₂)
+  pub exact-compared : Exact (pairCall bs second costs (pairLent a b w)) (answers.Compared (s .word) (r .counts) (s .counts)) (pairLent a′ b′ w₂)
   unfolding pairAccepted pairAfter compares
   exact-compared =
       let y = second-there in
@@ -233,9 +244,9 @@ module _ {bs : List ℕ} {t : Trailer} {public : LocationSet} {second a b w w₁
       })
 
 -- ---- refusals
-module _ {bs : List ℕ} {t : Trailer} (k : Accepts bs t) (second a b w : List ℕ) where
-  refused : (n : Refusal) → pairCall bs second (pairLent a b w) ≡ pairRefused n (pairLent a b w)
-      → Exact (pairCall bs second (pairLent a b w)) (answers.Refused n) (pairLent a b w)
+module _ {bs : List ℕ} {t : Trailer} (k : Accepts bs t) (second costs a b w : List ℕ) where
+  refused : (n : Refusal) → pairCall bs second costs (pairLent a b w) ≡ pairRefused n (pairLent a b w)
+      → Exact (pairCall bs second costs (pairLent a b w)) (answers.Refused n) (pairLent a b w)
   unfolding pairRefused
   refused n e = rw e (record { answer = refl; areas = refl })
 
@@ -243,15 +254,22 @@ module _ {bs : List ℕ} {t : Trailer} (k : Accepts bs t) (second a b w : List �
   unfolding secondFits
   unsized h = ne-eqb (length second) (8 * length (k .job .init)) (λ e. h (rw (accepted-size k) at e))
 
+  sized : length second ≡ 8 * locations t → secondFits (k .job) second ≡ true
+  unfolding secondFits
+  sized s = let z = accepted-size k in eq-eqb (length second) (8 * length (k .job .init)) (omega arith)
+
   pub other-size : (length second ≡ 8 * locations t → ⊥)
-      → Exact (pairCall bs second (pairLent a b w)) (answers.Refused refusals.SecondState) (pairLent a b w)
+      → Exact (pairCall bs second costs (pairLent a b w)) (answers.Refused refusals.SecondState) (pairLent a b w)
   unfolding pairCall pairParsed
   other-size h = refused refusals.SecondState (rw (k .parsed, unsized h, pairParsed))
 
-  pub unfit : length second ≡ 8 * locations t → pairFits (pairLent a b w) ≡ false
-      → Exact (pairCall bs second (pairLent a b w)) (answers.Refused refusals.Areas) (pairLent a b w)
-  unfolding pairCall pairParsed secondFits
-  unfit s h =
-      let z = accepted-size k in
-      let e : secondFits (k .job) second ≡ true = eq-eqb (length second) (8 * length (k .job .init)) (omega arith) in
-      refused refusals.Areas (rw (k .parsed, e, h, pairParsed))
+  pub no-table : length second ≡ 8 * locations t → costsFit costs ≡ false
+      → Exact (pairCall bs second costs (pairLent a b w)) (answers.Refused refusals.Costs) (pairLent a b w)
+  unfolding pairCall pairParsed pairTabled
+  no-table s c = refused refusals.Costs (rw (tabled-refused bs costs (k .job) (k .parsed) c, k .parsed, sized s, pairParsed, pairTabled))
+
+  pub unfit : length second ≡ 8 * locations t → costsFit costs ≡ true → pairFits (pairLent a b w) ≡ false
+      → Exact (pairCall bs second costs (pairLent a b w)) (answers.Refused refusals.Areas) (pairLent a b w)
+  unfolding pairCall pairParsed pairTabled
+  unfit s c h =
+      refused refusals.Areas (rw (tabled-accepted bs costs (k .job) (k .parsed) c, k .parsed, sized s, h, pairParsed, pairTabled))

@@ -15,15 +15,14 @@ use Rattle.rules.specs.declared.RunAnswer.{RunAnswer}
 use Rattle.rules.specs.Rules.Plain.{endPlace}
 use Rattle.rules.specs.Rules.Runs.{Job, mispredictingRun}
 use Rattle.rules.specs.Rules.JobFile.{Parsed, accepted, rejected, parse, trailer}
-use Rattle.rules.specs.Rules.Calls.{Areas, Called, lent, room, tableSize, workingWords, longEnough, written, areasAfter, runCall}
+use Rattle.rules.specs.Rules.Calls.{Areas, Called, lent, room, tableSize, workingWords, longEnough, written, areasAfter}
+use Rattle.rules.specs.Rules.Calls.{runReport, runRefused, runParsed, fixedRunCall}
 use Rattle.rules.specs.Rules.Demands.{observationCount, Exact}
 use Rattle.rules.specs.Rules.Listing.{printedRoom, listingOf, listing}
 use Rattle.rules.specs.Theorems.JobLaws.{passed, job-end, init-most}
-use Rattle.rules.specs.Theorems.CallLaws.{call-runs}
 use Rattle.job.specs.declared.JobOutcome.the-variants as outcomes
 use Rattle.job.specs.declared.JobRead.{JobRead}
 use Rattle.job.specs.Answers.{jobReadOf, read-accepted, read-refused}
-use Rattle.checker.specs.Reports.{run-rejected}
 use Rattle.byte_writer.specs.Writing.{Put}
 use Rattle.byte_writer.specs.Areas.{put-next, put-fits}
 use Rattle.listing.specs.Lines.{observationsIn, printed}
@@ -42,6 +41,16 @@ module _ (bs : List ℕ) {x : JobRead} (read : x ≡ jobReadOf (trailer bs) (par
   pub count-refused : {r : Refusal} → x .outcome ≡ outcomes.Refused r → 0 ≡ instructionCount (parse bs)
   count-refused e = rw (read-refused bs read e)
 
+-- ---- the call by the fixed table
+fixed-rejected : (bs : List ℕ) (a : Areas) (n : Refusal) → parse bs ≡ rejected n → fixedRunCall bs a ≡ record { answer = runRefused n; areas = a }
+unfolding fixedRunCall runParsed
+fixed-rejected bs a n p = rw (p, runParsed)
+
+fixed-runs : (bs : List ℕ) (a : Areas) (job : Job) → parse bs ≡ accepted job → longEnough job a ≡ true
+    → (let R = mispredictingRun job (room (a .trace)) in fixedRunCall bs a ≡ record { answer = runReport job R; areas = areasAfter R a })
+unfolding fixedRunCall runParsed
+fixed-runs bs a job p l = rw (p, l, runParsed)
+
 -- ---- the lines of a call
 -- what a call on these areas leaves in its trace area, and the lines that are printed of it
 record Shown (n k : ℕ) (P : Parsed) (a : RunAnswer) (trace trace′ : List ℕ) : Type 0 where
@@ -53,18 +62,19 @@ enough : (job : Job) (a : Areas) → workingWords ≤ length (a .work) → lengt
 unfolding longEnough
 enough job a h k = rw (le-leb workingWords (length (a .work)) h, le-leb (length (job .init) + tableSize) (length (a .end)) k)
 
-module _ (bs t e w : List ℕ) {a : RunAnswer} {t′ e′ w′ : List ℕ} (x : Exact (runCall bs (lent t e w)) a (lent t′ e′ w′)) where
-  answer-of : {called : Called RunAnswer Areas} → runCall bs (lent t e w) ≡ called → a ≡ called .answer
+-- a run by the fixed table, which gives what was read of the file
+module _ (bs t e w : List ℕ) {a : RunAnswer} {t′ e′ w′ : List ℕ} (x : Exact (fixedRunCall bs (lent t e w)) a (lent t′ e′ w′)) where
+  answer-of : {called : Called RunAnswer Areas} → fixedRunCall bs (lent t e w) ≡ called → a ≡ called .answer
   answer-of q = x .answer ∙ ap (λ (z : Called RunAnswer Areas). z .answer) q
 
-  trace-of : {called : Called RunAnswer Areas} → runCall bs (lent t e w) ≡ called → t′ ≡ called .areas .trace
+  trace-of : {called : Called RunAnswer Areas} → fixedRunCall bs (lent t e w) ≡ called → t′ ≡ called .areas .trace
   trace-of q = ap (λ (z : Areas). z .trace) (x .areas) ∙ ap (λ (z : Called RunAnswer Areas). z .areas .trace) q
 
   module _ (he : limit + tableSize ≤ length e) (hw : workingWords ≤ length w) {n : ℕ} (k : n ≡ instructionCount (parse bs)) where
     shown-refused : (r : Refusal) → parse bs ≡ rejected r → Shown n (room t) (rejected r) a t t′
     unfolding listingOf traceAfter
     shown-refused r p =
-        let q = run-rejected bs (lent t e w) r p in
+        let q = fixed-rejected bs (lent t e w) r p in
         record { traced = trace-of q; lines = rw (answer-of q) (printed-refused n r t′) }
 
     shown-run : (job : Job) → parse bs ≡ accepted job → Shown n (room t) (accepted job) a t t′
@@ -73,7 +83,7 @@ module _ (bs t e w : List ℕ) {a : RunAnswer} {t′ e′ w′ : List ℕ} (x : 
         let R = mispredictingRun job (room t) in
         let s = init-most (passed bs job p) in
         let l = enough job (lent t e w) hw (omega arith) in
-        let q = call-runs (record { job = job; parsed = p; enough = l }) in
+        let q = fixed-runs bs (lent t e w) job p l in
         let m : n ≡ endPlace (job .code) = k ∙ ap instructionCount p in
         record { traced = trace-of q; lines = rw (answer-of q, trace-of q, ← m) (printed-report n job R t) }
 

@@ -1,4 +1,4 @@
-// A run printed whole, from any bytes as a job to the bytes of its lines. The caller lends a trace area and an area for the lines;
+// A run printed whole, from any bytes as a job to the bytes of its lines, by a table of eight ones. The caller lends a trace area and an area for the lines;
 // the end area and the working area are this crate's own, long enough for every job. Nothing has to be tested beforehand.
 use job::JobOutcome;
 use location::LocationSet;
@@ -37,7 +37,8 @@ pub fn print_run(job: &[u8], trace: &mut [u64], out: &mut [u8]) -> usize
     let mut end = [0u64; END];
     let mut work = [0u64; work::WORDS];
     let n = instruction_count(job);
-    let answer = checker::run(job, &mut trace[..], &mut end, &mut work);
+    let costs = window_costs::fixed();
+    let answer = checker::run(job, &costs, &mut trace[..], &mut end, &mut work);
     listing::write_answer(n, answer, &trace[..], &mut out[..])
 }
 

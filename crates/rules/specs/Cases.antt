@@ -6,6 +6,7 @@ pub mod Refusals
 pub mod TestLoads
 pub mod Outside
 pub mod Firsts
+pub mod Costs
 pub mod Operators
 pub mod Sets
 pub mod Texts

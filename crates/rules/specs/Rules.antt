@@ -7,11 +7,12 @@ pub mod Firsts
 pub mod Outside
 pub mod Plain
 pub mod Mispredicting
-pub mod Changes
 pub mod Loop
 pub mod Runs
+pub mod Changes
 pub mod Answers
 pub mod JobFile
+pub mod Costs
 pub mod Calls
 pub mod Pairs
 pub mod Strike

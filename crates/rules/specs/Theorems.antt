@@ -16,6 +16,7 @@ pub mod Secrecy
 pub mod PlainSecrecy
 pub mod Readers
 pub mod JobLaws
+pub mod Costs
 pub mod FileBounds
 pub mod Tables
 pub mod CallLaws

@@ -55,6 +55,7 @@ pub enum Refusal {
     Text,
     Output,
     Seed,
+    Costs,
 }
 
 // The numbers of a job file's trailer: the offsets of the state and of the public list, the counts of instructions and

@@ -15,6 +15,14 @@ pub const MAX_BUDGET: usize = 1000000;
 // Of addresses outside the image at which a store is remembered.
 pub const MAX_ENTRIES: usize = 64;
 
+// Of the kinds of instruction, each of which has an entry in a table of window costs.
+pub const KINDS: usize = 8;
+
+// Of an entry of such a table.
+pub const MIN_COST: u8 = 1;
+
+pub const MAX_COST: u8 = 16;
+
 // The registers, without the cells.
 pub const REGISTERS_SIZE: usize = 128;
 

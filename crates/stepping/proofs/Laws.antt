@@ -4,21 +4,22 @@ use mathlib.Core.Path.{_≡_, refl, sym, ap, _∙_, subst}
 use mathlib.Core.List.{List, [], _∷_}
 use Prim.Native.Nat.{ℕ, zero, suc, _+_, _-_, _*_, _<_, _≤_}
 use native.Mathlib.Omega.{arith}
-use lib.ListN.{length}
+use lib.ListN.{length, getD, drop}
 use lib.Seq.{sets}
 use Rattle.location.specs.declared.LocationSet.{LocationSet}
 use Rattle.location.specs.Sets.{union}
-use Rattle.rules.specs.Rules.Instructions.{Instr, windowCosts}
+use Rattle.rules.specs.Rules.Instructions.{Instr, kind}
 use Rattle.rules.specs.Rules.Plain.{State, Code}
 use Rattle.rules.specs.Rules.Mispredicting.{Branch, remaining, lower, newWindow}
 use Rattle.rules.specs.Rules.Runs.{gather}
 use Rattle.rules.specs.Rules.Changes.{Change}
-use Rattle.rules.specs.Theorems.Undo.{remaining-less, windowCosts-positive}
+use Rattle.rules.specs.Theorems.Undo.{PositiveCosts, remaining-less}
 use Rattle.instruction.specs.declared.Instruction.{Instruction}
 use Rattle.instruction.specs.Meaning.{meaning}
 use Rattle.work.specs.declared.OpenBranch.{OpenBranch}
 use Rattle.work.specs.declared.machine.Control.{Control}
-use Rattle.work.specs.Words.{branchAt, changeAt, windowAt}
+use Rattle.work.specs.Layout.{labels}
+use Rattle.work.specs.Words.{branchAt, changeAt, windowAt, costsIn}
 use Rattle.work.specs.Machines.{stateIn, branchesOf, branches-length, machineOf, Left}
 use Rattle.work.specs.Moves.{lowerTo, windowOn}
 use Rattle.work.proofs.Moves.{at-above}
@@ -78,35 +79,40 @@ window-lowered code i e g σ v k zero = refl
 window-lowered code i e g σ v k (suc d) = refl
 
 -- what is left is less, if there was any
-pub left-less : (code : Code) → code .costs ≡ windowCosts → (i : Instr) (v : ℕ) → 0 < v → remaining code i v < v
-left-less code costs i v h = omega (arith, remaining-less code (rw costs windowCosts-positive) i v (λ z. omega arith))
+pub left-less : (code : Code) → PositiveCosts (code .costs) → (i : Instr) (v : ℕ) → 0 < v → remaining code i v < v
+left-less code positive i v h = omega (arith, remaining-less code positive i v (λ z. omega arith))
 
 -- with d branches open
 at-less : (d u v : ℕ) → 0 < d → v < u → windowAt d u v < u
 at-less zero u v d h = absurd (omega arith)
 at-less (suc n) u v d h = h
 
-pub left-some : (code : Code) → code .costs ≡ windowCosts → (i : Instr) (c : Control) → 0 < c .window → Left c (leftBy code i c)
-left-some code costs i c h = record {
-  less = λ d. at-less (c .depth) (c .window) (remaining code i (c .window)) d (left-less code costs i (c .window) h);
+pub left-some : (code : Code) → PositiveCosts (code .costs) → (i : Instr) (c : Control) → 0 < c .window → Left c (leftBy code i c)
+left-some code positive i c h = record {
+  less = λ d. at-less (c .depth) (c .window) (remaining code i (c .window)) d (left-less code positive i (c .window) h);
   some = λ z. subst (λ (d : ℕ). 0 < windowAt d (c .window) (remaining code i (c .window))) (sym z) h;
 }
 
 -- what the code finds, with nothing open and else
-pub leaves : (c : Control) (i : Instruction) (v : ℕ)
-    → ((p : List ℕ) (code : Code) → code .costs ≡ windowCosts → v ≡ leftBy code (meaning p i) c) → Leaves c i v
-leaves c i v exact = record {
+pub leaves : (w : List ℕ) (c : Control) (i : Instruction) (v : ℕ)
+    → ((p : List ℕ) (code : Code) → code .costs ≡ costsIn (drop labels w) → v ≡ leftBy code (meaning p i) c) → Leaves w c i v
+leaves w c i v exact = record {
   exact = exact;
-  left = λ h.
-      let any : Code = record { prog = []; cells = 0; window = 0; costs = windowCosts } in
-      subst (Left c) (sym (exact [] any refl)) (left-some any refl (meaning [] i) c h);
+  left = λ positive h.
+      let any : Code = record { prog = []; cells = 0; window = 0; costs = costsIn (drop labels w) } in
+      subst (Left c) (sym (exact [] any refl)) (left-some any positive (meaning [] i) c h);
 }
 
-pub closed-leaves : (c : Control) (i : Instruction) → c .depth ≡ 0 → Leaves c i (c .window)
-closed-leaves c i z =
-    leaves c i (c .window) (λ p code costs. ap (λ (d : ℕ). windowAt d (c .window) (remaining code (meaning p i) (c .window))) (sym z))
+pub closed-leaves : (w : List ℕ) (c : Control) (i : Instruction) → c .depth ≡ 0 → Leaves w c i (c .window)
+closed-leaves w c i z =
+    leaves w c i (c .window) (λ p code costs. ap (λ (d : ℕ). windowAt d (c .window) (remaining code (meaning p i) (c .window))) (sym z))
 
-pub open-leaves : (c : Control) (i : Instruction) (v : ℕ) → (c .depth ≡ 0 → ⊥)
-    → ((p : List ℕ) (code : Code) → code .costs ≡ windowCosts → v ≡ remaining code (meaning p i) (c .window)) → Leaves c i v
-open-leaves c i v o e =
-    leaves c i v (λ p code costs. e p code costs ∙ at-above (c .depth) (c .window) (remaining code (meaning p i) (c .window)) o)
+-- k is the kind that the code finds, and x its entry
+pub open-leaves : (w : List ℕ) (c : Control) (i : Instruction) (v k x : ℕ) → (c .depth ≡ 0 → ⊥)
+    → ((p : List ℕ) → k ≡ kind (meaning p i)) → x ≡ getD (costsIn (drop labels w)) k 0
+    → ((p : List ℕ) (code : Code) → x ≡ getD (code .costs) (kind (meaning p i)) 0 → v ≡ remaining code (meaning p i) (c .window))
+    → Leaves w c i v
+open-leaves w c i v k x o ek ex e =
+    leaves w c i v
+    (λ p code costs.
+    e p code (ex ∙ (λ j. getD (sym costs j) (ek p j) 0)) ∙ at-above (c .depth) (c .window) (remaining code (meaning p i) (c .window)) o)

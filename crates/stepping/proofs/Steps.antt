@@ -13,7 +13,7 @@ use Rattle.location.specs.declared.Label.{Label}
 use Rattle.location.specs.Sets.{registers, limit, empty, union}
 use Rattle.rules.specs.declared.Tagged.{Tagged}
 use Rattle.rules.specs.Rules.Calls.{observationWords, traceWords}
-use Rattle.rules.specs.Rules.Instructions.{Instr, beqz, Observation, pc, stored, windowCosts}
+use Rattle.rules.specs.Rules.Instructions.{Instr, beqz, Observation, pc, stored}
 use Rattle.rules.specs.Rules.Firsts.{ObservedSet}
 use Rattle.rules.specs.Rules.Outside.{remember, overfull}
 use Rattle.rules.specs.Rules.Plain.{State, at, put, withOutside, Code, loadedFrom, storedTo, storeOverfull, branchTo}
@@ -26,8 +26,8 @@ use Rattle.instruction.specs.declared.Instruction.the-variants.{BranchZero}
 use Rattle.instruction.specs.Meaning.{meaning}
 use Rattle.work.specs.declared.machine.Control.{Control}
 use Rattle.work.specs.declared.machine.RolledBack.{RolledBack}
-use Rattle.work.specs.Layout.{reports}
-use Rattle.work.specs.Words.{taggedAt, branchAt, changeAt}
+use Rattle.work.specs.Layout.{reports, labels}
+use Rattle.work.specs.Words.{taggedAt, branchAt, changeAt, costsIn}
 use Rattle.work.specs.Machines.{tableIn, stateIn, machineOf, Fit}
 use Rattle.work.specs.Moves.{lowerTo, windowOn, ordinaryNext, gone, openingNext, Moves, RollsBack}
 use Rattle.work.proofs.States.{state-at}
@@ -116,7 +116,7 @@ module _ (w : List ℕ) (c : Control) (n v : ℕ) (i : Instr) (code : Code) (lef
 pub opened : {w w′ t t′ : List ℕ} {c c′ : Progress} {r window wrong target v : ℕ} {l : Label} {x : Tagged} {control : Control} → r < registers
     → Moves w w′ (c .control) control (λ M. openingNext M wrong target window v) → x ≡ taggedAt w r
     → target ≡ branchTo x (l .0) (c .control .place + 1) → wrong ≡ branchTo x (c .control .place + 1) (l .0)
-    → Leaves (c .control) (BranchZero r l) v
+    → Leaves w (c .control) (BranchZero r l) v
     → t′ ≡ sets t (2 * c .observations) (0 ∷ c .control .opened ∷ 2 ∷ wrong ∷ []) → c′ ≡ progressAfter c control 2 (x .deps)
     → OpenedTo r (l .0) window (standing w t c) (standing w′ t′ c′)
 unfolding opening traceWords
@@ -175,9 +175,9 @@ module _ {n : ℕ} {w w′ t t′ : List ℕ} {c c′ : Progress} (i : Instructi
       (et ∙ ap (sets t (2 * c .observations)) (eo ∙ sym (append-nil (observationWords o)))) ec
 
 -- ---- rule 3 for an instruction that gives location l the word x
-module _ {w w′ t t′ : List ℕ} {c c′ : Progress} {i : Instruction} {v : ℕ} {control : Control} (l : ℕ) (x : Tagged) (leaves : Leaves (c .control) i v)
+module _ {w w′ t t′ : List ℕ} {c c′ : Progress} {i : Instruction} {v : ℕ} {control : Control} (l : ℕ) (x : Tagged) (leaves : Leaves w (c .control) i v)
     (m : Moves w w′ (c .control) control (λ M. ordinaryNext M (put (M .state) l x) (c .control .place + 1) v)) (n : ℕ) (most : n ≤ limit)
-    (p : List ℕ) (code : Code) (costs : code .costs ≡ windowCosts) where
+    (p : List ℕ) (code : Code) (costs : code .costs ≡ costsIn (drop labels w)) where
   pub assigned : (r : ℕ) {s : LocationSet} → l ≡ r → t′ ≡ t → s ≡ empty → c′ ≡ progressAfter c control 0 s
       → Made n (stepWith code (machineOf w (c .control) n) (meaning p i) (silent (put (stateIn w n) r x) (c .control .place))) (standing w t c)
       (standing w′ t′ c′)
@@ -197,31 +197,33 @@ module _ {w w′ t t′ : List ℕ} {c c′ : Progress} {i : Instruction} {v : �
 
 -- ---- rule 3 for an instruction that changes no location
 -- from what the callees give
-pub kept : {c c′ : Progress} {i : Instruction} {q k v : ℕ} {control : Control} {s s′ : LocationSet} → Leaves (c .control) i v
-    → control ≡ gone (c .control) q v → s′ ≡ s → c′ ≡ progressAfter c control k s′ → StateKept q k s i c c′
-kept {c} {c′} {i} {q} {k} left eg es ec = record {
+pub kept : {w : List ℕ} {c c′ : Progress} {i : Instruction} {q k v : ℕ} {control : Control} {s s′ : LocationSet} → Leaves w (c .control) i v
+    → control ≡ gone (c .control) q v → s′ ≡ s → c′ ≡ progressAfter c control k s′ → StateKept w q k s i c c′
+kept {w} {c} {c′} {i} {q} {k} left eg es ec = record {
   exact = λ p code costs.
       let L = left .exact p code costs in
       ec ∙ (λ j. progressAfter c ((eg ∙ (λ u. gone (c .control) q (L u))) j) k (es j));
 }
 
 module _ {w t : List ℕ} {c c′ : Progress} {i : Instruction} {cells : ℕ} (live : Unexpired w c) (most : registers + cells ≤ limit) where
-  pub kept-silently : StateKept (c .control .place + 1) 0 empty i c c′
+  pub kept-silently : StateKept w (c .control .place + 1) 0 empty i c c′
       → CarriedOut cells i (λ code σ. silent σ (c .control .place)) (standing w t c) (standing w t c′)
   kept-silently h = record {
     made = λ p code ec costs.
         let v = leftBy code (meaning p i) (c .control) in
-        let m = go-law w (c .control) (c .control .place + 1) v (live .fits) (left-some code costs (meaning p i) (c .control) (live .window)) in
+        let left = left-some code (rw costs (live .costs)) (meaning p i) (c .control) (live .window) in
+        let m = go-law w (c .control) (c .control .place + 1) v (live .fits) left in
         carried-silently i (m .machine (registers + cells) most) (m .fits) (m .frame) p code refl refl refl refl (h .exact p code costs);
   }
 
-  pub kept-shown : {t′ : List ℕ} (q : ℕ) (x : Tagged) → StateKept q 1 (x .deps) i c c′ → t′ ≡ sets t (2 * c .observations) (traceWords (pc q ∷ []))
+  pub kept-shown : {t′ : List ℕ} (q : ℕ) (x : Tagged) → StateKept w q 1 (x .deps) i c c′ → t′ ≡ sets t (2 * c .observations) (traceWords (pc q ∷ []))
       → CarriedOut cells i (λ code σ. goEffect σ q x) (standing w t c) (standing w t′ c′)
   kept-shown q x h et = record {
     made = λ p code ec costs.
         let n = registers + cells in
         let v = leftBy code (meaning p i) (c .control) in
-        let m = go-law w (c .control) q v (live .fits) (left-some code costs (meaning p i) (c .control) (live .window)) in
+        let left = left-some code (rw costs (live .costs)) (meaning p i) (c .control) (live .window) in
+        let m = go-law w (c .control) q v (live .fits) left in
         carried i (m .machine n most) (m .fits) (m .frame) p code refl (goEffect (stateIn w n) q x) refl refl et (h .exact p code costs);
   }
 
@@ -241,7 +243,7 @@ load-carried {w} {w′} {t} {t′} {c} {c′} {i} {cells} r a v same h = record 
 
 -- ---- rule 3 for a store to a cell: it is made; l is the cell's location, and y the word that is stored
 module _ {w w′ t t′ : List ℕ} {c c′ : Progress} {i : Instruction} {cells v : ℕ} {a : Tagged} {control : Control} (r l : ℕ) (y : Tagged) where
-  pub store-in-cell : Leaves (c .control) i v → Moves w w′ (c .control) control (λ M. ordinaryNext M (put (M .state) l y) (c .control .place + 1) v)
+  pub store-in-cell : Leaves w (c .control) i v → Moves w w′ (c .control) control (λ M. ordinaryNext M (put (M .state) l y) (c .control .place + 1) v)
       → a .value < cells → registers + cells ≤ limit
       → ((code : Code) → code .cells ≡ cells
       → put (stateIn w (registers + cells)) l y ≡ storedTo code (stateIn w (registers + cells)) a (at (stateIn w (registers + cells)) r))
@@ -294,7 +296,7 @@ not-made false h e = true≢false (sym e)
 pub tried-there : {w w′ : List ℕ} {c : Control} {x : Stored} {k b v : ℕ} {y : Tagged} → k ≡ b → StoreTried w w′ c x k y v → StoreTried w w′ c x b y v
 tried-there {w} {w′} {c} {x} {v = v} {y = y} e = subst (λ (j : ℕ). StoreTried w w′ c x j y v) e
 
-module _ {w w′ t : List ℕ} {c : Progress} {i : Instruction} {v : ℕ} {a y : Tagged} {x : Stored} (leaves : Leaves (c .control) i v)
+module _ {w w′ t : List ℕ} {c : Progress} {i : Instruction} {v : ℕ} {a y : Tagged} {x : Stored} (leaves : Leaves w (c .control) i v)
     (word : StoreTried w w′ (c .control) x (a .value) y v) (cells : ℕ) (most : registers + cells ≤ limit) where
   pub store-made : {t′ : List ℕ} {c′ : Progress} → not (x .made) ≡ false → t′ ≡ sets t (2 * c .observations) (observationWords (stored (a .value)))
       → c′ ≡ progressAfter c (x .control) 1 (a .deps)

@@ -10,7 +10,7 @@ use Rattle.location.specs.declared.LocationSet.{LocationSet}
 use Rattle.location.specs.Sets.{registers, limit}
 use Rattle.rules.specs.declared.Tagged.{Tagged}
 use Rattle.rules.specs.Rules.Limits.{maxBudget}
-use Rattle.rules.specs.Rules.Instructions.{Instr, Observation, loaded, stored, windowCosts}
+use Rattle.rules.specs.Rules.Instructions.{Instr, Observation, loaded, stored}
 use Rattle.rules.specs.Rules.Firsts.{ObservedSet}
 use Rattle.rules.specs.Rules.Outside.{remember, overfull}
 use Rattle.rules.specs.Rules.Plain.{State, Code}
@@ -18,9 +18,10 @@ use Rattle.rules.specs.Rules.Plain as plain
 use Rattle.rules.specs.Rules.Mispredicting.{Branch, Step, remaining, rolling, opening, stepWith}
 use Rattle.rules.specs.Rules.Runs.{observedSet, note}
 use Rattle.rules.specs.Rules.Calls.{traceWords}
+use Rattle.rules.specs.Theorems.Undo.{PositiveCosts}
 use Rattle.work.specs.declared.machine.Control.{Control}
-use Rattle.work.specs.Layout.{reports}
-use Rattle.work.specs.Words.{windowAt}
+use Rattle.work.specs.Layout.{reports, labels}
+use Rattle.work.specs.Words.{windowAt, costsIn}
 use Rattle.work.specs.Machines.{stateIn, Fit, Left}
 use Rattle.work.specs.Moves.{gone}
 use Rattle.instruction.specs.declared.Instruction.{Instruction}
@@ -61,18 +62,18 @@ pub record RolledBackTo (x y : Standing) : Type 0 where
 
 -- rule 2 for beqz r, l, in a program whose window is so much
 pub record OpenedTo (r l window : ℕ) (x y : Standing) : Type 0 where
-  pub made : (n : ℕ) (code : Code) → registers ≤ n → n ≤ limit → code .window ≡ window → code .costs ≡ windowCosts
+  pub made : (n : ℕ) (code : Code) → registers ≤ n → n ≤ limit → code .window ≡ window → code .costs ≡ costsIn (drop labels (x .work))
       → Made n (opening code (machineAt x n) r l) x y
 
 -- Rule 3 for instruction i, with the effect that a rule gives in the state of so many cells.
 pub record CarriedOut (cells : ℕ) (i : Instruction) (rule : Code → State → plain.Effect) (x y : Standing) : Type 0 where
-  pub made : (p : List ℕ) (code : Code) → code .cells ≡ cells → code .costs ≡ windowCosts
+  pub made : (p : List ℕ) (code : Code) → code .cells ≡ cells → code .costs ≡ costsIn (drop labels (x .work))
       → Made (registers + cells)
       (stepWith code (machineAt x (registers + cells)) (meaning p i) (rule code (stateIn (x .work) (registers + cells)))) x y
 
 -- The same for an instruction that may need one address too many.
 pub record TriedOut (cells : ℕ) (i : Instruction) (rule : Code → State → plain.Effect) (x y : Standing) : Type 0 where
-  pub tried : (p : List ℕ) (code : Code) → code .cells ≡ cells → code .costs ≡ windowCosts
+  pub tried : (p : List ℕ) (code : Code) → code .cells ≡ cells → code .costs ≡ costsIn (drop labels (x .work))
       → Attempted (registers + cells)
       (stepWith code (machineAt x (registers + cells)) (meaning p i) (rule code (stateIn (x .work) (registers + cells)))) x y
 
@@ -100,14 +101,16 @@ outsideEffect σ p a v = record {
 abbrev pub leftBy : Code → Instr → Control → ℕ
 leftBy code i c = windowAt (c .depth) (c .window) (remaining code i (c .window))
 
--- The progress after an instruction that changes no location and goes to a place, with so many observations, which rest on s.
-pub record StateKept (place observations : ℕ) (s : LocationSet) (i : Instruction) (c c′ : Progress) : Type 0 where
-  pub exact : (p : List ℕ) (code : Code) → code .costs ≡ windowCosts
+-- The progress after an instruction that changes no location and goes to a place, with so many observations, which rest on s, by the window
+-- costs of the words w.
+pub record StateKept (w : List ℕ) (place observations : ℕ) (s : LocationSet) (i : Instruction) (c c′ : Progress) : Type 0 where
+  pub exact : (p : List ℕ) (code : Code) → code .costs ≡ costsIn (drop labels w)
       → c′ ≡ progressAfter c (gone (c .control) place (leftBy code (meaning p i) (c .control))) observations s
 
--- The words fit, and there is some window left: rule 1 is not for the window's sake the next.
+-- The words fit, each kind of instruction costs 1 at least, and there is some window left: rule 1 is not for the window's sake the next.
 pub record Unexpired (w : List ℕ) (c : Progress) : Type 0 where
   pub fits : Fit w (c .control)
+  pub costs : PositiveCosts (costsIn (drop labels w))
   pub window : 0 < c .control .window
 
 -- What a step of rule 2 or 3 asks that makes so many observations: some window left, room for them, and counts that do not wrap.
@@ -117,7 +120,8 @@ pub record Steppable (observations : ℕ) (x : Standing) : Type 0 where
   pub place : x .progress .control .place + 1 < 2 ^ 64
   pub steps : x .progress .steps + 1 < 2 ^ 64
 
--- What instruction i leaves of the window: with a branch open less than there was, and with none not 0, if there was any.
-pub record Leaves (c : Control) (i : Instruction) (v : ℕ) : Type 0 where
-  pub exact : (p : List ℕ) (code : Code) → code .costs ≡ windowCosts → v ≡ leftBy code (meaning p i) c
-  pub left : 0 < c .window → Left c v
+-- What instruction i leaves of the window, by the window costs of the words w: where each kind costs 1 at least, with a branch open less than
+-- there was, and with none not 0, if there was any.
+pub record Leaves (w : List ℕ) (c : Control) (i : Instruction) (v : ℕ) : Type 0 where
+  pub exact : (p : List ℕ) (code : Code) → code .costs ≡ costsIn (drop labels w) → v ≡ leftBy code (meaning p i) c
+  pub left : PositiveCosts (costsIn (drop labels w)) → 0 < c .window → Left c v

@@ -18,7 +18,7 @@ ghost use Prim.Native.Nat.{ℕ, _+_, _*_, _^_, _<_, _≤_};
 ghost use lib.ListN.{length};
 ghost use lib.Seq.{sets};
 ghost use Rattle.location.specs.Sets.{registers, limit, empty};
-ghost use Rattle.rules.specs.Rules.Calls.{traceWords};
+ghost use Rattle.rules.specs.Rules.Calls.{traceWords, workingWords};
 ghost use Rattle.rules.specs.Rules.Instructions.{pcKind, pc};
 ghost use Rattle.rules.specs.Rules.Plain.{put, silent, loadEffect, storeEffect, goEffect};
 ghost use Rattle.work.specs.Words.{taggedAt};
@@ -111,14 +111,17 @@ pub fn roll_back(work: &mut [u64], trace: &mut [u64], c: Progress) -> Progress
     count_step(c, next, 2, LocationSet::empty())
 }
 
-// What an instruction leaves of the top's window. With nothing open the window is kept, so that it is 0 for rule 1 alone.
-fn remaining_window(c: Control, i: Instruction) -> usize
-    ensures { λ r. ⌜ Leaves c i r ⌝ }
+// What an instruction leaves of the top's window, by its kind's entry in the table of window costs. With nothing open the window is kept, so
+// that it is 0 for rule 1 alone.
+fn remaining_window(work: &[u64], c: Control, i: Instruction) -> usize
+    requires { ⌜ workingWords ≤ length (now work) ⌝ }
+    ensures { λ r. ⌜ Leaves (now (work .entry)) c i r ⌝ }
 {
     if c.depth == 0 {
         return c.window;
     }
-    instruction::lowered(c.window as u64, i) as usize
+    let cost = work::cost_of(work, instruction::kind(i));
+    instruction::lowered(cost, c.window as u64, i) as usize
 }
 
 // Rule 2 for beqz r, l, with its observations; t is what the register holds, and w is the window of a branch that is opened with none
@@ -140,7 +143,7 @@ pub fn open_branch(
     let next = control.place + 1;
     let target = evaluation::branch_to(t, l, next);
     let wrong = evaluation::branch_to(t, Label::new(next), l.index());
-    let remaining = remaining_window(control, Instruction::BranchZero(r, l));
+    let remaining = remaining_window(&work[..], control, Instruction::BranchZero(r, l));
     let opened = work::machine::open_branch(&mut work[..], control, wrong, target, w, remaining);
     observe_branch(&mut trace[..], c.observations, START, control.opened, wrong);
     let seen = t.deps;
@@ -148,14 +151,14 @@ pub fn open_branch(
 }
 
 // Rule 3 for an instruction that changes no location and shows nothing.
-pub fn skip(c: Progress, i: Instruction) -> Progress
-    requires { ⌜ (c .control .place + 1 < 2 ^ 64) × (c .steps + 1 < 2 ^ 64) ⌝ }
-    ensures exact { λ x. ⌜ StateKept (c .control .place + 1) 0 empty i c x ⌝ }
-    ensures carried { λ x. ⌜ ((w t : List ℕ) (cells : ℕ) → Unexpired w c → registers + cells ≤ limit
-        → CarriedOut cells i (λ code σ. silent σ (c .control .place)) (standing w t c) (standing w t x)) ⌝ }
+pub fn skip(work: &[u64], c: Progress, i: Instruction) -> Progress
+    requires { ⌜ (workingWords ≤ length (now work)) × (c .control .place + 1 < 2 ^ 64) × (c .steps + 1 < 2 ^ 64) ⌝ }
+    ensures exact { λ x. ⌜ StateKept (now (work .entry)) (c .control .place + 1) 0 empty i c x ⌝ }
+    ensures carried { λ x. ⌜ ((t : List ℕ) (cells : ℕ) → Unexpired (now (work .entry)) c → registers + cells ≤ limit
+        → CarriedOut cells i (λ code σ. silent σ (c .control .place)) (standing (now (work .entry)) t c) (standing (now (work .entry)) t x)) ⌝ }
 {
     let control = c.control;
-    let remaining = remaining_window(control, i);
+    let remaining = remaining_window(work, control, i);
     let next = work::machine::go(control, control.place + 1, remaining);
     count_step(c, next, 0, LocationSet::empty())
 }
@@ -167,7 +170,7 @@ pub fn assign(work: &mut [u64], c: Progress, i: Instruction, r: u8, v: Tagged) -
         → CarriedOut cells i (λ code σ. silent (put σ r v) (c .control .place)) (standing (now (work .entry)) t c) (standing (now (work .exit)) t x)) ⌝ }
 {
     let control = c.control;
-    let remaining = remaining_window(control, i);
+    let remaining = remaining_window(&work[..], control, i);
     let l = Location::register(r);
     let place = control.place + 1;
     let next = work::machine::assign(&mut work[..], control, l, v, place, remaining);
@@ -190,7 +193,7 @@ fn load_word(
 {
     let control = c.control;
     let seen = a.deps;
-    let remaining = remaining_window(control, i);
+    let remaining = remaining_window(&work[..], control, i);
     observe(&mut trace[..], c.observations, LOAD, a.value);
     let to = Location::register(r);
     let place = control.place + 1;
@@ -235,7 +238,7 @@ fn store_outside(
 {
     let control = c.control;
     let address_set = a.deps;
-    let remaining = remaining_window(control, i);
+    let remaining = remaining_window(&work[..], control, i);
     let next = outside::store(&mut work[..], control, Address::new(a.value), v, remaining);
     if !next.made {
         return c;
@@ -265,7 +268,7 @@ pub fn store(
     if cells as u64 <= value {
         return store_outside(&mut work[..], &mut trace[..], c, i, a, v);
     }
-    let remaining = remaining_window(control, i);
+    let remaining = remaining_window(&work[..], control, i);
     observe(&mut trace[..], c.observations, STORE, value);
     let cell = Location::cell(Address::new(value));
     let place = control.place + 1;
@@ -274,15 +277,23 @@ pub fn store(
 }
 
 // Rule 3 for a jump or a branch to a place, which rests on v.
-pub fn go_to(trace: &mut [u64], c: Progress, i: Instruction, place: usize, v: Tagged) -> Progress
-    requires { ⌜ (2 * (c .observations + 1) ≤ length (now trace)) × (c .steps + 1 < 2 ^ 64) ⌝ }
-    ensures exact { λ x. ⌜ StateKept place 1 (v .deps) i c x
+pub fn go_to(
+    work: &[u64],
+    trace: &mut [u64],
+    c: Progress,
+    i: Instruction,
+    place: usize,
+    v: Tagged,
+) -> Progress
+    requires { ⌜ (workingWords ≤ length (now work)) × (2 * (c .observations + 1) ≤ length (now trace)) × (c .steps + 1 < 2 ^ 64) ⌝ }
+    ensures exact { λ x. ⌜ StateKept (now (work .entry)) place 1 (v .deps) i c x
         × (now (trace .exit) ≡ sets (now (trace .entry)) (2 * c .observations) (traceWords (pc place ∷ []))) ⌝ }
-    ensures carried { λ x. ⌜ ((w : List ℕ) (cells : ℕ) → Unexpired w c → registers + cells ≤ limit
-        → CarriedOut cells i (λ code σ. goEffect σ place v) (standing w (now (trace .entry)) c) (standing w (now (trace .exit)) x)) ⌝ }
+    ensures carried { λ x. ⌜ ((cells : ℕ) → Unexpired (now (work .entry)) c → registers + cells ≤ limit
+        → CarriedOut cells i (λ code σ. goEffect σ place v)
+        (standing (now (work .entry)) (now (trace .entry)) c) (standing (now (work .entry)) (now (trace .exit)) x)) ⌝ }
 {
     let control = c.control;
-    let remaining = remaining_window(control, i);
+    let remaining = remaining_window(work, control, i);
     let next = work::machine::go(control, place, remaining);
     observe(&mut trace[..], c.observations, PC, place as u64);
     let seen = v.deps;

@@ -18,7 +18,8 @@ use Rattle.rules.specs.declared.Refusal.the-variants as refusals
 use Rattle.rules.specs.declared.TestLoadAnswer.the-variants as answers
 use Rattle.rules.specs.Rules.Operators.{apply2, xor, shl, shr}
 use Rattle.rules.specs.Rules.Runs.{Job, Result, mispredictingRun, isFinished}
-use Rattle.rules.specs.Rules.JobFile.{little, locations, wordsAt}
+use Rattle.rules.specs.Rules.JobFile.{accepted, parse, little, locations, wordsAt}
+use Rattle.rules.specs.Rules.Costs.{costsFit, withCosts, tabled}
 use Rattle.rules.specs.Rules.Encoding.{bytesOf, wordBytes, Bytes}
 use Rattle.rules.specs.Rules.Calls.{room, workingWords, written, counts}
 use Rattle.rules.specs.Rules.Pairs.{pairLent, pairAfter, pairFits, pairAccepted}
@@ -26,6 +27,7 @@ use Rattle.rules.specs.Rules.TestLoads.{nextWord, newWords, newState, TestLoadA
 use Rattle.rules.specs.Rules.TestLoads.{stateFits, testLoadParsed, testLoadCall}
 use Rattle.rules.specs.Rules.Demands.{Exact}
 use Rattle.rules.specs.Theorems.JobLaws.{length-wordsAt}
+use Rattle.rules.specs.Theorems.Costs.{tabled-accepted, tabled-refused}
 use Rattle.rules.specs.Theorems.EncodedWords.{length-wordBytes}
 use Rattle.rules.specs.Theorems.NewStates.{length-newWords, read-new}
 use Rattle.rules.specs.Theorems.TestLoads.{TestLoads, test-load-unfinished, test-load-finished}
@@ -128,8 +130,8 @@ module _ {bs : List ℕ} (t : Trailer) (all : Bytes bs) (kept : LocationSet) (se
   second-read : wordsAt (locations t) (take (8 * n - 0) (drop 0 s′)) 0 ≡ newWords kept 0 seed (wordsAt (locations t) bs (t .state))
   second-read = rw (← en) (ap (λ (p : List ℕ). wordsAt n p 0) (part-bytes vs s es size) ∙ read-new kept seed n bs (t .state) all lt)
 
-  pub new-state-ran : {k : ℕ} {b w b′ w′ : List ℕ} {r : SecondRun} → SecondRan bs t (take (8 * n - 0) (drop 0 s′)) k b w b′ w′ r
-      → NewStateRan bs (newWords kept 0 seed (wordsAt (locations t) bs (t .state))) k b w s b′ w′ s′ r
+  pub new-state-ran : {costs : List ℕ} {k : ℕ} {b w b′ w′ : List ℕ} {r : SecondRun} → SecondRan bs t (take (8 * n - 0) (drop 0 s′)) costs k b w b′ w′ r
+      → NewStateRan bs costs (newWords kept 0 seed (wordsAt (locations t) bs (t .state))) k b w s b′ w′ s′ r
   new-state-ran x = record {
     ran = λ job p. rw second-read at (x .ran job p);
     work = x .work;
@@ -137,92 +139,103 @@ module _ {bs : List ℕ} (t : Trailer) (all : Bytes bs) (kept : LocationSet) (se
   }
 
 -- ---- the call, where nothing is refused
-module _ {bs : List ℕ} {t : Trailer} {public : LocationSet} {a b w s : List ℕ} {seed : ℕ} (q : Loadable bs t public a b w s) (positive : 0 < seed)
-  where
-    abbrev accepts : Accepts bs t
-    accepts = q .ready .accepts
+module _ {bs : List ℕ} {t : Trailer} {public : LocationSet} {costs a b w s : List ℕ} {seed : ℕ} (q : Loadable bs t public costs a b w s)
+    (positive : 0 < seed) where
+  abbrev accepts : Accepts bs t
+  accepts = q .ready .accepts
 
-    abbrev job : Job
-    job = accepts .job
+  -- the job with its table
+  abbrev job : Job
+  job = withCosts (accepts .job) costs
 
-    -- the lent areas
-    abbrev areas : TestLoadAreas
-    areas = testLoadLent a b w s
+  -- the lent areas
+  abbrev areas : TestLoadAreas
+  areas = testLoadLent a b w s
 
-    loads : TestLoads bs seed areas
-    unfolding stateFits
-    loads = record {
-      job = job;
-      parsed = accepts .parsed;
-      enough = areas-enough a b w (q .ready .work) (q .ready .traces);
-      seeded = ne-eqb seed 0 (λ e. omega arith);
-      fits = le-leb (8 * length (job .init)) (length s) (let z = accepted-size accepts in let f = q .state in omega arith);
-    }
+  loads : TestLoads bs seed costs areas
+  unfolding stateFits
+  loads = record {
+    read = accepts .job;
+    parsed = accepts .parsed;
+    table = q .ready .fits;
+    enough = areas-enough a b w (q .ready .work) (q .ready .traces);
+    seeded = ne-eqb seed 0 (λ e. omega arith);
+    fits = le-leb (8 * length (job .init)) (length s) (let z = accepted-size accepts in let f = q .state in omega arith);
+  }
 
-    -- the job's own run
-    module _ {w₁ a′ : List ℕ} {r : Ran} (o : RunOf bs t modes.Mispredicting bs (t .state) w w₁ a a′ r) where
-      abbrev own : Result
-      own = mispredictingRun job (room a)
+  -- the job's own run
+  module _ {w₁ a′ : List ℕ} {r : Ran} (o : RunOf bs t modes.Mispredicting costs bs (t .state) w w₁ a a′ r) where
+    abbrev own : Result
+    own = mispredictingRun job (room a)
 
-      ends : EndsAs t a w₁ a′ r own
-      ends = own-run accepts modes.Mispredicting o job (accepts .parsed)
+    ends : EndsAs t a w₁ a′ r own
+    ends = own-run accepts modes.Mispredicting o (accepts .job) (accepts .parsed)
 
-      own-stop : r .counts .stop ≡ own .stop
-      unfolding counts
-      own-stop = ap (λ (c : Counts). c .stop) (ends .reports .counts)
+    own-stop : r .counts .stop ≡ own .stop
+    unfolding counts
+    own-stop = ap (λ (c : Counts). c .stop) (ends .reports .counts)
 
-      pub exact-unfinished : {w₂ : List ℕ} {f : Bool} → f ≡ isFinished (r .counts .stop) → f ≡ false
-          → w₂ ≡ written (replicate workingWords 0) w₁
-          → Exact (testLoadCall bs seed areas) (answers.Undecided (r .counts)) (testLoadLent a′ b w₂ s)
-      unfolding ownRunAlone loads
-      exact-unfinished ef e ew =
-          let u : isFinished (own .stop) ≡ false = ap isFinished (sym own-stop) ∙ sym ef ∙ e in
-          rw (test-load-unfinished loads u)
-          (record {
-            answer = ap answers.Undecided (ends .reports .counts);
-            areas = λ i. testLoadLent (ends .trace i) b ((ew ∙ cleared-same workingWords w₁ w (o .past)) i) s;
-          })
+    pub exact-unfinished : {w₂ : List ℕ} {f : Bool} → f ≡ isFinished (r .counts .stop) → f ≡ false
+        → w₂ ≡ written (replicate workingWords 0) w₁
+        → Exact (testLoadCall bs seed costs areas) (answers.Undecided (r .counts)) (testLoadLent a′ b w₂ s)
+    unfolding ownRunAlone loads
+    exact-unfinished ef e ew =
+        let u : isFinished (own .stop) ≡ false = ap isFinished (sym own-stop) ∙ sym ef ∙ e in
+        rw (test-load-unfinished loads u)
+        (record {
+          answer = ap answers.Undecided (ends .reports .counts);
+          areas = λ i. testLoadLent (ends .trace i) b ((ew ∙ cleared-same workingWords w₁ w (o .past)) i) s;
+        })
 
-      -- the words of the new state are the rules'
-      same-state : newWords (union public (r .plain)) 0 seed (wordsAt (locations t) bs (t .state)) ≡ newState job own seed
-      unfolding newState
-      same-state = λ i. newWords (union ((q .ready .listed ∙ accepted-public accepts) i) (ends .reports .plain i)) 0 seed (accepted-init accepts i)
+    -- the words of the new state are the rules'
+    same-state : newWords (union public (r .plain)) 0 seed (wordsAt (locations t) bs (t .state)) ≡ newState job own seed
+    unfolding newState
+    same-state = λ i. newWords (union ((q .ready .listed ∙ accepted-public accepts) i) (ends .reports .plain i)) 0 seed (accepted-init accepts i)
 
-      pub exact-made : {b′ w₂ s′ : List ℕ} {x : SecondRun} {f : Bool} → f ≡ isFinished (r .counts .stop) → f ≡ true
-          → NewStateRan bs (newWords (union public (r .plain)) 0 seed (wordsAt (locations t) bs (t .state))) (room a′) b w₁ s b′ w₂ s′ x
-          → Exact (testLoadCall bs seed areas) (answers.Compared (x .word) (r .counts) (x .counts)) (testLoadLent a′ b′ w₂ s′)
-      unfolding newStateRun pairAccepted pairAfter loads
-      exact-made {b′} {w₂} {s′} {x} ef e n =
-          let u : isFinished (own .stop) ≡ true = ap isFinished (sym own-stop) ∙ sym ef ∙ e in
-          let y : SecondOf job (newState job own seed) (room a) b b′ x = rw (same-state, same-room job ends) at (n .ran job (accepts .parsed)) in
-          let st : s′ ≡ written (wordBytes (newState job own seed)) s = rw same-state at (n .state) in
-          rw (test-load-finished loads u)
-          (record {
-            answer = λ i. answers.Compared (y .word i) (ends .reports .counts i) (y .counts i);
-            areas = λ i. testLoadLent (ends .trace i) (y .trace i) ((n .work ∙ cleared-same workingWords w₁ w (o .past)) i) (st i);
-          })
+    pub exact-made : {b′ w₂ s′ : List ℕ} {x : SecondRun} {f : Bool} → f ≡ isFinished (r .counts .stop) → f ≡ true
+        → NewStateRan bs costs (newWords (union public (r .plain)) 0 seed (wordsAt (locations t) bs (t .state))) (room a′) b w₁ s b′ w₂ s′ x
+        → Exact (testLoadCall bs seed costs areas) (answers.Compared (x .word) (r .counts) (x .counts)) (testLoadLent a′ b′ w₂ s′)
+    unfolding newStateRun pairAccepted pairAfter loads
+    exact-made {b′} {w₂} {s′} {x} ef e n =
+        let u : isFinished (own .stop) ≡ true = ap isFinished (sym own-stop) ∙ sym ef ∙ e in
+        let y : SecondOf job (newState job own seed) (room a) b b′ x = rw (same-state, same-room job ends) at (n .ran (accepts .job) (accepts .parsed)) in
+        let st : s′ ≡ written (wordBytes (newState job own seed)) s = rw same-state at (n .state) in
+        rw (test-load-finished loads u)
+        (record {
+          answer = λ i. answers.Compared (y .word i) (ends .reports .counts i) (y .counts i);
+          areas = λ i. testLoadLent (ends .trace i) (y .trace i) ((n .work ∙ cleared-same workingWords w₁ w (o .past)) i) (st i);
+        })
 
 -- ---- refusals, in their order
-module _ {bs : List ℕ} {t : Trailer} (k : Accepts bs t) (seed : ℕ) (a b w s : List ℕ) where
+module _ {bs : List ℕ} {t : Trailer} (k : Accepts bs t) (seed : ℕ) (costs a b w s : List ℕ) where
   abbrev lent : TestLoadAreas
   lent = testLoadLent a b w s
 
-  refused : (n : Refusal) → testLoadCall bs seed lent ≡ testLoadRefused n lent → Exact (testLoadCall bs seed lent) (answers.Refused n) lent
+  refused : (n : Refusal) → testLoadCall bs seed costs lent ≡ testLoadRefused n lent → Exact (testLoadCall bs seed costs lent) (answers.Refused n) lent
   unfolding testLoadRefused
   refused n e = rw e (record { answer = refl; areas = refl })
 
-  pub unfit : pairFits (pairLent a b w) ≡ false → Exact (testLoadCall bs seed lent) (answers.Refused refusals.Areas) lent
+  pub no-table : costsFit costs ≡ false → Exact (testLoadCall bs seed costs lent) (answers.Refused refusals.Costs) lent
   unfolding testLoadCall testLoadParsed
-  unfit h = refused refusals.Areas (rw (k .parsed, h, testLoadParsed))
+  no-table c = refused refusals.Costs (rw (tabled-refused bs costs (k .job) (k .parsed) c, testLoadParsed))
 
-  module _ (fit : pairFits (pairLent a b w) ≡ true) where
-    pub no-seed : seed ≡ 0 → Exact (testLoadCall bs seed lent) (answers.Refused refusals.Seed) lent
+  module _ (table : costsFit costs ≡ true) where
+    -- the job with its table
+    tabled-job : tabled (parse bs) costs ≡ accepted (withCosts (k .job) costs)
+    tabled-job = tabled-accepted bs costs (k .job) (k .parsed) table
+
+    pub unfit : pairFits (pairLent a b w) ≡ false → Exact (testLoadCall bs seed costs lent) (answers.Refused refusals.Areas) lent
     unfolding testLoadCall testLoadParsed
-    no-seed z = refused refusals.Seed (rw (k .parsed, fit, eq-eqb seed 0 z, testLoadParsed))
+    unfit h = refused refusals.Areas (rw (tabled-job, h, testLoadParsed))
 
-    pub short-state : (seed ≡ 0 → ⊥) → length s < 8 * locations t → Exact (testLoadCall bs seed lent) (answers.Refused refusals.Output) lent
-    unfolding testLoadCall testLoadParsed stateFits
-    short-state n l =
-        let z = accepted-size k in
-        let f : stateFits (k .job) lent ≡ false = lt-leb (8 * length (k .job .init)) (length s) (omega arith) in
-        refused refusals.Output (rw (k .parsed, fit, ne-eqb seed 0 n, f, testLoadParsed))
+    module _ (fit : pairFits (pairLent a b w) ≡ true) where
+      pub no-seed : seed ≡ 0 → Exact (testLoadCall bs seed costs lent) (answers.Refused refusals.Seed) lent
+      unfolding testLoadCall testLoadParsed
+      no-seed z = refused refusals.Seed (rw (tabled-job, fit, eq-eqb seed 0 z, testLoadParsed))
+
+      pub short-state : (seed ≡ 0 → ⊥) → length s < 8 * locations t → Exact (testLoadCall bs seed costs lent) (answers.Refused refusals.Output) lent
+      unfolding testLoadCall testLoadParsed stateFits
+      short-state n l =
+          let z = accepted-size k in
+          let f : stateFits (withCosts (k .job) costs) lent ≡ false = lt-leb (8 * length (k .job .init)) (length s) (omega arith) in
+          refused refusals.Output (rw (tabled-job, fit, ne-eqb seed 0 n, f, testLoadParsed))

@@ -1,6 +1,5 @@
 // A test load of an accepted job: a new state from a seed, and the check of the pair on it. The job's own run is made once: it is the
 // first run of the pair, and its plain set says which words the new state keeps.
-use execution::Mode;
 use location::Location;
 use location::LocationSet;
 use pair::SecondRun;
@@ -75,6 +74,7 @@ fn run_new_state(
     t: Trailer,
     public: LocationSet,
     seed: u64,
+    costs: &[u8],
     plain: LocationSet,
     c: Counts,
     first_trace: &[u64],
@@ -82,9 +82,10 @@ fn run_new_state(
     work: &mut [u64],
     state: &mut [u8],
 ) -> SecondRun
-    requires { ⌜ Loadable (now job) t public (now «first_trace») (now «second_trace») (now work) (now state)
-        × OwnRan (now job) c (now «first_trace») ⌝ }
-    ensures { λ r. ⌜ NewStateRan (now (job .entry)) (newWords (union public plain) 0 seed (wordsAt (locations t) (now (job .entry)) (t .state)))
+    requires { ⌜ Loadable (now job) t public (now costs) (now «first_trace») (now «second_trace») (now work) (now state)
+        × OwnRan (now job) (now costs) c (now «first_trace») ⌝ }
+    ensures { λ r. ⌜ NewStateRan (now (job .entry)) (now (costs .entry))
+        (newWords (union public plain) 0 seed (wordsAt (locations t) (now (job .entry)) (t .state)))
         (room (now («first_trace» .entry))) (now («second_trace» .entry)) (now (work .entry)) (now (state .entry))
         (now («second_trace» .exit)) (now (work .exit)) (now (state .exit)) r ⌝ }
 {
@@ -97,6 +98,7 @@ fn run_new_state(
         t,
         public,
         &state[0..size],
+        costs,
         c,
         first_trace,
         &mut second_trace[..],
@@ -110,17 +112,17 @@ fn run_load(
     t: Trailer,
     public: LocationSet,
     seed: u64,
+    costs: &[u8],
     first_trace: &mut [u64],
     second_trace: &mut [u64],
     work: &mut [u64],
     state: &mut [u8],
 ) -> TestLoadAnswer
-    requires { ⌜ Loadable (now job) t public (now «first_trace») (now «second_trace») (now work) (now state) × (0 < seed) ⌝ }
-    ensures { λ r. ⌜ Exact (testLoadCall (now (job .entry)) seed (testLoadAtEntry «first_trace» «second_trace» work state)) r
+    requires { ⌜ Loadable (now job) t public (now costs) (now «first_trace») (now «second_trace») (now work) (now state) × (0 < seed) ⌝ }
+    ensures { λ r. ⌜ Exact (testLoadCall (now (job .entry)) seed (now (costs .entry)) (testLoadAtEntry «first_trace» «second_trace» work state)) r
         (testLoadAtExit «first_trace» «second_trace» work state) ⌝ }
 {
-    let m = Mode::Mispredicting;
-    let r = job_run::run_state(job, t, m, job, t.state, &mut work[..], &mut first_trace[..]);
+    let r = pair::run_own(job, t, costs, &mut work[..], &mut first_trace[..]);
     let c = r.counts;
     let plain = r.plain;
     let stop = c.stop;
@@ -133,6 +135,7 @@ fn run_load(
         t,
         public,
         seed,
+        costs,
         plain,
         c,
         &first_trace[..],
@@ -145,23 +148,27 @@ fn run_load(
     TestLoadAnswer::Compared(word, c, d)
 }
 
-// The test load of an accepted job: too short or unequal areas, then a seed of 0, then too few bytes for the new state are refused
-// before anything is written.
+// The test load of an accepted job: a table that is none, then too short or unequal areas, then a seed of 0, then too few bytes for the new
+// state are refused before anything is written.
 pub fn test_accepted(
     job: &[u8],
     t: Trailer,
     public: LocationSet,
     seed: u64,
+    costs: &[u8],
     first_trace: &mut [u64],
     second_trace: &mut [u64],
     work: &mut [u64],
     state: &mut [u8],
 ) -> TestLoadAnswer
     requires { ⌜ Accepts (now job) t × (public ≡ publicOf t (now job)) ⌝ }
-    ensures { λ r. ⌜ Exact (testLoadCall (now (job .entry)) seed (testLoadAtEntry «first_trace» «second_trace» work state)) r
+    ensures { λ r. ⌜ Exact (testLoadCall (now (job .entry)) seed (now (costs .entry)) (testLoadAtEntry «first_trace» «second_trace» work state)) r
         (testLoadAtExit «first_trace» «second_trace» work state) ⌝ }
 {
     let n = t.locations();
+    if !window_costs::costs_fit(costs) {
+        return TestLoadAnswer::Refused(Refusal::Costs);
+    }
     let fit = pair::areas_fit(&first_trace[..], &second_trace[..], &work[..]);
     if !fit {
         return TestLoadAnswer::Refused(Refusal::Areas);
@@ -177,6 +184,7 @@ pub fn test_accepted(
         t,
         public,
         seed,
+        costs,
         &mut first_trace[..],
         &mut second_trace[..],
         &mut work[..],

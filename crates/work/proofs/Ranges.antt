@@ -27,7 +27,7 @@ after-sets : (vs w : List ℕ) (i j : ℕ) → i + length vs ≤ j → getD (set
 after-sets [] w i j h = refl
 after-sets (a ∷ vs) w i j h = after-sets vs (set w i a) (suc i) j (omega arith) ∙ getD-set-other w i j a 0 (omega arith)
 
-in-sets : (vs w : List ℕ) (i j : ℕ) → j < length vs → i + length vs ≤ length w → getD (sets w i vs) (i + j) 0 ≡ getD vs j 0
+pub in-sets : (vs w : List ℕ) (i j : ℕ) → j < length vs → i + length vs ≤ length w → getD (sets w i vs) (i + j) 0 ≡ getD vs j 0
 in-sets [] w i j h f = absurd (omega arith)
 in-sets (a ∷ vs) w i zero h f =
     rw (add-zero i) (before-sets vs (set w i a) (suc i) i (le-refl (suc i)) ∙ getD-set-same w i a 0 (omega arith))

@@ -2,7 +2,7 @@
 -- Assumes nothing.
 use Prim.Native.Nat.{ℕ, _+_, _-_, _*_}
 use Rattle.location.specs.Sets.{limit}
-use Rattle.rules.specs.Rules.Limits.{maxEntries}
+use Rattle.rules.specs.Rules.Limits.{maxInstructions, maxEntries}
 
 -- words 0 to 1604: operands of 5 words, each the four words of a set, then the value. Operands 0 to 255 are those of the locations, the
 -- 64 after them those of the entries of the table outside the image. The value of the one after them is how many entries there are, so that
@@ -47,9 +47,16 @@ reports = 2886
 abbrev pub reportBase : ℕ → ℕ
 reportBase l = reports + l
 
--- words 3576 to 4087: the word of each of 512 labels; words 1669 to 1679, 3142 to 3575 and 4088 to 4095 are free
+-- words 3576 to 4087: the word of each of 512 labels; words 1669 to 1679 and 3142 to 3575 are free
 abbrev pub labels : ℕ
 labels = 3576
 
 abbrev pub labelBase : ℕ → ℕ
 labelBase i = labels + i
+
+-- words 4088 to 4095, behind those of the labels: the window cost of each kind of instruction, by the kind's number
+abbrev pub costPlace : ℕ
+costPlace = maxInstructions
+
+abbrev pub costBase : ℕ
+costBase = labels + costPlace

@@ -5,16 +5,16 @@ use mathlib.Core.Bool.{cond}
 use mathlib.Core.List.{List, [], _∷_}
 use Prim.Native.Nat.{ℕ, zero, suc, _+_, _-_, min}
 use lib.Dec.{ltb}
-use lib.ListN.{getD, set}
+use lib.ListN.{getD, set, take, drop}
 use lib.Seq.{sets}
 use Rattle.location.specs.declared.LocationSet.{LocationSet}
 use Rattle.location.specs.Sets.{limit}
 use Rattle.rules.specs.declared.Tagged.{Tagged}
-use Rattle.rules.specs.Rules.Limits.{maxEntries}
+use Rattle.rules.specs.Rules.Limits.{kinds, maxEntries}
 use Rattle.rules.specs.Rules.Plain.{Entry}
 use Rattle.rules.specs.Rules.Changes.{Change, located, replaced, added}
 use Rattle.work.specs.declared.OpenBranch.{OpenBranch}
-use Rattle.work.specs.Layout.{operandBase, valuePlace, operands, entryCount, addressBase, changeBase, branchBase}
+use Rattle.work.specs.Layout.{operandBase, valuePlace, operands, entryCount, addressBase, changeBase, branchBase, costPlace}
 
 -- ---- an operand: the four words of its set, then its value
 abbrev pub setIn : List ℕ → ℕ → LocationSet
@@ -100,3 +100,7 @@ branchStored w k b = sets w (branchBase k) (b .id ∷ b .target ∷ b .outer ∷
 abbrev pub windowAt : ℕ → ℕ → ℕ → ℕ
 windowAt zero w v = w
 windowAt (suc d) w v = v
+
+-- ---- the table of window costs, in the words ws from the labels on
+unfoldable pub costsIn : List ℕ → List ℕ
+costsIn ws = take kinds (drop costPlace ws)

@@ -1,21 +1,25 @@
 // The state of a run in the working words that the caller lends: an operand for each location, the table of stores outside the image, the
-// log of changes, the open branches, the words of the reports and the table of labels. specs/Layout.antt has the layout of the constants below for the proofs.
+// log of changes, the open branches, the words of the reports, the table of labels and the window costs. specs/Layout.antt has the layout of
+// the constants below for the proofs.
 pub mod machine;
 
 use location::Location;
 use location::LocationSet;
 use rules::Tagged;
 use rules::limits::MAX_ENTRIES;
+use rules::limits::MAX_INSTRUCTIONS;
 ghost use mathlib.Core.Path.{_≡_};
 ghost use Prim.Native.Nat.{ℕ, _+_, _-_, _*_, _<_, _≤_};
-ghost use lib.ListN.{length, set, replicate};
+ghost use lib.ListN.{length, getD, drop, set, replicate};
+ghost use lib.Seq.{sets};
 ghost use Rattle.location.specs.Sets.{limit, single};
 ghost use Rattle.rules.specs.Rules.Expressions.{tagged};
-ghost use Rattle.rules.specs.Rules.Limits.{maxEntries};
+ghost use Rattle.rules.specs.Rules.Limits.{kinds, maxEntries};
 ghost use Rattle.rules.specs.Rules.Calls.{written, workingWords};
 ghost use Rattle.work.specs.Layout.{operandBase, operands, entryCount, addressBase, logBase, changeBase, firstBranch, branchBase};
+ghost use Rattle.work.specs.Layout.{labels, costBase};
 ghost use Rattle.work.specs.Words.{setIn, taggedIn, storedIn, setAt, taggedAt, stored, countIn, entryAt, appended};
-ghost use Rattle.work.specs.Words.{numberAt, operandLogged, changed, extended, undone, branchAt, branchStored};
+ghost use Rattle.work.specs.Words.{numberAt, operandLogged, changed, extended, undone, branchAt, branchStored, costsIn};
 
 // Operand k stands from OPERAND * k on: the words of the set, then the value. With the set first a load reads the same pairs of words as the
 // store before it wrote. Location l has operand l, entry i of the table outside the image operand LocationSet::LIMIT + i.
@@ -40,6 +44,8 @@ pub const BRANCH: usize = 4;
 pub const REPORTS: usize = 2886;
 // Label i has the word of its instruction, as the crate `descriptor` makes it, at LABELS + i.
 pub const LABELS: usize = 3576;
+// Kind k of instruction has its window cost at COSTS + k, behind the words of the labels.
+pub const COSTS: usize = LABELS + MAX_INSTRUCTIONS;
 // How many words there are; specs/Layout.antt says which of them are free.
 pub const WORDS: usize = 4096;
 
@@ -246,6 +252,33 @@ pub fn push_branch(work: &mut [u64], k: usize, b: OpenBranch)
     work[at + 1] = b.target as u64;
     work[at + 2] = b.outer as u64;
     work[at + 3] = b.mark as u64;
+}
+
+// The window cost of a kind of instruction.
+pub fn cost_of(work: &[u64], kind: usize) -> u64
+    requires { ⌜ (kind < kinds) × (costBase + kind < length (now work)) ⌝ }
+    ensures { λ r. ⌜ r ≡ getD (costsIn (drop labels (now (work .entry)))) kind 0 ⌝ }
+{
+    work[COSTS + kind]
+}
+
+// A byte as a word: apart, so that the loop below asks for the index alone.
+fn wide(b: u8) -> u64
+    ensures { λ r. ⌜ r ≡ b ⌝ }
+{
+    b as u64
+}
+
+// The window costs become those of a table, a byte each.
+pub fn store_costs(work: &mut [u64], costs: &[u8])
+    requires { ⌜ costBase + length (now costs) ≤ length (now work) ⌝ }
+    ensures { λ _. ⌜ now (work .exit) ≡ sets (now (work .entry)) costBase (now (costs .entry)) ⌝ }
+{
+    let mut k = 0;
+    while k < costs.len() {
+        work[COSTS + k] = wide(costs[k]);
+        k += 1;
+    }
 }
 
 // The working words become 0.

@@ -4,7 +4,7 @@
 use std::io::Write;
 use std::process::ExitCode;
 
-use check_box_reference::{compare, listing, listing_in};
+use check_box_reference::{compare, listing, listing_in, WINDOW_COSTS};
 
 /// The numbers of a job that the cases change; cell 1 holds 1, r0 and r1 are public, all other words are 0.
 #[derive(Clone, Copy)]
@@ -76,7 +76,7 @@ fn pair() -> Vec<u8> {
     let second: Vec<u8> = second.iter().flat_map(|word| word.to_le_bytes()).collect();
     let (mut first_trace, mut second_trace, mut work) = ([0; 1024], [0; 1024], [0; 4096]);
     let job = job(&printed_program(), PRINTED);
-    match compare(&job, &second, &mut first_trace, &mut second_trace, &mut work) {
+    match compare(&job, &second, &WINDOW_COSTS, &mut first_trace, &mut second_trace, &mut work) {
         Ok(answer) => format!("{}\n", answer.word.word()).into_bytes(),
         Err(number) => format!("refused {number}\n").into_bytes(),
     }

@@ -4,7 +4,9 @@
 pub mod random;
 pub mod xorshift;
 
-use check_box_reference::{compare, plain_run, run, PairAnswer, PlainAnswer, RunAnswer};
+use check_box_reference::{
+    compare, plain_run, run, PairAnswer, PlainAnswer, RunAnswer, WINDOW_COSTS,
+};
 
 pub const WORK: usize = 4_096;
 
@@ -231,14 +233,20 @@ fn end_parts(after: &[u64], locations: usize) -> (Vec<u64>, Vec<(u64, u64)>) {
     (image.to_vec(), pairs(entries))
 }
 
-/// The mispredicting run in a trace area of that many words; other areas are longer than needed.
-pub fn run_in(parts: &JobParts, trace_words: usize) -> Ran<RunAnswer> {
+/// The mispredicting run with a table of window costs in a trace area of that many words;
+/// other areas are longer than needed.
+pub fn run_under(parts: &JobParts, costs: &[u8], trace_words: usize) -> Ran<RunAnswer> {
     let (mut trace, mut end, mut work) = (area(trace_words), area(400), area(WORK + 5));
-    let answer = run(&parts.bytes(), &mut trace, &mut end, &mut work).expect("accepted");
+    let answer = run(&parts.bytes(), costs, &mut trace, &mut end, &mut work).expect("accepted");
     assert_eq!(written(&work, WORK), vec![0; WORK]);
     let (end, outside) = end_parts(&end, 16 + parts.cells.len());
     let trace = pairs(&written(&trace, 2 * answer.observations as usize));
     Ran { answer, trace, end, outside }
+}
+
+/// The same with eight ones.
+pub fn run_in(parts: &JobParts, trace_words: usize) -> Ran<RunAnswer> {
+    run_under(parts, &WINDOW_COSTS, trace_words)
 }
 
 pub fn run_of(parts: &JobParts) -> Ran<RunAnswer> {
@@ -259,27 +267,38 @@ pub fn plain_of(parts: &JobParts) -> Ran<PlainAnswer> {
     plain_in(parts, 1_024)
 }
 
-/// The pair of a job and the state of another, with both traces.
-pub fn pair_of(
+/// The pair of a job and the state of another with a table of window costs, with both traces.
+pub fn pair_under(
     parts: &JobParts,
     second: &JobParts,
+    costs: &[u8],
     trace_words: usize,
 ) -> (PairAnswer, Trace, Trace) {
     let (mut first_trace, mut second_trace) = (area(trace_words), area(trace_words));
     let mut work = area(WORK + 5);
     let state = second.state_bytes();
-    let answer = compare(&parts.bytes(), &state, &mut first_trace, &mut second_trace, &mut work)
-        .expect("accepted");
+    let answer =
+        compare(&parts.bytes(), &state, costs, &mut first_trace, &mut second_trace, &mut work)
+            .expect("accepted");
     assert_eq!(written(&work, WORK), vec![0; WORK]);
     let first = pairs(&written(&first_trace, 2 * answer.first.observations as usize));
     let second = pairs(&written(&second_trace, 2 * answer.second.observations as usize));
     (answer, first, second)
 }
 
+/// The same with eight ones.
+pub fn pair_of(
+    parts: &JobParts,
+    second: &JobParts,
+    trace_words: usize,
+) -> (PairAnswer, Trace, Trace) {
+    pair_under(parts, second, &WINDOW_COSTS, trace_words)
+}
+
 /// The refusal number of a run, with a check that no area changed; 0 if the job is accepted.
 pub fn refusal_of(bytes: &[u8]) -> u32 {
     let (mut trace, mut end, mut work) = (area(64), area(400), area(WORK));
-    match run(bytes, &mut trace, &mut end, &mut work) {
+    match run(bytes, &WINDOW_COSTS, &mut trace, &mut end, &mut work) {
         Ok(_) => 0,
         Err(number) => {
             assert_eq!((trace, end, work), (area(64), area(400), area(WORK)));

@@ -1,6 +1,6 @@
-//! Differential runs of the library against the reference, with demands 2 and 3 and the claims of requests F-3 and
-//! F-4 tried on the library. The options are those of `comparison`; with 100,000 jobs each stop, verdict, pair word,
-//! outcome of a test load, refusal, kind of observation and event of a store outside memory must occur.
+//! Differential runs of the library against the reference, with demands 2 and 3 and the claims of requests F-3, F-4, F-6
+//! and F-7 tried on the library. The options are those of `comparison`; with 100,000 jobs each stop, verdict, pair word,
+//! outcome of a test load, refusal, kind of table, kind of observation and event of a store outside memory must occur.
 
 use std::path::Path;
 use std::process::ExitCode;

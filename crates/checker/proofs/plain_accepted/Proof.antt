@@ -1,6 +1,7 @@
 -- `plain_accepted` meets its contract: too short an area is refused before anything is written, else the run is made. Assumes nothing.
 use native.Mathlib.Omega.{arith}
 use borrow.Author.Tests.{not-true, not-false}
+use Rattle.rules.specs.Theorems.Costs.{ones-fit}
 use Rattle.job_run.specs.Accepted.{accepted-limits}
 use Rattle.checker.proofs.Laws.{plain-short-areas, areas-fit, plain-ran}
 use borrow.Author.Needs.{needs}
@@ -24,13 +25,15 @@ returns c =
 
 run-in-areas-requires : tie.Need-run-in-areas-requires
 run-in-areas-requires c κs =
-    let at-if1 = c .before .before .before in
+    let at-fixed = c .before .before .before .before in
+    let at-if1 = at-fixed .before in
     let at-areas-fit = at-if1 .before in
     let at-locations = at-areas-fit .before .before .before in
     let at-start = at-locations .before .before .before .before .before in
     let a = at-start .args in
     areas-fit (at-start .pre) (a .trace .now) (a .end .now) (a .work .now)
     (rw (at-locations .locations .ensures) at (at-areas-fit .areas-fit .ensures)) (not-false _ (at-if1 .if1 .left))
+    (rw (at-fixed .fixed .ensures) ones-fit)
 
 clear-requires : tie.Need-clear-requires
 clear-requires c κs =
@@ -41,7 +44,7 @@ returns-2 : tie.Need-returns-2
 returns-2 c =
     let at-clear = c .before .before .before in
     let at-run-in-areas = at-clear .before .before .before .before .before .before .before .before in
-    let at-if1 = at-run-in-areas .before .before .before .before in
+    let at-if1 = at-run-in-areas .before .before .before .before .before .before in
     let at-areas-fit = at-if1 .before in
     let at-locations = at-areas-fit .before .before .before in
     let at-start = at-locations .before .before .before .before .before in
@@ -60,6 +63,8 @@ plain-accepted-spec =
     (λ c. search needs)
     (λ c. search needs)
     returns
+    (λ c κs. search needs)
+    (λ c. search needs)
     run-in-areas-requires
     clear-requires
     (λ c κs. search needs)

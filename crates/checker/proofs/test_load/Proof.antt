@@ -12,7 +12,7 @@ test-accepted-requires : tie.Need-test-accepted-requires
 test-accepted-requires c κs =
     let at-arm = c .before .before .before .before .before in
     let at-read = at-arm .before .before .before in
-    let at-start = at-read .before .before .before .before .before .before in
+    let at-start = at-read .before .before .before .before .before .before .before in
     let f = at-start .args .job .now in
     let e = at-read .read-job .ensures in
     let k = read-accepted f e (at-arm .outcome .given .1) in
@@ -22,25 +22,25 @@ returns : tie.Need-returns
 returns c =
     let at-call = c .before .before .before .before .before .before .before .before in
     let at-read = at-call .before .before .before .before .before .before .before .before .before in
-    let at-known = at-read .before .before .before .before .before in
+    let at-known = at-read .before .before .before .before .before .before in
     let at-start = at-known .before in
     let a = at-start .args in
     let l = testLoadLent (a .first-trace .now) (a .second-trace .now) (a .work .now) (a .state .now) in
-    test-load-promise (a .job .now) (a .seed) l (record { each = λ i. omega (arith, at-known .shared-slice-known .given i) })
+    test-load-promise (a .job .now) (a .seed) (a .costs .now) l (record { each = λ i. omega (arith, at-known .shared-slice-known .given i) })
     (omega (arith, at-start .fits)) (at-call .test-accepted .ensures)
 
 returns-2 : tie.Need-returns-2
 returns-2 c =
     let at-arm = c .before in
     let at-read = at-arm .before .before .before in
-    let at-known = at-read .before .before .before .before .before in
+    let at-known = at-read .before .before .before .before .before .before in
     let at-start = at-known .before in
     let a = at-start .args in
     let f = a .job .now in
     let l = testLoadLent (a .first-trace .now) (a .second-trace .now) (a .work .now) (a .state .now) in
     let p = read-refused f (at-read .read-job .ensures) (at-arm .outcome2 .given .1) in
-    test-load-promise f (a .seed) l (record { each = λ i. omega (arith, at-known .shared-slice-known .given i) }) (omega (arith, at-start .fits))
-    (test-load-rejected f (a .seed) _ p l)
+    test-load-promise f (a .seed) (a .costs .now) l (record { each = λ i. omega (arith, at-known .shared-slice-known .given i) })
+    (omega (arith, at-start .fits)) (test-load-rejected f (a .seed) (a .costs .now) _ p l)
 
 pub test-load-spec : {M : Type 1} → statement M
 test-load-spec =

@@ -7,7 +7,7 @@ use Rattle.pair.proofs.run_second.Tie as tie
 word-on-requires : tie.Need-word-on-requires
 word-on-requires c κs =
     let at-run-state = c .before .before .before .before .before .before .before .before .before .before in
-    let at-start = at-run-state .before .before .before .before .before .before .before .before in
+    let at-start = at-run-state .before .before .before .before .before .before .before .before .before in
     let k = at-start .pre in
     let o = at-run-state .run-state .ensures in
     record {
@@ -21,7 +21,7 @@ returns : tie.Need-returns
 returns c =
     let at-clear = c .before .before .before .before .before in
     let at-run-state = at-clear .before .before .before .before .before .before in
-    let at-start = at-run-state .before .before .before .before .before .before .before .before in
+    let at-start = at-run-state .before .before .before .before .before .before .before .before .before in
     let k = at-start .pre in second-ran (k .0) (k .1) (at-run-state .run-state .ensures) (at-clear .clear .ensures) (c .word-on .ensures)
 
 pub run-second-spec : {M : Type 1} → statement M

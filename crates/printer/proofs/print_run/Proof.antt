@@ -14,6 +14,9 @@ slice-aggregate-run c = search needs
 slice-aggregate-run-2 : tie.Need-slice-aggregate-run-2
 slice-aggregate-run-2 c = search needs
 
+slice-aggregate-run-3 : tie.Need-slice-aggregate-run-3
+slice-aggregate-run-3 c = search needs
+
 run-requires : tie.Need-run-requires
 run-requires c κs = search needs
 
@@ -30,9 +33,11 @@ returns : tie.Need-returns
 returns c =
     let w = c .before .before in
     let r = w .before .before .before .before .before .before .before in
-    let n = r .before .before .before .before in
-    let a = n .before .before .before .before .args in (
-      prints (a .job .now) (a .trace .now) _ _ (r .run .ensures .exact) (search needs) (search needs) (n .instruction-count .ensures) (w .write-answer .ensures),
+    let at-fixed = r .before .before .before .before .before in
+    let n = at-fixed .before in
+    let a = n .before .before .before .before .args in
+    let x = r .run .ensures .fixed (at-fixed .fixed .ensures) in (
+      prints (a .job .now) (a .trace .now) _ _ x (search needs) (search needs) (n .instruction-count .ensures) (w .write-answer .ensures),
       omega (arith, printed-bound _ _ _ (w .write-answer .ensures), same-length c),
     )
 
@@ -41,8 +46,10 @@ print-run-spec =
     tie.close
     (tie.spec
     instruction-count-requires
+    (λ c κs. search needs)
     slice-aggregate-run
     slice-aggregate-run-2
+    slice-aggregate-run-3
     run-requires
     write-answer-requires
     same-length

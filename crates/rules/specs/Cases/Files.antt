@@ -21,6 +21,7 @@ use Rattle.rules.specs.declared.Tagged.{Tagged}
 use Prim.Native.String.{String}
 use Rattle.rules.specs.Rules.Answers.{causeNumber, text}
 use Rattle.rules.specs.Rules.Expressions.{tagged}
+use Rattle.rules.specs.Rules.Instructions.{windowCosts}
 use Rattle.rules.specs.Rules.Firsts.{noReport}
 use Rattle.rules.specs.Rules.Plain.{Entry, at}
 use Rattle.rules.specs.Rules.Runs.{mispredictingRun, plainRun}
@@ -100,6 +101,7 @@ plainRan stop observations steps rests = record {
 }
 
 -- ---- rows
+-- A row that names no table of costs has eight ones.
 pub data Row : Type 0 where
   -- a run and a plain run: the job, the words of the trace area, the words written to its front, the answer
   run : List ℕ → ℕ → List ℕ → RunAnswer → Row
@@ -113,6 +115,12 @@ pub data Row : Type 0 where
   plainLeaves : List ℕ → Areas → PlainAnswer → Areas → Row
   pairLeaves : List ℕ → List ℕ → PairAreas → PairAnswer → PairAreas → Row
   testLeaves : List ℕ → ℕ → TestLoadAreas → TestLoadAnswer → TestLoadAreas → Row
+  -- a run by a table: the job, the table, the words of the trace area, the words written to its front, the answer
+  costed : List ℕ → List ℕ → ℕ → List ℕ → RunAnswer → Row
+  -- all areas before a run, a pair or a test load by a table, the answer, and all areas after it
+  costedLeaves : List ℕ → List ℕ → Areas → RunAnswer → Areas → Row
+  costedPair : List ℕ → List ℕ → List ℕ → PairAreas → PairAnswer → PairAreas → Row
+  costedLoad : List ℕ → ℕ → List ℕ → TestLoadAreas → TestLoadAnswer → TestLoadAreas → Row
   -- the word with its set at a location after a run
   holds : List ℕ → ℕ → Tagged → Row
   -- all areas before a run, the answer, and every word of the end area after it
@@ -179,31 +187,41 @@ plainTraces (accepted job) seed =
 -- each call is computed once
 unfoldable pub given : Row → Seen
 given (run job n trace answer) =
-    let c = runCall job (areas n) in
+    let c = runCall job windowCosts (areas n) in
     ranTo (unreported (c .answer)) (c .areas .trace)
 given (pair job second n trace trace′ answer) =
-    let c = pairCall job second (pairAreas n) in
+    let c = pairCall job second windowCosts (pairAreas n) in
     pairedTo (c .answer) (c .areas .first) (c .areas .second)
 given (prints job bytes) = printed (sameWords (listing job) bytes)
 given (plain job n trace answer) =
     let c = plainCall job (areas n) in
     plainTo (c .answer) (c .areas .trace)
 given (leaves job before answer after) =
-    let c = runCall job before in
+    let c = runCall job windowCosts before in
     left (unreported (c .answer)) (c .areas)
 given (plainLeaves job before answer after) =
     let c = plainCall job before in
     plainLeft (c .answer) (c .areas)
 given (pairLeaves job second before answer after) =
-    let c = pairCall job second before in
+    let c = pairCall job second windowCosts before in
     pairLeft (c .answer) (c .areas)
 given (ends job before answer after) =
-    let c = runCall job before in
+    let c = runCall job windowCosts before in
     endedAs (unreported (c .answer)) (sameWords (c .areas .end) after)
+given (costed job costs n trace answer) =
+    let c = runCall job costs (areas n) in
+    ranTo (unreported (c .answer)) (c .areas .trace)
+given (costedLeaves job costs before answer after) =
+    let c = runCall job costs before in
+    left (unreported (c .answer)) (c .areas)
+given (costedPair job second costs before answer after) =
+    let c = pairCall job second costs before in
+    pairLeft (c .answer) (c .areas)
+given (costedLoad job seed costs before answer after) = testLeft (testLoadCall job seed costs before)
 given (holds job l t) = word (lastAt (parse job) l)
 given (keeps job es) = table (lastTable (parse job))
-given (brings job n rs) = brought (sameWords (reportWords (runCall job (areas n) .answer .firsts)) (reportWords (reports rs)))
-given (testLeaves job seed before answer after) = testLeft (testLoadCall job seed before)
+given (brings job n rs) = brought (sameWords (reportWords (runCall job windowCosts (areas n) .answer .firsts)) (reportWords (reports rs)))
+given (testLeaves job seed before answer after) = testLeft (testLoadCall job seed windowCosts before)
 given (makes seed ws) = made (newWords empty 0 seed (zeros (length ws)))
 given (plainly job seed stop same) = plainTraces (parse job) seed
 
@@ -216,6 +234,10 @@ wanted (leaves job before answer after) = left (unreported answer) after
 wanted (plainLeaves job before answer after) = plainLeft answer after
 wanted (pairLeaves job second before answer after) = pairLeft answer after
 wanted (ends job before answer after) = endedAs (unreported answer) true
+wanted (costed job costs n trace answer) = ranTo (unreported answer) (front n trace)
+wanted (costedLeaves job costs before answer after) = left (unreported answer) after
+wanted (costedPair job second costs before answer after) = pairLeft answer after
+wanted (costedLoad job seed costs before answer after) = testLeft (record { answer = answer; areas = after })
 wanted (holds job l t) = word t
 wanted (keeps job es) = table es
 wanted (brings job n rs) = brought true

@@ -64,7 +64,7 @@ operations (op ∷ ops) = 2 ∷ 2 ∷ 3 ∷ 0 ∷ 1 ∷ op ∷ operations ops
 unfoldable pub shiftBy : ℕ → List ℕ
 shiftBy k = set (set (zeros 16) 0 5) 1 k
 
--- beqz r0 7; assign r1 r3; store r1 r1; conditional assign r1, if r1, r1; jmp 5; load r2 r3; load r2 r4
+-- beqz r0 7; assign r1 r1; store r1 r1; conditional assign r1, if r1, r1; jmp 5; load r2 r3; load r2 r4
 unfoldable pub costing : List ℕ
 costing =
     5 ∷ 0 ∷ 7 ∷ 0 ∷ 1 ∷ 1 ∷ 1 ∷ 1 ∷ 3 ∷ 1 ∷ 1 ∷ 1 ∷ 6 ∷ 1 ∷ 1 ∷ 1 ∷ 1 ∷ 1 ∷ 4 ∷ 1 ∷ 16 ∷ 5

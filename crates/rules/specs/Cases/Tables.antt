@@ -13,9 +13,10 @@ use Rattle.rules.specs.Rules.Loop.{ended, loop}
 use Rattle.rules.specs.Rules.Runs.{gather, observedSet, note, noteUnmade, overOn, over, fits, halt, run, first, blank, mispredictingRun, plainRun, judge, verdict}
 use Rattle.rules.specs.Rules.Answers.{text}
 use Rattle.rules.specs.Rules.JobFile.{little, wordOf, byte, register, unary, binary, constant, tokenOf, token, tokens, expr, withRegister, jump, branch, conditional, fields, instr, instruction, nothingLeft, program, trailerAt, trailer, sized, limits, offsets, wordsAt, stateOf, publicOf, noneFrom, listed, jobOf, programOf, finish, parse}
+use Rattle.rules.specs.Rules.Costs.{entriesFit, costsFit, tabled}
 use Rattle.rules.specs.Rules.Calls.{traceWords, room, padded, entryWords, tableWords, endWords, longEnough, written, areasAfter, counts}
 use Rattle.rules.specs.Rules.Calls.{runReport, runRefused, runParsed, runCall, plainReport, plainRefused, plainParsed, plainCall}
-use Rattle.rules.specs.Rules.Pairs.{withState, alikeFrom, sameWords, sameTrace, pairWord, pairAfter, pairRefused, secondFits, pairFits, pairAccepted, pairParsed, pairCall}
+use Rattle.rules.specs.Rules.Pairs.{withState, alikeFrom, sameWords, sameTrace, pairWord, pairAfter, pairRefused, secondFits, pairFits, pairAccepted, pairTabled, pairParsed, pairCall}
 use Rattle.rules.specs.Rules.TestLoads.{nextWord, newWords, newState, ownRunAlone, newStateRun, testLoadAccepted, testLoadRefused, stateFits}
 use Rattle.rules.specs.Rules.TestLoads.{testLoadParsed, testLoadCall}
 use Rattle.rules.specs.Rules.Listing.{digits, decimal, line, numberLine, kindWord, valueText, observationLine, traceLines, locationText, members, setLine, summary, firstLine, firstLines, answerLines, listingOf, listing}
@@ -31,6 +32,7 @@ use Rattle.rules.specs.Cases.Outside.{entry, spilled, replacing, firstSt
 use Rattle.rules.specs.Cases.Outside.{atTheEdge, edgeEnd, outsideAreas, countedFrom, summands, filling, fillingSeen, fillingShown}
 use Rattle.rules.specs.Cases.Outside.{fillingLines, registers, locations, overfilling, outsideFull}
 use Rattle.rules.specs.Cases.Firsts.{byTheBranch, eachStore, eachEighth, byTheStores, firsts}
+use Rattle.rules.specs.Cases.Costs.{heavy, light, following, kindRows, eachKind, nothingAfter, branchesAndBarriers, tableRefused, costsRefused}
 use Rattle.rules.specs.Cases.Refusals as refusal
 use Rattle.rules.specs.Cases.Refusals.{reads, numberOf, readNumbers, wantedNumbers, skips, offsetsAt, listBit, refusals}
 use Rattle.rules.specs.Cases.Operators.{computed, expected, high, all, boundaries}
@@ -67,6 +69,9 @@ pub record TablesHold : Type 0 where
   pub cases-of-outside-areas : allGiven outsideAreas ≡ allWanted outsideAreas
   pub cases-of-outside-full : allGiven outsideFull ≡ allWanted outsideFull
   pub cases-of-firsts : allGiven firsts ≡ allWanted firsts
+  pub cases-of-each-kind : allGiven eachKind ≡ allWanted eachKind
+  pub cases-of-branches-and-barriers : allGiven branchesAndBarriers ≡ allWanted branchesAndBarriers
+  pub cases-of-costs-refused : allGiven costsRefused ≡ allWanted costsRefused
   pub cases-of-refusals : readNumbers refusals ≡ wantedNumbers refusals
 
 -- every definition that the tables compute with: a proof that unfolds this unfolds them all
@@ -79,7 +84,7 @@ unfolding bit has none only either inside empty single union subset member after
     nothingLeft program trailerAt trailer sized limits offsets wordsAt stateOf publicOf noneFrom listed jobOf programOf finish
     parse traceWords room padded entryWords tableWords endWords longEnough written areasAfter counts runReport runRefused
     runParsed runCall plainReport plainRefused plainParsed plainCall withState alikeFrom sameWords sameTrace pairWord pairAfter
-    pairRefused secondFits pairFits pairAccepted pairParsed pairCall digits decimal line numberLine kindWord valueText
+    pairRefused secondFits pairFits pairAccepted pairTabled pairParsed pairCall entriesFit costsFit tabled digits decimal line numberLine kindWord valueText
     observationLine traceLines locationText members setLine summary firstLine firstLines answerLines listingOf listing bytesOf wordBytes trailerBytes
     file lines setOf ran unreported reports reportWords plainRan areas pairAreas front lastAt lastTable plainTraces given wanted allGiven allWanted
     printedProgram barrierProgram nestedProgram state public job wholeTrace r01 r01m1 listing01 document01 secretJob zero17 deep
@@ -89,6 +94,7 @@ unfolding bit has none only either inside empty single union subset member after
     chosenState leaking leaked longer plainFirst newStates unfinished turnedAway entry spilled replacing firstStored storedAgain
     storedInside ordered spilling outside atTheEdge edgeEnd outsideAreas countedFrom summands filling fillingSeen fillingShown
     fillingLines registers locations overfilling outsideFull byTheBranch eachStore eachEighth byTheStores firsts
+    heavy light following kindRows eachKind nothingAfter branchesAndBarriers tableRefused costsRefused
 computing = Unit {0}
 
 document01-hold : allGiven document01 ≡ allWanted document01
@@ -143,6 +149,18 @@ firsts-hold : allGiven firsts ≡ allWanted firsts
 unfolding computing
 firsts-hold = refl
 
+each-kind-hold : allGiven eachKind ≡ allWanted eachKind
+unfolding computing
+each-kind-hold = refl
+
+branches-and-barriers-hold : allGiven branchesAndBarriers ≡ allWanted branchesAndBarriers
+unfolding computing
+branches-and-barriers-hold = refl
+
+costs-refused-hold : allGiven costsRefused ≡ allWanted costsRefused
+unfolding computing
+costs-refused-hold = refl
+
 refusals-hold : readNumbers refusals ≡ wantedNumbers refusals
 unfolding computing
 refusals-hold = refl
@@ -162,5 +180,8 @@ tables-hold = record {
   cases-of-outside-areas = outside-areas-hold;
   cases-of-outside-full = outside-full-hold;
   cases-of-firsts = firsts-hold;
+  cases-of-each-kind = each-kind-hold;
+  cases-of-branches-and-barriers = branches-and-barriers-hold;
+  cases-of-costs-refused = costs-refused-hold;
   cases-of-refusals = refusals-hold;
 }

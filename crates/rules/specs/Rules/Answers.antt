@@ -92,6 +92,7 @@ refusalNumber refusals.Areas = 10
 refusalNumber refusals.Text = 11
 refusalNumber refusals.Output = 12
 refusalNumber refusals.Seed = 13
+refusalNumber refusals.Costs = 14
 
 -- the refusal number of a call's answer: 0 where the call was carried out
 abbrev pub runRefusal : RunAnswer → ℕ

@@ -19,6 +19,7 @@ use Rattle.rules.specs.Rules.Firsts.{firstsOf}
 use Rattle.rules.specs.Rules.Plain.{State, Entry, values}
 use Rattle.rules.specs.Rules.Runs.{Job, Result, mispredictingRun, plainRun, verdict}
 use Rattle.rules.specs.Rules.JobFile.{Parsed, accepted, rejected, parse}
+use Rattle.rules.specs.Rules.Costs.{tabled}
 
 -- "two an observation": its kind, "then the value"
 abbrev pub observationWords : Observation → List ℕ
@@ -118,8 +119,13 @@ runParsed (accepted job) a =
       | true ↦ record { answer = runReport job r; areas = areasAfter r a }
     ]
 
-unfoldable pub runCall : List ℕ → Areas → Called RunAnswer Areas
-runCall file a = runParsed (parse file) a
+-- document 01's call, by the fixed table
+unfoldable pub fixedRunCall : List ℕ → Areas → Called RunAnswer Areas
+fixedRunCall file a = runParsed (parse file) a
+
+-- F-7: "Every call with a mispredicting run takes one table"; 14 is "tested directly before 10"
+unfoldable pub runCall : List ℕ → List ℕ → Areas → Called RunAnswer Areas
+runCall file costs a = runParsed (tabled (parse file) costs) a
 
 -- ---- a plain run: "lent a run's areas, counts against b and stops in the same way, and returns its stop, observation count,
 -- steps and plain set"

@@ -1,7 +1,8 @@
 -- "a live wrong path holds at most w changes of a place": the changes that instructions make, undoing them, and the undo log of those
--- that are live. The working words keep such a log; no promise speaks of it yet.
+-- that are live at each machine that a run comes to. The working words keep such a log.
 -- Assumes nothing.
-use mathlib.Core.Bool.{cond}
+use mathlib.Core.Path.{_≡_}
+use mathlib.Core.Bool.{false, cond}
 use mathlib.Core.List.{List, [], _∷_, _++_}
 use Prim.Native.Nat.{ℕ, zero, suc, _+_}
 use lib.Dec.{eqb, ltb}
@@ -13,6 +14,7 @@ use Rattle.rules.specs.Rules.Instructions.{Instr, skip, assign, load, st
 use Rattle.rules.specs.Rules.Outside.{recall, remembers}
 use Rattle.rules.specs.Rules.Plain.{State, Entry, at, put, withOutside, Code, fetch}
 use Rattle.rules.specs.Rules.Mispredicting.{Machine, step}
+use Rattle.rules.specs.Rules.Runs.{over, Job, first}
 
 -- What a change was, and how it is undone: a location or an entry of the table, by its number, with its word of before; or an entry that
 -- was added where there were so many.
@@ -92,3 +94,9 @@ logBy (suc k) code M us = dropped us
 
 unfoldable pub logAfter : Code → Machine → UndoLog → UndoLog
 logAfter code M us = logBy (step code M .back) code M us
+
+-- the machines that a mispredicting run comes to, whatever its budget and room, with the changes that are live there
+pub data Live (job : Job) : Machine → UndoLog → Type 0 where
+  live-first : Live job (first job) []
+  live-next : {M : Machine} {us : UndoLog} → over (job .code) M ≡ false → Live job M us
+      → Live job (step (job .code) M .next) (logAfter (job .code) M us)

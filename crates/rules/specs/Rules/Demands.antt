@@ -31,10 +31,13 @@ use Rattle.rules.specs.Rules.Expressions.{Expr}
 use Rattle.rules.specs.Rules.Instructions.{Instr, load, store, jmp, beqz, Observation, startKind, pcKind, loadKind, storeKind}
 use Rattle.rules.specs.Rules.Firsts.{ObservedSet, noReport, held}
 use Rattle.rules.specs.Rules.Plain.{Entry, Code, endPlace, fetch}
-use Rattle.rules.specs.Rules.Runs.{Job, mispredictingRun}
+use Rattle.rules.specs.Rules.Mispredicting.{Machine, step}
+use Rattle.rules.specs.Rules.Runs.{run, Job, first, blank, mispredictingRun}
+use Rattle.rules.specs.Rules.Changes.{UndoLog, size, Live}
 use Rattle.rules.specs.Rules.JobFile.{Parsed, accepted, rejected, parse, trailer, locations, stateOf, publicOf, wordsAt}
+use Rattle.rules.specs.Rules.Costs.{tabled}
 use Rattle.rules.specs.Rules.Calls.{Areas, Called, traceWords, room, tableSize, tableWords, workingWords, runCall, plainCall}
-use Rattle.rules.specs.Rules.Pairs.{PairAreas}
+use Rattle.rules.specs.Rules.Pairs.{withState, PairAreas}
 use Rattle.rules.specs.Rules.Strike.{strike}
 
 -- ---- demand 1, and the first half of demand 2: "a run's answer, or the refusal number that document 01 fixes"
@@ -67,8 +70,8 @@ plainObservationCount (plains.Ran n) = n .observations
 unfoldable pub traceIn : RunAnswer → Areas → List ℕ
 traceIn r after = take (2 * observationCount (r .outcome)) (after .trace)
 
-unfoldable pub traceOf : List ℕ → Areas → List ℕ
-traceOf f a = traceIn (runCall f a .answer) (runCall f a .areas)
+unfoldable pub traceOf : List ℕ → List ℕ → Areas → List ℕ
+traceOf f costs a = traceIn (runCall f costs a .answer) (runCall f costs a .areas)
 
 unfoldable pub plainTraceOf : List ℕ → Areas → List ℕ
 plainTraceOf f a = take (2 * plainObservationCount (plainCall f a .answer .outcome)) (plainCall f a .areas .trace)
@@ -82,7 +85,7 @@ unfoldable pub tableIn : List ℕ → List ℕ → List ℕ
 tableIn f area = take tableSize (drop (locations (trailer f)) area)
 
 -- ---- demand 2: "When a run finishes, striking out all from each outermost start to its rollback gives the plain run's trace, and
--- the end states are equal." The plain run is "of the same job, in areas of the same lengths".
+-- the end states are equal." The plain run is "of the same job, in areas of the same lengths"; it takes no table, whatever the run's was.
 -- The run's answer is r, and `after` are the areas after it; `observed` is its trace.
 pub record PlainMatch (f : List ℕ) (r : RunAnswer) (after a′ : Areas) : Type 0 where
   pub counts : PlainCounts
@@ -110,14 +113,14 @@ pub record SameButState (f g : List ℕ) : Type 0 where
 pub record AlikeOn (s : LocationSet) (xs ys : List ℕ) : Type 0 where
   pub same : (l : ℕ) → member s l ≡ true → getD xs l 0 ≡ getD ys l 0
 
--- The entries of the table with which a run of the file f in the areas a ends: the table in its end area shows their addresses and
--- values, and no area shows their sets. A refused job has none.
+-- The entries of the table with which a run of the file f by the costs, in the areas a, ends: the table in its end area shows their
+-- addresses and values, and no area shows their sets. A refused job has none.
 abbrev pub entriesOf : Parsed → ℕ → List Entry
 entriesOf (rejected n) k = []
 entriesOf (accepted job) k = mispredictingRun job k .last .state .outside
 
-unfoldable pub remembered : List ℕ → Areas → List Entry
-remembered f a = entriesOf (parse f) (room (a .trace))
+unfoldable pub remembered : List ℕ → List ℕ → Areas → List Entry
+remembered f costs a = entriesOf (tabled (parse f) costs) (room (a .trace))
 
 -- the set of entry number i
 unfoldable pub entrySet : List Entry → ℕ → LocationSet
@@ -135,35 +138,35 @@ pub record SameOutside (full : LocationSet) (es : List Entry) (t t′ : List ℕ
 
 -- The same answer (stop, observation count, steps, rollbacks, both sets and verdict), the same trace, the same reports ("Two states that agree
 -- on D get the same reports."), and outside the image the same addresses, with the same words where they rest on the reported set. The first
--- run is of the file f in the areas a, with the answer r.
-pub record SameCall (f : List ℕ) (a : Areas) (r : RunAnswer) (after : Areas) (g : List ℕ) (a′ : Areas) : Type 0 where
-  pub answer : r ≡ runCall g a′ .answer
-  pub trace : traceIn r after ≡ traceOf g a′
-  pub firsts : r .firsts ≡ runCall g a′ .answer .firsts
-  pub outside : SameOutside (r .full) (remembered f a) (tableIn f (after .end)) (tableIn g (runCall g a′ .areas .end))
+-- run is of the file f in the areas a, with the answer r; the second has the same costs.
+pub record SameCall (f costs : List ℕ) (a : Areas) (r : RunAnswer) (after : Areas) (g : List ℕ) (a′ : Areas) : Type 0 where
+  pub answer : r ≡ runCall g costs a′ .answer
+  pub trace : traceIn r after ≡ traceOf g costs a′
+  pub firsts : r .firsts ≡ runCall g costs a′ .answer .firsts
+  pub outside : SameOutside (r .full) (remembered f costs a) (tableIn f (after .end)) (tableIn g (runCall g costs a′ .areas .end))
 
 -- "Wherever the run ends, finished or stopped, every second state alike to the first on the reported set (same routine, memory
 -- size, public list, window, budget, area lengths) gives the same whole trace, counts, stop, both sets and verdict. If the verdict
 -- is clean, so does every state alike on the public locations." The run's answer is r, and `after` are the areas after it. "demand 3 stands
--- for these runs" with stores outside the image; both start with nothing there.
-pub record Demand3 (f : List ℕ) (a : Areas) (r : RunAnswer) (after : Areas) : Type 0 where
+-- for these runs" with stores outside the image; both start with nothing there. F-7: "Secrecy holds for two runs with the same table."
+pub record Demand3 (f costs : List ℕ) (a : Areas) (r : RunAnswer) (after : Areas) : Type 0 where
   pub reported : {n : Counts} {v : Verdict} → r .outcome ≡ runs.Ran n v
       → (g : List ℕ) (a′ : Areas) → SameButState f g → SameLengths a a′
       → AlikeOn (r .full) (stateOf (trailer f) f) (stateOf (trailer f) g)
-      → SameCall f a r after g a′
+      → SameCall f costs a r after g a′
   pub clean : {n : Counts} → r .outcome ≡ runs.Ran n Clean
       → (g : List ℕ) (a′ : Areas) → SameButState f g → SameLengths a a′
       → AlikeOn (publicOf (trailer f) f) (stateOf (trailer f) f) (stateOf (trailer f) g)
-      → SameCall f a r after g a′
+      → SameCall f costs a r after g a′
 
 -- ---- F-6: which observation brought a location in
--- the sets that a run of the file f in the areas a observes, in order; a refused job observes none
+-- the sets that a run of the file f by the costs, in the areas a, observes, in order; a refused job observes none
 abbrev pub setsOf : Parsed → ℕ → List ObservedSet
 setsOf (rejected n) k = []
 setsOf (accepted job) k = mispredictingRun job k .gathered .sets
 
-unfoldable pub observedIn : List ℕ → Areas → List ObservedSet
-observedIn f a = setsOf (parse f) (room (a .trace))
+unfoldable pub observedIn : List ℕ → List ℕ → Areas → List ObservedSet
+observedIn f costs a = setsOf (tabled (parse f) costs) (room (a .trace))
 
 -- what an answer reports of location l
 abbrev pub reportOf : RunAnswer → ℕ → First
@@ -206,14 +209,24 @@ pub record Labelled (code : Code) (x : First) : Type 0 where
 
 -- "For each location in D the run reports the index of the first observation whose set holds it, the rule concerned (branch, jump, load or
 -- store) and the label of that instruction." The run's answer is r, and `after` are the areas after it.
-pub record Brought (f : List ℕ) (a : Areas) (r : RunAnswer) (after : Areas) : Type 0 where
-  pub first : (l : ℕ) → l < limit → member (r .full) l ≡ true → FirstWith l (observedIn f a) (reportOf r l)
+pub record Brought (f costs : List ℕ) (a : Areas) (r : RunAnswer) (after : Areas) : Type 0 where
+  pub first : (l : ℕ) → l < limit → member (r .full) l ≡ true → FirstWith l (observedIn f costs a) (reportOf r l)
   pub stands : {n : Counts} {v : Verdict} → r .outcome ≡ runs.Ran n v
       → (l : ℕ) → l < limit → member (r .full) l ≡ true → Stands n (traceIn r after) (reportOf r l)
   pub instruction : (job : Job) → parse f ≡ accepted job
       → (l : ℕ) → l < limit → member (r .full) l ≡ true → Labelled (job .code) (reportOf r l)
   -- of any other location nothing is reported, and of none where the job is refused
   pub nothing : (l : ℕ) → member (r .full) l ≡ false → reportOf r l ≡ noReport
+
+-- ---- the wrong paths
+-- "At most w + 1 branches are open, and a live wrong path holds at most w changes of a place.": of every machine that a mispredicting run of
+-- the job comes to, by the costs and with whatever state, and of the changes that are live there. At one of these machines every such run
+-- stops, with whatever budget and room, so that none is left out.
+pub record WrongPathsBounded (f costs : List ℕ) : Type 0 where
+  pub bounded : (job : Job) → tabled (parse f) costs ≡ accepted job → (vs : List ℕ) {M : Machine} {us : UndoLog} → Live (withState job vs) M us
+      → (length (M .branches) ≤ job .code .window + 1) × (size us ≤ job .code .window)
+  pub stops : (job : Job) → tabled (parse f) costs ≡ accepted job → (vs : List ℕ) (budget room : ℕ)
+      → (us : UndoLog) × Live (withState job vs) (run (step (job .code)) (job .code) room budget (first (withState job vs)) blank .last) us
 
 -- ---- the pair of states
 -- "the job's state and a second one": the words of the second state's bytes

@@ -26,6 +26,16 @@ maxTokens = 16
 abbrev pub maxEntries : ℕ
 maxEntries = 64
 
+-- F-7: "eight bytes, one per kind in kind order"; "Each entry must be 1 to 16."
+abbrev pub kinds : ℕ
+kinds = 8
+
+abbrev pub minCost : ℕ
+minCost = 1
+
+abbrev pub maxCost : ℕ
+maxCost = 16
+
 -- "16 registers", "8 bytes each"; "32 bytes of public list"; "a trailer of 16 bytes"
 abbrev pub registersSize : ℕ
 registersSize = 128

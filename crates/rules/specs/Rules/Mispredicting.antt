@@ -47,7 +47,8 @@ pub record StepOf (W : Type 0) : Type 0 where
 abbrev pub Step : Type 0
 Step = StepOf Tagged
 
--- "Lowering takes the kind's entry in a constant table of eight window costs, down to 0 at least"; "spbarr sets it to 0".
+-- "Lowering takes the kind's entry in a constant table of eight window costs, down to 0 at least"; "spbarr sets it to 0". The table is the
+-- one that the steps are given: the fixed one, or the buyer's.
 -- This is the one place where a window is lowered.
 unfoldable pub remaining : Code → Instr → ℕ → ℕ
 remaining code i v = cond (isBarrier i) 0 (v - getD (code .costs) (kind i) 0)

@@ -16,6 +16,7 @@ use Rattle.rules.specs.declared.PairAnswer.the-variants as answers
 use Rattle.rules.specs.Rules.Instructions.{Observation}
 use Rattle.rules.specs.Rules.Runs.{Job, Result, mispredictingRun, plainRun, isFinished}
 use Rattle.rules.specs.Rules.JobFile.{Parsed, accepted, rejected, parse, wordsAt}
+use Rattle.rules.specs.Rules.Costs.{tabled}
 use Rattle.rules.specs.Rules.Calls.{traceWords, room, workingWords, written, Called, counts}
 
 -- the job with another state
@@ -94,16 +95,25 @@ pairAccepted job vs a =
     let r′ = mispredictingRun (withState job vs) k in
     record { answer = answers.Compared (pairWord job vs k) (counts r) (counts r′); areas = pairAfter r r′ a }
 
-unfoldable pub pairParsed : Parsed → List ℕ → PairAreas → Called PairAnswer PairAreas
-pairParsed (rejected n) second a = pairRefused n a
-pairParsed (accepted job) second a =
-    elim (secondFits job second) [
-      | false ↦ pairRefused refusals.SecondState a
-      | true ↦ elim (pairFits a) [
-        | false ↦ pairRefused refusals.Areas a
-        | true ↦ pairAccepted job (wordsAt (length (job .init)) second 0) a
-      ]
+-- what is tested after 9: of the job with its table, 14 and then 10
+unfoldable pub pairTabled : Parsed → List ℕ → PairAreas → Called PairAnswer PairAreas
+pairTabled (rejected n) second a = pairRefused n a
+pairTabled (accepted job) second a =
+    elim (pairFits a) [
+      | false ↦ pairRefused refusals.Areas a
+      | true ↦ pairAccepted job (wordsAt (length (job .init)) second 0) a
     ]
 
-unfoldable pub pairCall : List ℕ → List ℕ → PairAreas → Called PairAnswer PairAreas
-pairCall file second a = pairParsed (parse file) second a
+-- what was read of the file, and the same with the table by which the runs are made
+unfoldable pub pairParsed : Parsed → Parsed → List ℕ → PairAreas → Called PairAnswer PairAreas
+pairParsed (rejected n) withTable second a = pairRefused n a
+pairParsed (accepted job) withTable second a =
+    elim (secondFits job second) [ false ↦ pairRefused refusals.SecondState a | true ↦ pairTabled withTable second a ]
+
+-- document 01's call, by the fixed table
+unfoldable pub fixedPairCall : List ℕ → List ℕ → PairAreas → Called PairAnswer PairAreas
+fixedPairCall file second a = pairParsed (parse file) (parse file) second a
+
+-- F-7: "Every call with a mispredicting run takes one table", so that both runs have the same; 14 is "tested directly before 10"
+unfoldable pub pairCall : List ℕ → List ℕ → List ℕ → PairAreas → Called PairAnswer PairAreas
+pairCall file second costs a = pairParsed (parse file) (tabled (parse file) costs) second a

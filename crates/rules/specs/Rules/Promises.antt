@@ -9,8 +9,11 @@
 --              their sets lie in the reported set;
 --   brought    F-6: of each location of D the first observation whose set holds it, with its index in the trace, its rule and the label of
 --              its instruction; of no other location anything;
+--   fixed      F-7: a table of eight ones gives every earlier answer, that of the call by the fixed table, and leaves the same areas;
+--   bounded    with any table at most w + 1 branches are open, and a live wrong path holds at most w changes;
 --   meaning    what each word on a pair says of the two traces and of the two plain runs.
 -- Assumes nothing.
+use mathlib.Core.Path.{_≡_}
 use mathlib.Core.List.{List}
 use Prim.Native.Nat.{ℕ}
 use denote.Ref.{RefT, now}
@@ -18,26 +21,31 @@ use denote.Triple.Both.{Both}
 use Rattle.rules.specs.declared.RunAnswer.{RunAnswer}
 use Rattle.rules.specs.declared.PlainAnswer.{PlainAnswer}
 use Rattle.rules.specs.declared.PairAnswer.{PairAnswer}
+use Rattle.rules.specs.Rules.Instructions.{windowCosts}
 use Rattle.rules.specs.Rules.Answers.{runRefusal, plainRefusal, pairRefusal}
-use Rattle.rules.specs.Rules.Calls.{Areas, lent, runCall, plainCall}
-use Rattle.rules.specs.Rules.Pairs.{PairAreas, pairLent, pairCall}
-use Rattle.rules.specs.Rules.Demands.{Exact, Unaltered, Demand2, Demand3, Brought, PairMeaning}
+use Rattle.rules.specs.Rules.Calls.{Areas, lent, fixedRunCall, runCall, plainCall}
+use Rattle.rules.specs.Rules.Pairs.{PairAreas, pairLent, fixedPairCall, pairCall}
+use Rattle.rules.specs.Rules.Demands.{Exact, Unaltered, Demand2, Demand3, Brought, WrongPathsBounded, PairMeaning}
 
-pub record RunPromise (f : List ℕ) (before : Areas) (r : RunAnswer) (after : Areas) : Type 0 where
-  pub exact : Exact (runCall f before) r after
+pub record RunPromise (f costs : List ℕ) (before : Areas) (r : RunAnswer) (after : Areas) : Type 0 where
+  pub exact : Exact (runCall f costs before) r after
   pub unaltered : Unaltered runRefusal r before after
   pub plainly : Demand2 f before r after
-  pub secret : Demand3 f before r after
-  pub brought : Brought f before r after
+  pub secret : Demand3 f costs before r after
+  pub brought : Brought f costs before r after
+  pub fixed : costs ≡ windowCosts → Exact (fixedRunCall f before) r after
+  pub bounded : WrongPathsBounded f costs
 
 pub record PlainPromise (f : List ℕ) (before : Areas) (r : PlainAnswer) (after : Areas) : Type 0 where
   pub exact : Exact (plainCall f before) r after
   pub unaltered : Unaltered plainRefusal r before after
 
-pub record PairPromise (f second : List ℕ) (before : PairAreas) (r : PairAnswer) (after : PairAreas) : Type 0 where
-  pub exact : Exact (pairCall f second before) r after
+pub record PairPromise (f second costs : List ℕ) (before : PairAreas) (r : PairAnswer) (after : PairAreas) : Type 0 where
+  pub exact : Exact (pairCall f second costs before) r after
   pub unaltered : Unaltered pairRefusal r before after
   pub meaning : PairMeaning f second before r after
+  pub fixed : costs ≡ windowCosts → Exact (fixedPairCall f second before) r after
+  pub bounded : WrongPathsBounded f costs
 
 -- ---- the lent areas in a contract
 -- a lent area of words as a contract names it: as it is when the call begins, and as it is when the call returns

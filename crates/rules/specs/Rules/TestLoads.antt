@@ -16,6 +16,7 @@ use Rattle.rules.specs.declared.TestLoadAnswer.the-variants as answers
 use Rattle.rules.specs.Rules.Operators.{apply2, xor, shl, shr}
 use Rattle.rules.specs.Rules.Runs.{Job, Result, mispredictingRun, isFinished}
 use Rattle.rules.specs.Rules.JobFile.{Parsed, accepted, rejected, parse}
+use Rattle.rules.specs.Rules.Costs.{tabled}
 use Rattle.rules.specs.Rules.Encoding.{wordBytes}
 use Rattle.rules.specs.Rules.Calls.{traceWords, room, workingWords, written, Called, counts}
 use Rattle.rules.specs.Rules.Pairs.{PairAreas, pairLent, pairFits, pairAccepted}
@@ -96,5 +97,10 @@ testLoadParsed (accepted job) seed a =
       ]
     ]
 
-unfoldable pub testLoadCall : List ℕ → ℕ → TestLoadAreas → Called TestLoadAnswer TestLoadAreas
-testLoadCall file seed a = testLoadParsed (parse file) seed a
+-- the call of F-3, by the fixed table
+unfoldable pub fixedTestLoadCall : List ℕ → ℕ → TestLoadAreas → Called TestLoadAnswer TestLoadAreas
+fixedTestLoadCall file seed a = testLoadParsed (parse file) seed a
+
+-- F-7: "Every call with a mispredicting run takes one table", so that both runs have the same; 14 is "tested directly before 10"
+unfoldable pub testLoadCall : List ℕ → ℕ → List ℕ → TestLoadAreas → Called TestLoadAnswer TestLoadAreas
+testLoadCall file seed costs a = testLoadParsed (tabled (parse file) costs) seed a

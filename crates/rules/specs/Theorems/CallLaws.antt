@@ -16,10 +16,13 @@ use Rattle.rules.specs.declared.RunAnswer.{RunAnswer}
 use Rattle.rules.specs.Rules.Instructions.{Observation}
 use Rattle.rules.specs.Rules.Runs.{Job, Result, mispredictingRun, plainRun}
 use Rattle.rules.specs.Rules.Answers.{runRefusal, plainRefusal}
+use Rattle.rules.specs.Rules.Instructions.{windowCosts}
 use Rattle.rules.specs.Rules.JobFile.{Parsed, accepted, rejected, parse}
-use Rattle.rules.specs.Rules.Calls.{observationWords, traceWords, Areas, room, longEnough, written, areasAfter, Called, counts, runReport, runRefused, runParsed, runCall, plainReport, plainParsed, plainCall}
+use Rattle.rules.specs.Rules.Costs.{costsFit, withCosts, tabled}
+use Rattle.rules.specs.Rules.Calls.{observationWords, traceWords, Areas, room, longEnough, written, areasAfter, Called, counts, runReport, runRefused, runParsed, fixedRunCall, runCall, plainReport, plainParsed, plainCall}
 use Rattle.rules.specs.Rules.Pairs.{withState}
 use Rattle.rules.specs.Rules.Demands.{Exact, Unaltered, SameLengths, traceIn, traceOf, plainTraceOf}
+use Rattle.rules.specs.Theorems.Costs.{tabled-accepted, tabled-refused, tabled-rejected, ones-tabled}
 
 -- ---- a call that ran, and one that was refused
 pub length-traceWords : (os : List Observation) → length (traceWords os) ≡ 2 * length os
@@ -32,27 +35,41 @@ unfolding traceWords
 traceWords-append [] ps = refl
 traceWords-append (o ∷ os) ps = ap (λ (ws : List ℕ). observationWords o ++ ws) (traceWords-append os ps)
 
--- an accepted job, in areas that are long enough
-pub record Runs (f : List ℕ) (a : Areas) : Type 0 where
-  pub job : Job
-  pub parsed : parse f ≡ accepted job
-  pub enough : longEnough job a ≡ true
+-- an accepted job with an accepted table, in areas that are long enough
+pub record Runs (f costs : List ℕ) (a : Areas) : Type 0 where
+  pub read : Job
+  pub parsed : parse f ≡ accepted read
+  pub fits : costsFit costs ≡ true
+  pub enough : longEnough read a ≡ true
 
-module _ {f : List ℕ} {a : Areas} (r : Runs f a) where
-  -- the run that the call makes
+module _ {f costs : List ℕ} {a : Areas} (r : Runs f costs a) where
+  -- the job with its table, and the run that the call makes
+  abbrev pub jobIn : Job
+  jobIn = withCosts (r .read) costs
+
   abbrev pub result : Result
-  result = mispredictingRun (r .job) (room (a .trace))
+  result = mispredictingRun jobIn (room (a .trace))
 
-  pub call-runs : runCall f a ≡ record { answer = runReport (r .job) result; areas = areasAfter result a }
-  unfolding runCall runParsed
-  call-runs = rw (r .parsed, r .enough, runParsed)
+  pub tabled-runs : tabled (parse f) costs ≡ accepted jobIn
+  tabled-runs = tabled-accepted f costs (r .read) (r .parsed) (r .fits)
 
-  pub trace-runs : traceOf f a ≡ traceWords (result .gathered .trace)
+  pub call-runs : runCall f costs a ≡ record { answer = runReport jobIn result; areas = areasAfter result a }
+  unfolding runCall runParsed longEnough
+  call-runs = let e : longEnough jobIn a ≡ true = r .enough in rw (tabled-runs, e, runParsed)
+
+  pub trace-runs : traceOf f costs a ≡ traceWords (result .gathered .trace)
   unfolding traceOf traceIn runReport areasAfter counts written
   trace-runs =
       let os = result .gathered .trace in
       rw call-runs (take-at (traceWords os) _ (2 * length os) (length-traceWords os))
 
+-- an accepted job, for a plain run in areas that are long enough
+pub record PlainRuns (f : List ℕ) (a : Areas) : Type 0 where
+  pub job : Job
+  pub parsed : parse f ≡ accepted job
+  pub enough : longEnough job a ≡ true
+
+module _ {f : List ℕ} {a : Areas} (r : PlainRuns f a) where
   -- the plain run that the plain call makes
   abbrev pub plainResult : Result
   plainResult = plainRun (r .job) (room (a .trace))
@@ -72,26 +89,33 @@ abbrev pub refusedCall : Refusal → Areas → Called RunAnswer Areas
 refusedCall n a = record { answer = runRefused n; areas = a }
 
 -- every call is one or the other
-pub data View (f : List ℕ) (a : Areas) : Type 0 where
-  ran : Runs f a → View f a
-  refused : (n : Refusal) → runCall f a ≡ refusedCall n a → View f a
+pub data View (f costs : List ℕ) (a : Areas) : Type 0 where
+  ran : Runs f costs a → View f costs a
+  refused : (n : Refusal) → runCall f costs a ≡ refusedCall n a → View f costs a
 
-pub view : (f : List ℕ) (a : Areas) → View f a
-unfolding runCall runParsed
-view f a = go (parse f) refl
+pub view : (f costs : List ℕ) (a : Areas) → View f costs a
+unfolding runCall runParsed longEnough
+view f costs a = go (parse f) refl
   where
-    fits : (job : Job) → parse f ≡ accepted job → (b : Bool) → longEnough job a ≡ b → View f a
-    fits job e true l = ran (record { job = job; parsed = e; enough = l })
-    fits job e false l = refused refusals.Areas (rw (e, l, runParsed))
+    fits : (job : Job) → parse f ≡ accepted job → costsFit costs ≡ true → (b : Bool) → longEnough job a ≡ b → View f costs a
+    fits job e c true l = ran (record { read = job; parsed = e; fits = c; enough = l })
+    fits job e c false l =
+        let l′ : longEnough (withCosts job costs) a ≡ false = l in
+        refused refusals.Areas (rw (tabled-accepted f costs job e c, l′, runParsed))
 
-    go : (P : Parsed) → parse f ≡ P → View f a
-    go (rejected n) e = refused n (rw (e, runParsed))
-    go (accepted job) e = fits job e (longEnough job a) refl
+    table : (job : Job) → parse f ≡ accepted job → (b : Bool) → costsFit costs ≡ b → View f costs a
+    table job e true c = fits job e c (longEnough job a) refl
+    table job e false c = refused refusals.Costs (rw (tabled-refused f costs job e c, runParsed))
+
+    go : (P : Parsed) → parse f ≡ P → View f costs a
+    go (rejected n) e = refused n (rw (tabled-rejected f costs n e, runParsed))
+    go (accepted job) e = table job e (costsFit costs) refl
 
 pub refused-ran : {P : Type 0} {n : Refusal} {c : Counts} {v : Verdict} → runs.Refused n ≡ runs.Ran c v → P
 refused-ran {P} {n} {c} {v} e = absurd (let z : _≡_ {A = ℕ} 0 1 = cc in omega arith)
 
-pub runs-of : {f : List ℕ} {a : Areas} {n : Counts} {v : Verdict} → runCall f a .answer .outcome ≡ runs.Ran n v → View f a → Runs f a
+pub runs-of : {f costs : List ℕ} {a : Areas} {n : Counts} {v : Verdict} → runCall f costs a .answer .outcome ≡ runs.Ran n v
+    → View f costs a → Runs f costs a
 unfolding runRefused
 runs-of e (ran r) = r
 runs-of e (refused n q) = refused-ran (rw q at e)
@@ -123,12 +147,17 @@ module _ {A B : Type 0} (refusal : A → ℕ) (called : Called A B) (a : B) wher
       → Unaltered refusal r a after
   exact-unaltered x h = rw (x .answer, x .areas) h
 
-pub run-unaltered : (f : List ℕ) (a : Areas) → Unaltered runRefusal (runCall f a .answer) a (runCall f a .areas)
-run-unaltered f a = go (view f a)
+pub run-unaltered : (f costs : List ℕ) (a : Areas) → Unaltered runRefusal (runCall f costs a .answer) a (runCall f costs a .areas)
+run-unaltered f costs a = go (view f costs a)
   where
-    go : View f a → Unaltered runRefusal (runCall f a .answer) a (runCall f a .areas)
-    go (ran r) = carried-out runRefusal (runCall f a) a (unfold runReport in rw (call-runs r))
-    go (refused m q) = left-alone runRefusal (runCall f a) a (ap (λ (c : Called RunAnswer Areas). c .areas) q)
+    go : View f costs a → Unaltered runRefusal (runCall f costs a .answer) a (runCall f costs a .areas)
+    go (ran r) = carried-out runRefusal (runCall f costs a) a (unfold runReport in rw (call-runs r))
+    go (refused m q) = left-alone runRefusal (runCall f costs a) a (ap (λ (c : Called RunAnswer Areas). c .areas) q)
+
+-- ---- "a table of eight ones gives every earlier answer"
+pub ones-run : (f : List ℕ) (a : Areas) → runCall f windowCosts a ≡ fixedRunCall f a
+unfolding runCall fixedRunCall
+ones-run f a = ap (λ (P : Parsed). runParsed P a) (ones-tabled f)
 
 pub plain-unaltered : (f : List ℕ) (a : Areas) → Unaltered plainRefusal (plainCall f a .answer) a (plainCall f a .areas)
 unfolding plainCall plainParsed

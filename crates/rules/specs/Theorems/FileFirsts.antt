@@ -19,13 +19,14 @@ use Rattle.rules.specs.declared.First.{First}
 use Rattle.rules.specs.declared.RunOutcome.the-variants as runs
 use Rattle.rules.specs.Rules.Instructions.{Observation}
 use Rattle.rules.specs.Rules.Firsts.{ObservedSet, noReport, firstHolding, held, firstsOf}
+use Rattle.rules.specs.Rules.Plain.{endPlace, fetch}
 use Rattle.rules.specs.Rules.Runs.{Job, Result, verdict}
 use Rattle.rules.specs.Rules.JobFile.{accepted, parse}
 use Rattle.rules.specs.Rules.Calls.{traceWords, Areas, room, counts, runReport, runRefused, runCall}
-use Rattle.rules.specs.Rules.Demands.{traceOf, observedIn, reportOf, FirstWith, Stands, observed, stopped, Brought}
+use Rattle.rules.specs.Rules.Demands.{traceOf, observedIn, reportOf, FirstWith, Stands, observed, stopped, Labelled, Brought}
 use Rattle.rules.specs.Theorems.Firsts.{first-none, firsts-length, firsts-at, mispredicting-gathers}
 use Rattle.rules.specs.Theorems.FirstSteps.{Shown, traced, unmade, RunReports, mispredicting-reports}
-use Rattle.rules.specs.Theorems.CallLaws.{length-traceWords, traceWords-append, Runs, result, call-runs, trace-runs, View, ran, refused, refusedCall, view}
+use Rattle.rules.specs.Theorems.CallLaws.{length-traceWords, traceWords-append, Runs, jobIn, result, tabled-runs, call-runs, trace-runs, View, ran, refused, refusedCall, view}
 
 -- ---- the first set that holds a location, and those before it
 first-with : (xs : List ObservedSet) (l : ℕ) → held xs l ≡ true → FirstWith l xs (firstHolding xs l)
@@ -76,56 +77,61 @@ shown-stands r x (traced t) =
 shown-stands r x (unmade i s c) = stopped i s c
 
 -- ---- a call that ran
-module _ {f : List ℕ} {a : Areas} (r : Runs f a) where
-  observed-runs : observedIn f a ≡ result r .gathered .sets
+module _ {f costs : List ℕ} {a : Areas} (r : Runs f costs a) where
+  observed-runs : observedIn f costs a ≡ result r .gathered .sets
   unfolding observedIn
-  observed-runs = rw (r .parsed)
+  observed-runs = rw (tabled-runs r)
 
   -- what is in D is held by one of the observed sets
-  full-runs : (l : ℕ) → member (runCall f a .answer .full) l ≡ held (result r .gathered .sets) l
+  full-runs : (l : ℕ) → member (runCall f costs a .answer .full) l ≡ held (result r .gathered .sets) l
   unfolding runReport
-  full-runs l = rw (call-runs r) (mispredicting-gathers (r .job) (room (a .trace)) l)
+  full-runs l = rw (call-runs r) (mispredicting-gathers (jobIn r) (room (a .trace)) l)
 
-  report-runs : (l : ℕ) → l < limit → reportOf (runCall f a .answer) l ≡ firstHolding (result r .gathered .sets) l
+  report-runs : (l : ℕ) → l < limit → reportOf (runCall f costs a .answer) l ≡ firstHolding (result r .gathered .sets) l
   unfolding runReport
   report-runs l h = rw (call-runs r) (firsts-at (result r .gathered .sets) l h)
 
-  nothing-runs : (l : ℕ) → member (runCall f a .answer .full) l ≡ false → reportOf (runCall f a .answer) l ≡ noReport
+  nothing-runs : (l : ℕ) → member (runCall f costs a .answer .full) l ≡ false → reportOf (runCall f costs a .answer) l ≡ noReport
   unfolding runReport
   nothing-runs l e = let h = sym (full-runs l) ∙ e in rw (call-runs r) (none-reported (result r .gathered .sets) l h)
 
-  ran-counts : {n : Counts} {v : Verdict} → runCall f a .answer .outcome ≡ runs.Ran n v → counts (result r) ≡ n
+  ran-counts : {n : Counts} {v : Verdict} → runCall f costs a .answer .outcome ≡ runs.Ran n v → counts (result r) ≡ n
   unfolding runReport
   ran-counts {n} {v} e =
-      let q : runs.Ran (counts (result r)) (verdict (r .job) (result r)) ≡ runs.Ran n v = rw (call-runs r) at e in
+      let q : runs.Ran (counts (result r)) (verdict (jobIn r) (result r)) ≡ runs.Ran n v = rw (call-runs r) at e in
       cc
 
-  same-job : (job : Job) → parse f ≡ accepted job → r .job ≡ job
-  same-job job e = let q : accepted (r .job) ≡ accepted job = sym (r .parsed) ∙ e in cc
+  same-job : (job : Job) → parse f ≡ accepted job → r .read ≡ job
+  same-job job e = let q : accepted (r .read) ≡ accepted job = sym (r .parsed) ∙ e in cc
 
-  abbrev reports : RunReports (r .job .code) (result r)
-  reports = mispredicting-reports (r .job) (room (a .trace))
+  abbrev reports : RunReports (jobIn r .code) (result r)
+  reports = mispredicting-reports (jobIn r) (room (a .trace))
 
-  brought-runs : Brought f a (runCall f a .answer) (runCall f a .areas)
+  -- the program does not depend on the table
+  labelled : (x : First) → Labelled (jobIn r .code) x → Labelled (r .read .code) x
+  unfolding endPlace fetch
+  labelled x h = record { below = h .below; rule = h .rule }
+
+  brought-runs : Brought f costs a (runCall f costs a .answer) (runCall f costs a .areas)
   brought-runs = record {
     first = λ l h e. rw (observed-runs, report-runs l h) (first-with (result r .gathered .sets) l (sym (full-runs l) ∙ e));
     stands = λ q l h e.
         rw (report-runs l h, ← ran-counts q) (unfold traceOf in rw (trace-runs r) (shown-stands (result r) _ (reports .shown l (sym (full-runs l) ∙ e))));
-    instruction = λ job q l h e. rw (report-runs l h, ← same-job job q) (reports .labelled l (sym (full-runs l) ∙ e));
+    instruction = λ job q l h e. rw (report-runs l h, ← same-job job q) (labelled _ (reports .labelled l (sym (full-runs l) ∙ e)));
     nothing = nothing-runs;
   }
 
 -- ---- a call that was refused: D is empty
-module _ (f : List ℕ) (a : Areas) (m : Refusal) (q : runCall f a ≡ refusedCall m a) where
-  empty-full : (l : ℕ) → member (runCall f a .answer .full) l ≡ false
+module _ (f costs : List ℕ) (a : Areas) (m : Refusal) (q : runCall f costs a ≡ refusedCall m a) where
+  empty-full : (l : ℕ) → member (runCall f costs a .answer .full) l ≡ false
   unfolding runRefused
   empty-full l = rw q (member-empty l)
 
-  nothing-refused : (l : ℕ) → reportOf (runCall f a .answer) l ≡ noReport
+  nothing-refused : (l : ℕ) → reportOf (runCall f costs a .answer) l ≡ noReport
   unfolding runRefused held
   nothing-refused l = rw q (none-reported [] l refl)
 
-  brought-refused : Brought f a (runCall f a .answer) (runCall f a .areas)
+  brought-refused : Brought f costs a (runCall f costs a .answer) (runCall f costs a .areas)
   brought-refused = record {
     first = λ l h e. absurd (true≢false (sym e ∙ empty-full l));
     stands = λ x l h e. absurd (true≢false (sym e ∙ empty-full l));
@@ -134,9 +140,9 @@ module _ (f : List ℕ) (a : Areas) (m : Refusal) (q : runCall f a ≡ refusedCa
   }
 
 -- ---- the theorem
-pub brought-call : (f : List ℕ) (a : Areas) → Brought f a (runCall f a .answer) (runCall f a .areas)
-brought-call f a = go (view f a)
+pub brought-call : (f costs : List ℕ) (a : Areas) → Brought f costs a (runCall f costs a .answer) (runCall f costs a .areas)
+brought-call f costs a = go (view f costs a)
   where
-    go : View f a → Brought f a (runCall f a .answer) (runCall f a .areas)
+    go : View f costs a → Brought f costs a (runCall f costs a .answer) (runCall f costs a .areas)
     go (ran r) = brought-runs r
-    go (refused m q) = brought-refused f a m q
+    go (refused m q) = brought-refused f costs a m q

@@ -25,7 +25,7 @@ use Rattle.rules.specs.Rules.Pairs.{withState}
 use Rattle.rules.specs.Rules.Demands.{SameButState}
 use Rattle.rules.specs.Theorems.Readers.{refused-got}
 
-rejected-accepted : {P : Type 0} {r : Refusal} {job : Job} → rejected r ≡ accepted job → P
+pub rejected-accepted : {P : Type 0} {r : Refusal} {job : Job} → rejected r ≡ accepted job → P
 rejected-accepted {P} {r} {job} e = absurd (let z : _≡_ {A = ℕ} 0 1 = cc in omega arith)
 
 -- ---- what an accepted file has passed, in the order of the refusals: 1, 2, 3, then 4 to 7, then 8

@@ -21,14 +21,16 @@ use Rattle.rules.specs.declared.Refusal.{Refusal}
 use Rattle.rules.specs.declared.Refusal.the-variants as refusals
 use Rattle.rules.specs.declared.Counts.{Counts}
 use Rattle.rules.specs.declared.PairAnswer.the-variants as pairs
-use Rattle.rules.specs.Rules.Instructions.{Observation}
+use Rattle.rules.specs.Rules.Instructions.{windowCosts, Observation}
 use Rattle.rules.specs.Rules.Runs.{Job, Result, mispredictingRun, plainRun, isFinished}
 use Rattle.rules.specs.Rules.Answers.{pairRefusal}
 use Rattle.rules.specs.Rules.JobFile.{Parsed, accepted, rejected, parse, trailer, locations, wordsAt}
+use Rattle.rules.specs.Rules.Costs.{costsFit, withCosts}
 use Rattle.rules.specs.Rules.Calls.{Areas, traceWords, room, tableSize, workingWords, written, counts, longEnough}
-use Rattle.rules.specs.Rules.Pairs.{withState, alikeFrom, sameWords, sameTrace, firstThatFits, pairWord, PairAreas, pairAfter, pairRefused, secondFits, pairFits, pairAccepted, pairParsed, pairCall}
+use Rattle.rules.specs.Rules.Pairs.{withState, alikeFrom, sameWords, sameTrace, firstThatFits, pairWord, PairAreas, pairAfter, pairRefused, secondFits, pairFits, pairAccepted, pairTabled, pairParsed, fixedPairCall, pairCall}
 use Rattle.rules.specs.Rules.Demands.{AlikeOn, plainTraceOf, Unaltered, secondState, AlikePublic, SecondJob, RunAreas, SamePlain, OtherPlain, BothFinished, SameTraces, Means, PairMeaning}
 use Rattle.rules.specs.Theorems.JobLaws.{passed, job-init, job-public, init-locations, length-wordsAt, parse-other}
+use Rattle.rules.specs.Theorems.Costs.{tabled-accepted, tabled-refused, ones-tabled, plain-any-table}
 use Rattle.rules.specs.Theorems.CallLaws.{length-traceWords, plain-trace-runs, carried-out, left-alone}
 
 -- ---- words compared
@@ -116,10 +118,11 @@ module _ {f : List ℕ} {a : PairAreas} {p : Areas} (h : RunAreas f a p) where
   run-room = ap (λ (n : ℕ). n / 2) (h .trace)
 
 -- ---- a pair that was compared
-pub record Pairs (f second : List ℕ) (a : PairAreas) : Type 0 where
-  pub job : Job
-  pub parsed : parse f ≡ accepted job
-  pub sized : secondFits job second ≡ true
+pub record Pairs (f second costs : List ℕ) (a : PairAreas) : Type 0 where
+  pub read : Job
+  pub parsed : parse f ≡ accepted read
+  pub sized : secondFits read second ≡ true
+  pub fits : costsFit costs ≡ true
   pub enough : pairFits a ≡ true
 
 pub finished-stop : (x : Stop) → isFinished x ≡ true → x ≡ Finished
@@ -128,50 +131,53 @@ finished-stop Spent e = absurd (true≢false (sym e))
 finished-stop TraceFull e = absurd (true≢false (sym e))
 finished-stop OutsideFull e = absurd (true≢false (sym e))
 
-module _ {f second : List ℕ} {a : PairAreas} (r : Pairs f second a) where
+module _ {f second costs : List ℕ} {a : PairAreas} (r : Pairs f second costs a) where
   abbrev vs : List ℕ
-  vs = wordsAt (length (r .job .init)) second 0
+  vs = wordsAt (length (r .read .init)) second 0
 
   abbrev k : ℕ
   k = room (a .first)
 
-  -- the job with the second state, and the two runs
+  -- the job with its table, the same with the second state, and the two runs
+  abbrev pub pairJob : Job
+  pairJob = withCosts (r .read) costs
+
   abbrev other : Job
-  other = withState (r .job) vs
+  other = withState pairJob vs
 
   abbrev run₁ : Result
-  run₁ = mispredictingRun (r .job) k
+  run₁ = mispredictingRun pairJob k
 
   abbrev run₂ : Result
   run₂ = mispredictingRun other k
 
-  pub pair-runs : pairCall f second a ≡ pairAccepted (r .job) vs a
-  unfolding pairCall pairParsed
-  pair-runs = rw (r .parsed, r .sized, r .enough, pairParsed)
+  pub pair-runs : pairCall f second costs a ≡ pairAccepted pairJob vs a
+  unfolding pairCall pairParsed pairTabled
+  pair-runs = rw (tabled-accepted f costs (r .read) (r .parsed) (r .fits), r .parsed, r .sized, r .enough, pairParsed, pairTabled)
 
-  init-size : length (r .job .init) ≡ locations (trailer f)
-  init-size = init-locations (passed f (r .job) (r .parsed))
+  init-size : length (r .read .init) ≡ locations (trailer f)
+  init-size = init-locations (passed f (r .read) (r .parsed))
 
   second-words : vs ≡ secondState f second
   unfolding secondState
   second-words = ap (λ (n : ℕ). wordsAt n second 0) init-size
 
   -- ---- the states
-  same-size : length (r .job .init) ≡ length vs
-  same-size = sym (length-wordsAt (length (r .job .init)) second 0)
+  same-size : length (r .read .init) ≡ length vs
+  same-size = sym (length-wordsAt (length (r .read .init)) second 0)
 
-  is-alike : alikeFrom (r .job .public) 0 (r .job .init) vs ≡ true → AlikePublic f second
+  is-alike : alikeFrom (r .read .public) 0 (r .read .init) vs ≡ true → AlikePublic f second
   is-alike e =
-      let p = passed f (r .job) (r .parsed) in
+      let p = passed f (r .read) (r .parsed) in
       rw (← job-public p, ← job-init p, ← second-words)
-      (record { same = λ l m. alike-at (r .job .public) 0 (r .job .init) vs same-size e l (let z : 0 + l ≡ l = omega arith in rw z m) })
+      (record { same = λ l m. alike-at (r .read .public) 0 (r .read .init) vs same-size e l (let z : 0 + l ≡ l = omega arith in rw z m) })
 
-  not-alike : alikeFrom (r .job .public) 0 (r .job .init) vs ≡ false → AlikePublic f second → ⊥
+  not-alike : alikeFrom (r .read .public) 0 (r .read .init) vs ≡ false → AlikePublic f second → ⊥
   not-alike e h =
-      let p = passed f (r .job) (r .parsed) in
-      let h′ : AlikeOn (r .job .public) (r .job .init) vs = rw (second-words, job-public p, job-init p) h in
+      let p = passed f (r .read) (r .parsed) in
+      let h′ : AlikeOn (r .read .public) (r .read .init) vs = rw (second-words, job-public p, job-init p) h in
       true≢false
-      (sym (found-alike (r .job .public) 0 (r .job .init) vs same-size (λ j m. h′ .same j (let z : 0 + j ≡ j = omega arith in rw z at m))) ∙ e)
+      (sym (found-alike (r .read .public) 0 (r .read .init) vs same-size (λ j m. h′ .same j (let z : 0 + j ≡ j = omega arith in rw z at m))) ∙ e)
 
   -- ---- the stops
   both-finished : (isFinished (run₁ .stop) && isFinished (run₂ .stop)) ≡ true → BothFinished (counts run₁) (counts run₂)
@@ -187,22 +193,28 @@ module _ {f second : List ℕ} {a : PairAreas} (r : Pairs f second a) where
 
   -- ---- the plain traces
   abbrev plain₁ : List ℕ
-  plain₁ = traceWords (plainRun (r .job) k .gathered .trace)
+  plain₁ = traceWords (plainRun pairJob k .gathered .trace)
 
   abbrev plain₂ : List ℕ
   plain₂ = traceWords (plainRun other k .gathered .trace)
 
+  -- a plain run of a file has no table, and is that of the job with any table
+  plain-runs : (g : List ℕ) (job : Job) (p : Areas) → parse g ≡ accepted job → longEnough job p ≡ true → RunAreas f a p
+      → plainTraceOf g p ≡ traceWords (plainRun (withCosts job costs) k .gathered .trace)
+  plain-runs g job p q e h =
+      plain-trace-runs (record { job = job; parsed = q; enough = e })
+      ∙ ap (λ (x : Result). traceWords (x .gathered .trace)) (ap (plainRun job) (run-room h) ∙ sym (plain-any-table job costs k))
+
   plain-first : (p : Areas) → RunAreas f a p → plainTraceOf f p ≡ plain₁
-  plain-first p h =
-      plain-trace-runs (record { job = r .job; parsed = r .parsed; enough = long-enough h (r .job) init-size })
-      ∙ ap (λ (n : ℕ). traceWords (plainRun (r .job) n .gathered .trace)) (run-room h)
+  plain-first p h = plain-runs f (r .read) p (r .parsed) (long-enough h (r .read) init-size) h
 
   plain-second : (g : List ℕ) (p : Areas) → SecondJob f second g → RunAreas f a p → plainTraceOf g p ≡ plain₂
+  unfolding withState
   plain-second g p s h =
-      let q : parse g ≡ accepted other =
-      parse-other (r .parsed) (s .same) ∙ ap (λ (ws : List ℕ). accepted (withState (r .job) ws)) (s .state ∙ sym second-words) in
-      plain-trace-runs (record { job = other; parsed = q; enough = long-enough h other (unfold withState in sym same-size ∙ init-size) })
-      ∙ ap (λ (n : ℕ). traceWords (plainRun other n .gathered .trace)) (run-room h)
+      let j = withState (r .read) vs in
+      let q : parse g ≡ accepted j =
+      parse-other (r .parsed) (s .same) ∙ ap (λ (ws : List ℕ). accepted (withState (r .read) ws)) (s .state ∙ sym second-words) in
+      plain-runs g j p q (long-enough h j (sym same-size ∙ init-size)) h
 
   pub same-plain : sameWords plain₁ plain₂ ≡ true → SamePlain f second a
   same-plain e = record {
@@ -241,7 +253,7 @@ module _ {f second : List ℕ} {a : PairAreas} (r : Pairs f second a) where
 
   abbrev PairChosen : PairWord → Type 0
   PairChosen w =
-      Chosen w (alikeFrom (r .job .public) 0 (r .job .init) vs) (isFinished (run₁ .stop) && isFinished (run₂ .stop)) (sameWords plain₁ plain₂)
+      Chosen w (alikeFrom (r .read .public) 0 (r .read .init) vs) (isFinished (run₁ .stop) && isFinished (run₂ .stop)) (sameWords plain₁ plain₂)
       (sameWords full₁ full₂)
 
   meaning : (w : PairWord) → PairChosen w → PairMeans w
@@ -251,53 +263,61 @@ module _ {f second : List ℕ} {a : PairAreas} (r : Pairs f second a) where
   meaning words.LeakShown c = (is-alike (c .0), both-finished (c .1), same-plain (c .2), other-traces (c .3))
   meaning words.Equal c = (is-alike (c .0), both-finished (c .1), same-plain (c .2), same-traces (c .3))
 
-  word-means : PairMeans (pairWord (r .job) vs k)
+  word-means : PairMeans (pairWord pairJob vs k)
   unfolding pairWord sameTrace
   word-means =
-      meaning (pairWord (r .job) vs k)
-      (chosen-fits (alikeFrom (r .job .public) 0 (r .job .init) vs) (isFinished (run₁ .stop) && isFinished (run₂ .stop)) (sameWords plain₁ plain₂)
+      meaning (pairWord pairJob vs k)
+      (chosen-fits (alikeFrom (r .read .public) 0 (r .read .init) vs) (isFinished (run₁ .stop) && isFinished (run₂ .stop)) (sameWords plain₁ plain₂)
       (sameWords full₁ full₂))
 
 -- ---- every call is refused, or compares
-data PairView (f second : List ℕ) (a : PairAreas) : Type 0 where
-  compared : Pairs f second a → PairView f second a
-  refused : (n : Refusal) → pairCall f second a ≡ pairRefused n a → PairView f second a
+data PairView (f second costs : List ℕ) (a : PairAreas) : Type 0 where
+  compared : Pairs f second costs a → PairView f second costs a
+  refused : (n : Refusal) → pairCall f second costs a ≡ pairRefused n a → PairView f second costs a
 
-pair-view : (f second : List ℕ) (a : PairAreas) → PairView f second a
-unfolding pairCall pairParsed
-pair-view f second a = go (parse f) refl
+pair-view : (f second costs : List ℕ) (a : PairAreas) → PairView f second costs a
+unfolding pairCall pairParsed pairTabled
+pair-view f second costs a = go (parse f) refl
   where
-    fits : (job : Job) → parse f ≡ accepted job → (b c : Bool) → secondFits job second ≡ b → pairFits a ≡ c → PairView f second a
-    fits job q true true s e = compared (record { job = job; parsed = q; sized = s; enough = e })
-    fits job q true false s e = refused refusals.Areas (rw (q, s, e, pairParsed))
-    fits job q false c s e = refused refusals.SecondState (rw (q, s, pairParsed))
+    -- 9, then 14, then 10
+    tests : (job : Job) → parse f ≡ accepted job → (b t c : Bool) → secondFits job second ≡ b → costsFit costs ≡ t → pairFits a ≡ c
+        → PairView f second costs a
+    tests job q true true true s u e = compared (record { read = job; parsed = q; sized = s; fits = u; enough = e })
+    tests job q true true false s u e = refused refusals.Areas (rw (tabled-accepted f costs job q u, q, s, e, pairParsed, pairTabled))
+    tests job q true false c s u e = refused refusals.Costs (rw (tabled-refused f costs job q u, q, s, pairParsed, pairTabled))
+    tests job q false t c s u e = refused refusals.SecondState (rw (q, s, pairParsed))
 
-    go : (P : Parsed) → parse f ≡ P → PairView f second a
+    go : (P : Parsed) → parse f ≡ P → PairView f second costs a
     go (rejected n) q = refused n (rw (q, pairParsed))
-    go (accepted job) q = fits job q (secondFits job second) (pairFits a) refl refl
+    go (accepted job) q = tests job q (secondFits job second) (costsFit costs) (pairFits a) refl refl refl
 
 refused-compared : {P : Type 0} {m : Refusal} {w : PairWord} {n n′ : Counts} → pairs.Refused m ≡ pairs.Compared w n n′ → P
 refused-compared {P} {m} {w} {n} {n′} e = absurd (let z : _≡_ {A = ℕ} 0 1 = cc in omega arith)
 
-pub pair-meaning : (f second : List ℕ) (a : PairAreas) → PairMeaning f second a (pairCall f second a .answer) (pairCall f second a .areas)
-pair-meaning f second a = record { compared = λ {word} {n} {n′} e. go word n n′ e (pair-view f second a) }
+pub pair-meaning : (f second costs : List ℕ) (a : PairAreas) → PairMeaning f second a (pairCall f second costs a .answer) (pairCall f second costs a .areas)
+pair-meaning f second costs a = record { compared = λ {word} {n} {n′} e. go word n n′ e (pair-view f second costs a) }
   where
-    go : (w : PairWord) (n n′ : Counts) → pairCall f second a .answer ≡ pairs.Compared w n n′ → PairView f second a
-        → Means w f second a n n′ (pairCall f second a .areas)
+    go : (w : PairWord) (n n′ : Counts) → pairCall f second costs a .answer ≡ pairs.Compared w n n′ → PairView f second costs a
+        → Means w f second a n n′ (pairCall f second costs a .areas)
     go w n n′ e (refused m q) = unfold pairRefused in refused-compared (rw q at e)
     go w n n′ e (compared r) =
         unfold pairAccepted in
-        let q : pairs.Compared (pairWord (r .job) (vs r) (k r)) (counts (run₁ r)) (counts (run₂ r)) ≡ pairs.Compared w n n′ = rw (pair-runs r) at e in
-        let q₀ : pairWord (r .job) (vs r) (k r) ≡ w = cc in
+        let q : pairs.Compared (pairWord (pairJob r) (vs r) (k r)) (counts (run₁ r)) (counts (run₂ r)) ≡ pairs.Compared w n n′ = rw (pair-runs r) at e in
+        let q₀ : pairWord (pairJob r) (vs r) (k r) ≡ w = cc in
         let q₁ : counts (run₁ r) ≡ n = cc in
         let q₂ : counts (run₂ r) ≡ n′ = cc in
         rw (← q₀, ← q₁, ← q₂, pair-runs r) (word-means r)
 
 -- a refusal leaves every area as it was
-pub pair-unaltered : (f second : List ℕ) (a : PairAreas)
-    → Unaltered pairRefusal (pairCall f second a .answer) a (pairCall f second a .areas)
-pair-unaltered f second a = go (pair-view f second a)
+pub pair-unaltered : (f second costs : List ℕ) (a : PairAreas)
+    → Unaltered pairRefusal (pairCall f second costs a .answer) a (pairCall f second costs a .areas)
+pair-unaltered f second costs a = go (pair-view f second costs a)
   where
-    go : PairView f second a → Unaltered pairRefusal (pairCall f second a .answer) a (pairCall f second a .areas)
-    go (refused m q) = left-alone pairRefusal (pairCall f second a) a (unfold pairRefused in rw q)
-    go (compared r) = carried-out pairRefusal (pairCall f second a) a (unfold pairAccepted in rw (pair-runs r))
+    go : PairView f second costs a → Unaltered pairRefusal (pairCall f second costs a .answer) a (pairCall f second costs a .areas)
+    go (refused m q) = left-alone pairRefusal (pairCall f second costs a) a (unfold pairRefused in rw q)
+    go (compared r) = carried-out pairRefusal (pairCall f second costs a) a (unfold pairAccepted in rw (pair-runs r))
+
+-- "a table of eight ones gives every earlier answer"
+pub ones-pair : (f second : List ℕ) (a : PairAreas) → pairCall f second windowCosts a ≡ fixedPairCall f second a
+unfolding pairCall fixedPairCall
+ones-pair f second a = ap (λ (P : Parsed). pairParsed (parse f) P second a) (ones-tabled f)

@@ -20,7 +20,7 @@ use Rattle.rules.specs.Theorems.Secrecy.{SameResult, same-run, same-firs
 -- ---- in a plain run nothing is ever open, so that D is the plain set
 module _ (code : Code) where
   -- a plain step opens nothing
-  stays-closed : (M : Machine) → M .branches ≡ [] → plainStep code M .next .branches ≡ []
+  pub stays-closed : (M : Machine) → M .branches ≡ [] → plainStep code M .next .branches ≡ []
   unfolding plainStep ordinary lower
   stays-closed M e = ap (lower code (fetch code (M .place))) e
 

@@ -1,7 +1,7 @@
 -- The five ways a run of the machine goes on, the induction over a run, and what every run keeps: at most b steps, at most
 -- the room's observations, and D only grows and holds the plain set.
 -- Assumes nothing.
-use mathlib.Core.Path.{_≡_, refl, sym}
+use mathlib.Core.Path.{_≡_, refl, sym, _∙_}
 use mathlib.Core.Bool.{Bool, true, false}
 use mathlib.Core.List.{List, [], _∷_}
 use Prim.Native.Nat.{ℕ, zero, suc, _+_, _≤_}
@@ -177,3 +177,19 @@ module _ (job : Job) (room : ℕ) where
   pub plain-trace : length (plainRun job room .gathered .trace) ≤ room
   unfolding plainRun blank
   plain-trace = trace-bound (plainStep (job .code)) (job .code) room (job .budget) (first job) blank (omega arith)
+
+-- Two step functions that agree on machines of a class which the first one keeps make the same run from such a machine.
+module _ (f f′ : Machine → Step) (code code′ : Code) (room : ℕ) (C : Machine → Type 0)
+    (same : (M : Machine) → C M → f M ≡ f′ M)
+    (keeps : (M : Machine) → C M → C (f M .next))
+    (overs : (M : Machine) → over code′ M ≡ over code M) where
+  pub run-same : (k : ℕ) (M : Machine) (g : Gathered) → C M → run f code room k M g ≡ run f′ code′ room k M g
+  run-same =
+      run-ind f code room (λ k M g r. C M → r ≡ run f′ code′ room k M g)
+      (λ k M g e c. sym (run-over f′ code′ room k M g (overs M ∙ e)))
+      (λ M g e c. sym (run-spent f′ code′ room M g (overs M ∙ e)))
+      (λ k M g e h c. sym (run-full f′ code′ room k M g (overs M ∙ e) (rw (← same M c) h)))
+      (λ k M g e h o c.
+      rw (same M c) (sym (run-outside f′ code′ room k M g (overs M ∙ e) (rw (← same M c) h) (rw (← same M c) o))))
+      (λ k M g e h p c.
+      p (keeps M c) ∙ rw (same M c) (sym (run-step f′ code′ room k M g (overs M ∙ e) (rw (← same M c) h))))

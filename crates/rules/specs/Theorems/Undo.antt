@@ -13,30 +13,17 @@ use lib.Seq.{set-set, set-getD}
 use Rattle.location.specs.Sets.{registerLocation, cellLocation, empty}
 use Rattle.rules.specs.declared.Tagged.{Tagged}
 use Rattle.rules.specs.Rules.Expressions.{tagged, eval}
-use Rattle.rules.specs.Rules.Instructions.{Instr, skip, assign, load, store, jmp, beqz, cassign, spbarr, kind, isBarrier, other, branchView, windowCosts}
+use Rattle.rules.specs.Rules.Instructions.{Instr, skip, assign, load, store, jmp, beqz, cassign, spbarr, kind, isBarrier, other, branchView}
 use Rattle.rules.specs.Rules.Plain.{State, Entry, at, put, withOutside, Code, fetch, joined, storedTo, branchTo, exec}
 use Rattle.rules.specs.Rules.Mispredicting.{Branch, Machine, Step, remaining, lowered, lower, ordinary, newWindow, opening, forward, rolling, step}
 use Rattle.rules.specs.Rules.Outside.{recall, remember, remembers}
 use Rattle.rules.specs.Rules.Changes.{Change, replaced, added, changeOf, position, tableChange, changes, revert, restore}
-use Rattle.rules.specs.Rules.Changes.{UndoLog, size, withChanges, dropped, logForward, logBy, logAfter}
+use Rattle.rules.specs.Rules.Changes.{UndoLog, size, withChanges, dropped, logForward, logBy, logAfter, Live, live-first, live-next}
 use Rattle.rules.specs.Rules.Loop.{ended}
-use Rattle.rules.specs.Rules.Runs.{over, Job, first, blank, mispredictingRun}
+use Rattle.rules.specs.Rules.Runs.{run, Job, first, blank}
 use Rattle.rules.specs.Theorems.RunLaws.{run-ind}
 use Rattle.rules.specs.Theorems.Outside.{replaced-back, added-back}
 use Rattle.rules.specs.Theorems.StepLaws.{machineWith, branchWith, forward-cases, forward-back, expired-false, step-cases}
-
--- ---- the machines that a run comes to
--- the first, and the next of one that is not over
-pub data Reached (job : Job) : Machine → Type 0 where
-  at-first : Reached job (first job)
-  at-next : {M : Machine} → over (job .code) M ≡ false → Reached job M → Reached job (step (job .code) M .next)
-
--- "Execution starts at label 0", and each step goes to the next: a run ends at one of them.
-pub last-reached : (job : Job) (room : ℕ) → Reached job (mispredictingRun job room .last)
-unfolding mispredictingRun ended
-last-reached job room =
-    run-ind (step (job .code)) (job .code) room (λ k M g r. Reached job M → Reached job (r .last)) (λ k M g e x. x) (λ M g e x. x)
-    (λ k M g e h x. x) (λ k M g e h o x. x) (λ k M g e h p x. p (at-next e x)) (job .budget) (first job) blank at-first
 
 -- ---- undoing
 pub put-back : (σ : State) (l : ℕ) (t : Tagged) → put (put σ l t) l (at σ l) ≡ σ
@@ -88,30 +75,10 @@ changes-one code σ (beqz r l) = omega arith
 changes-one code σ (cassign r c e) = omega arith
 changes-one code σ spbarr = omega arith
 
--- ---- the changes that are live
--- the machines that a mispredicting run comes to, with the changes that are live there
-pub data Live (job : Job) : Machine → UndoLog → Type 0 where
-  live-first : Live job (first job) []
-  live-next : {M : Machine} {us : UndoLog} → over (job .code) M ≡ false → Live job M us
-      → Live job (step (job .code) M .next) (logAfter (job .code) M us)
-
 -- ---- windows
--- "a constant table of eight window costs, all 1 here": every instruction costs at least 1
+-- by the table every instruction costs at least 1
 pub record PositiveCosts (costs : List ℕ) : Type 0 where
   pub each : (i : Instr) → 1 ≤ getD costs (kind i) 0
-
-pub windowCosts-positive : PositiveCosts windowCosts
-windowCosts-positive = record { each = one }
-  where
-    one : (i : Instr) → 1 ≤ getD windowCosts (kind i) 0
-    one skip = unfold windowCosts in omega arith
-    one (assign r e) = unfold windowCosts in omega arith
-    one (load r e) = unfold windowCosts in omega arith
-    one (store r e) = unfold windowCosts in omega arith
-    one (jmp e) = unfold windowCosts in omega arith
-    one (beqz r l) = unfold windowCosts in omega arith
-    one (cassign r c e) = unfold windowCosts in omega arith
-    one spbarr = unfold windowCosts in omega arith
 
 -- so a window that is lowered falls
 pub remaining-less : (code : Code) → PositiveCosts (code .costs) → (i : Instr) (v : ℕ) → v ≢ 0 → remaining code i v + 1 ≤ v
@@ -230,13 +197,12 @@ module _ (job : Job) (positive : PositiveCosts (job .code .costs)) where
   pub live-bounded : {M : Machine} {us : UndoLog} → Live job M us → Bounded (job .code .window) M us
   live-bounded l = bounded (live-restores l)
 
--- every machine that a mispredicting run comes to has its live changes
-pub reached-live : {job : Job} {M : Machine} → Reached job M → (us : UndoLog) × Live job M us
-reached-live at-first = ([], live-first)
-reached-live {job} (at-next {M = M} e r) = let l = reached-live r in (logAfter (job .code) M (l .0), live-next e (l .1))
-
--- "At most w + 1 branches are open", and an undo log of at most w changes serves them all: at every machine that a mispredicting run
--- of a job comes to, with document 01's window costs.
-pub reached-bounded : (job : Job) → job .code .costs ≡ windowCosts → {M : Machine} → Reached job M
-    → (us : UndoLog) × Bounded (job .code .window) M us
-reached-bounded job same r = let l = reached-live r in (l .0, live-bounded job (rw same windowCosts-positive) (l .1))
+-- "Execution starts at label 0", and each step goes to the next: a run stops at one of the machines that it comes to, whatever the budget and
+-- the room are.
+pub last-live : (job : Job) (room budget : ℕ) → (us : UndoLog) × Live job (run (step (job .code)) (job .code) room budget (first job) blank .last) us
+unfolding ended
+last-live job room budget =
+    run-ind (step (job .code)) (job .code) room
+    (λ k M g r. (us : UndoLog) → Live job M us → (vs : UndoLog) × Live job (r .last) vs)
+    (λ k M g e us x. (us, x)) (λ M g e us x. (us, x)) (λ k M g e h us x. (us, x)) (λ k M g e h o us x. (us, x))
+    (λ k M g e h p us x. p (logAfter (job .code) M us) (live-next e x)) budget (first job) blank [] live-first

@@ -12,15 +12,15 @@ assign-requires : tie.Need-assign-requires
 assign-requires c κs =
     let at-register = c .before .before in
     let at-remaining-window = at-register .before in
-    let at-start = at-remaining-window .before .before .before in
+    let at-start = at-remaining-window .before .before .before .before in
     let p = at-start .pre in
     let r = at-register .register .ensures in
     let h = p .3 in
-    (p .0 .fits, at-remaining-window .remaining-window .ensures .left (p .0 .window), omega arith)
+    (p .0 .fits, at-remaining-window .remaining-window .ensures .left (p .0 .costs) (p .0 .window), omega arith)
 
 count-step-requires : tie.Need-count-step-requires
 count-step-requires c κs =
-    let at-start = c .before .before .before .before .before .before .before .before .before .before in
+    let at-start = c .before .before .before .before .before .before .before .before .before .before .before in
     let p = at-start .pre in omega (arith, p .2, at-start .good)
 
 returns : tie.Need-returns
@@ -29,7 +29,7 @@ returns c =
     let at-assign = at-empty .before .before .before in
     let at-register = at-assign .before .before .before in
     let at-remaining-window = at-register .before in
-    let at-start = at-remaining-window .before .before .before in
+    let at-start = at-remaining-window .before .before .before .before in
     let a = at-start .args in
     λ t cells most. record {
       made = λ p code ec costs.

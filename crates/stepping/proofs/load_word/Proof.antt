@@ -13,11 +13,11 @@ assign-requires : tie.Need-assign-requires
 assign-requires c κs =
     let at-register = c .before .before in
     let at-remaining-window = at-register .before .before .before .before .before in
-    let at-start = at-remaining-window .before .before .before .before .before in
+    let at-start = at-remaining-window .before .before .before .before .before .before in
     let p = at-start .pre in
     let r = at-register .register .ensures in
     let h = p .1 in
-    (p .0 .unexpired .fits, at-remaining-window .remaining-window .ensures .left (p .0 .unexpired .window), omega arith)
+    (p .0 .unexpired .fits, at-remaining-window .remaining-window .ensures .left (p .0 .unexpired .costs) (p .0 .unexpired .window), omega arith)
 
 returns : tie.Need-returns
 returns c =
@@ -25,7 +25,7 @@ returns c =
     let at-register = at-assign .before .before .before in
     let at-observe = at-register .before .before .before in
     let at-remaining-window = at-observe .before .before in
-    let at-start = at-remaining-window .before .before .before .before .before in
+    let at-start = at-remaining-window .before .before .before .before .before .before in
     let a = at-start .args in
     λ cells most. record {
       made = λ p code ec costs.

@@ -15,24 +15,25 @@ add-next c =
 open-branch-requires : tie.Need-open-branch-requires
 open-branch-requires c κs =
     let at-remaining-window = c .before in
-    let at-start = at-remaining-window .before .before .before .before .before .before .before .before .before in
+    let at-start = at-remaining-window .before .before .before .before .before .before .before .before .before .before in
     let q = at-start .pre .0 in (
       q .unexpired .fits,
       (
-        at-remaining-window .remaining-window .ensures .left (q .unexpired .window),
+        at-remaining-window .remaining-window .ensures .left (q .unexpired .costs) (q .unexpired .window),
         (at-start .pre .4, at-start .pre .1),
       ),
     )
 
 observe-branch-requires : tie.Need-observe-branch-requires
 observe-branch-requires c κs =
-    let at-start = c .before .before .before .before .before .before .before .before .before .before .before .before .before .before in
+    let back-1 = c .before .before .before .before .before .before .before .before in
+    let at-start = back-1 .before .before .before .before .before .before .before in
     omega (arith, at-start .pre .0 .room)
 
 count-step-requires : tie.Need-count-step-requires
 count-step-requires c κs =
     let back-1 = c .before .before .before .before .before .before .before .before .before .before .before .before in
-    let at-start = back-1 .before .before .before .before .before .before in
+    let at-start = back-1 .before .before .before .before .before .before .before in
     omega (arith, at-start .pre .0 .room, at-start .pre .0 .steps, at-start .good .1 .0)
 
 returns : tie.Need-returns
@@ -40,7 +41,7 @@ returns c =
     let at-observe-branch = c .before .before .before .before in
     let at-open-branch = at-observe-branch .before .before .before .before in
     let at-remaining-window = at-open-branch .before .before in
-    let at-branch-to2 = at-remaining-window .before in
+    let at-branch-to2 = at-remaining-window .before .before in
     let at-index = at-branch-to2 .before in
     let at-new = at-index .before in
     let at-branch-to = at-new .before in

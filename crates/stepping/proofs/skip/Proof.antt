@@ -10,7 +10,7 @@ returns c =
     let at-go = at-empty .before in
     let at-remaining-window = at-go .before .before in
     let k = kept (at-remaining-window .remaining-window .ensures) (at-go .go .ensures) (at-empty .empty .ensures) (c .count-step .ensures) in
-    (k, λ w t cells live most. kept-silently live most k)
+    (k, λ t cells live most. kept-silently live most k)
 
 pub skip-spec : {M : Type 1} → statement M
 skip-spec =

@@ -24,7 +24,8 @@ returns c =
 
 add-place : tie.Need-add-place
 add-place c =
-    let at-start = c .before .before .before .before .before .before .before .before .before .before .before .before .before .before .before .before .before in
+    let at-if1 = c .before .before .before .before .before .before .before .before .before in
+    let at-start = at-if1 .before .before .before .before .before .before .before .before .before in
     let h = at-start .pre .0 .place in
     record { fits = h }
 
@@ -33,18 +34,18 @@ assign-requires c κs =
     let at-cell = c .before .before in
     let at-new = at-cell .before in
     let at-remaining-window = at-new .before .before .before .before .before in
-    let at-if1 = at-remaining-window .before in
+    let at-if1 = at-remaining-window .before .before in
     let at-start = at-if1 .before .before .before .before .before .before .before .before .before in
     let p = at-start .pre in
     let l = at-cell .cell .ensures in
     let n = at-new .new .ensures in
     let h = at-if1 .if1 .left in
     let m = p .2 in
-    (p .0 .unexpired .fits, at-remaining-window .remaining-window .ensures .left (p .0 .unexpired .window), omega arith)
+    (p .0 .unexpired .fits, at-remaining-window .remaining-window .ensures .left (p .0 .unexpired .costs) (p .0 .unexpired .window), omega arith)
 
 count-step-requires : tie.Need-count-step-requires
 count-step-requires c κs =
-    let at-if1 = c .before .before .before .before .before .before .before .before .before .before .before .before in
+    let at-if1 = c .before .before .before .before .before .before .before .before .before .before .before .before .before in
     let at-start = at-if1 .before .before .before .before .before .before .before .before .before in
     let p = at-start .pre in
     omega (arith, p .0 .room, p .0 .steps, at-start .good)
@@ -56,7 +57,7 @@ returns-2 c =
     let at-new = at-cell .before in
     let at-observe = at-new .before .before .before in
     let at-remaining-window = at-observe .before .before in
-    let at-if1 = at-remaining-window .before in
+    let at-if1 = at-remaining-window .before .before in
     let at-joined = at-if1 .before in
     let at-load = at-joined .before in
     let at-register = at-load .before in

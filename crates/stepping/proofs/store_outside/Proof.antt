@@ -7,9 +7,9 @@ use Rattle.stepping.proofs.store_outside.Tie as tie
 store-requires : tie.Need-store-requires
 store-requires c κs =
     let at-remaining-window = c .before .before in
-    let at-start = at-remaining-window .before .before .before .before .before in
+    let at-start = at-remaining-window .before .before .before .before .before .before in
     let p = at-start .pre in
-    (p .unexpired .fits, at-remaining-window .remaining-window .ensures .left (p .unexpired .window), p .place)
+    (p .unexpired .fits, at-remaining-window .remaining-window .ensures .left (p .unexpired .costs) (p .unexpired .window), p .place)
 
 returns : tie.Need-returns
 returns c =

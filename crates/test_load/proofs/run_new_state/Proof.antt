@@ -9,13 +9,13 @@ use Rattle.test_load.proofs.run_new_state.Tie as tie
 
 locations-requires : tie.Need-locations-requires
 locations-requires c κs =
-    let at-start = c .before .before .before .before .before in
+    let at-start = c .before .before .before .before .before .before in
     let l = accepted-limits (at-start .pre .0 .ready .accepts) .cells in omega arith
 
 write-state-requires : tie.Need-write-state-requires
 write-state-requires c κs =
     let at-locations = c .before .before in
-    let at-start = at-locations .before .before .before .before .before .before in
+    let at-start = at-locations .before .before .before .before .before .before .before in
     let k = at-start .pre .0 in
     let n = at-locations .locations .ensures in
     let e = accepted-list (k .ready .accepts) in
@@ -26,7 +26,7 @@ write-state-requires c κs =
 mul-size : tie.Need-mul-size
 mul-size c =
     let at-locations = c .before .before .before .before .before in
-    let at-start = at-locations .before .before .before .before .before .before in
+    let at-start = at-locations .before .before .before .before .before .before .before in
     let n = at-locations .locations .ensures in
     let l = accepted-limits (at-start .pre .0 .ready .accepts) .cells in omega arith
 
@@ -35,7 +35,7 @@ run-second-requires c κs =
     let at-write = c .before .before .before .before .before .before in
     let at-union = at-write .before .before in
     let at-locations = at-union .before in
-    let at-known = at-locations .before .before .before .before .before in
+    let at-known = at-locations .before .before .before .before .before .before in
     let at-start = at-known .before in
     let a = at-start .args in
     let k = at-start .pre in (
@@ -53,7 +53,7 @@ returns c =
     let at-write = at-second .before .before .before .before .before .before .before in
     let at-union = at-write .before .before in
     let at-locations = at-union .before in
-    let at-known = at-locations .before .before .before .before .before in
+    let at-known = at-locations .before .before .before .before .before .before in
     let at-start = at-known .before in
     let a = at-start .args in
     new-state-ran (a .t) (record { each = λ i. omega (arith, at-known .shared-slice-known .given i) }) (union (a .public) (a .plain)) (a .seed)

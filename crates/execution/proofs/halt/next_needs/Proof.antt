@@ -104,7 +104,7 @@ returns-4 c mode s =
     let w = a .work .now in
     let k = a .c in
     let code = codeIn p (a .t) (drop labels w) in
-    let ec = code-of p (a .t) (drop labels w) .cells in
+    let ec = code-of p (a .t) w .cells in
     let g = advance-named k (a .t .count) w (locations (a .t))
     (sym (at-enum-told3 .enum-told3 .given .1) ∙ at-rule-of .rule-of .ensures w (locations (a .t))) in
     let same = at-instruction-of .instruction-of .ensures

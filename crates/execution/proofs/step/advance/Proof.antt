@@ -22,16 +22,16 @@ word-of-requires c κs =
 
 skip-requires : tie.Need-skip-requires
 skip-requires c κs =
-    let at-new = c .before .before .before .before in
+    let at-new = c .before .before .before .before .before in
     let at-start = at-new .before .before .before .before .before in
     let i = at-start .pre .inside in
     let m = at-start .pre .ready .steady .loaded .limits .count-most in
     let s = at-start .pre .ready .counted .steps in
-    (omega arith, omega arith)
+    (at-start .pre .ready .steady .fits .room, omega arith, omega arith)
 
 returns : tie.Need-returns
 returns c =
-    let at-if1 = c .before in
+    let at-if1 = c .before .before in
     let at-is-skip = at-if1 .before in
     let at-word-of = at-is-skip .before in
     let at-new = at-word-of .before .before in
@@ -42,22 +42,27 @@ returns c =
     let l = at-start .pre .ready .steady .loaded .limits .cells in
     let b = skip-bare (descriptorAt w (a .c .control)) (rw z at (sym (at-is-skip .is-skip .ensures) ∙ at-if1 .if1 .taken)) in
     bare-made (at-start .pre) (b .0) (b .1)
-    (c .skip .ensures .1 w (a .trace .now) (a .t .cells)
-    (record { fits = at-start .pre .ready .steady .fits; window = at-start .pre .window }) (omega arith))
+    (c .skip .ensures .1 (a .trace .now) (a .t .cells)
+    (record {
+      fits = at-start .pre .ready .steady .fits;
+      costs = at-start .pre .ready .steady .loaded .costs;
+      window = at-start .pre .window;
+    })
+    (omega arith))
 
 skip-requires-2 : tie.Need-skip-requires-2
 skip-requires-2 c κs =
-    let at-new = c .before .before .before .before .before .before .before in
+    let at-new = c .before .before .before .before .before .before .before .before in
     let at-start = at-new .before .before .before .before .before in
     let i = at-start .pre .inside in
     let m = at-start .pre .ready .steady .loaded .limits .count-most in
     let s = at-start .pre .ready .counted .steps in
-    (omega arith, omega arith)
+    (at-start .pre .ready .steady .fits .room, omega arith, omega arith)
 
 returns-2 : tie.Need-returns-2
 returns-2 c =
     let at-bare-in = c .before in
-    let at-if2 = at-bare-in .before in
+    let at-if2 = at-bare-in .before .before in
     let at-is-bare = at-if2 .before in
     let at-word-of = at-is-bare .before .before .before in
     let at-new = at-word-of .before .before in
@@ -67,8 +72,13 @@ returns-2 c =
     let z = at-word-of .word-of .ensures ∙ ap (λ (i : ℕ). getD w (labels + i) 0) (at-new .new .ensures) in
     let l = at-start .pre .ready .steady .loaded .limits .cells in
     bare-made (at-start .pre) (rw z at (sym (at-is-bare .is-bare .ensures) ∙ at-if2 .if2 .taken)) (rw z at (at-bare-in .bare-in .ensures (a .p .now)))
-    (c .skip2 .ensures .1 w (a .trace .now) (a .t .cells)
-    (record { fits = at-start .pre .ready .steady .fits; window = at-start .pre .window }) (omega arith))
+    (c .skip2 .ensures .1 (a .trace .now) (a .t .cells)
+    (record {
+      fits = at-start .pre .ready .steady .fits;
+      costs = at-start .pre .ready .steady .loaded .costs;
+      window = at-start .pre .window;
+    })
+    (omega arith))
 
 advance-by-requires : tie.Need-advance-by-requires
 advance-by-requires c κs =

@@ -49,7 +49,11 @@ open-branch-requires c κs =
     let opened = at-start .pre .0 .ready .counted .opened in
     let room = branch-room (a .p .now) (a .t) (a .mode) (a .work .now) k g same (a .c .observations) (length (a .trace .now)) (at-start .pre .0 .room) o in (
       record {
-        unexpired = record { fits = at-start .pre .0 .ready .steady .fits; window = at-start .pre .0 .window };
+        unexpired = record {
+          fits = at-start .pre .0 .ready .steady .fits;
+          costs = at-start .pre .0 .ready .steady .loaded .costs;
+          window = at-start .pre .0 .window;
+        };
         room = room;
         place = omega arith;
         steps = omega arith;
@@ -90,7 +94,11 @@ carry-out-requires c κs =
     let l = at-start .pre .0 .ready .steady .loaded .limits .count-most in
     let i = at-start .pre .0 .inside in
     record {
-      unexpired = record { fits = at-start .pre .0 .ready .steady .fits; window = at-start .pre .0 .window };
+      unexpired = record {
+        fits = at-start .pre .0 .ready .steady .fits;
+        costs = at-start .pre .0 .ready .steady .loaded .costs;
+        window = at-start .pre .0 .window;
+      };
       counted = at-start .pre .0 .ready .counted;
       place = omega arith;
       limits = at-start .pre .0 .ready .steady .loaded .limits;
@@ -142,7 +150,7 @@ returns-2 c =
     refl (at-start .pre .1) in
     let limits = at-start .pre .0 .ready .steady .loaded .limits in
     let most = locations-most limits in
-    let s = code-of (a .p .now) (a .t) (drop labels w) in
+    let s = code-of (a .p .now) (a .t) w in
     let step = branch-step (a .p .now) (a .t) (a .mode) w k (still-going (at-start .pre .0 .inside) (at-start .pre .0 .window)) same o in
     let value = rw (o .1) at (at-source-value .source-value .ensures) ∙ register-value _ _ in
     tried-as step (opened-tried _ n _ _ _ _ (at-source-value .source-value .result) (in-state w n _ value (rw (o .1) at (v .below)) (omega arith))
@@ -168,7 +176,7 @@ returns-3 c =
     let code = codeIn (a .p .now) (a .t) (drop labels w) in
     let step = other-step (a .p .now) (a .t) (a .mode) w k (still-going (at-start .pre .0 .inside) (at-start .pre .0 .window)) same o in
     let e = ap (ordinary code (machineOf w k n)) (at-instruction-of .instruction-of .ensures) in
-    tried-as (e ∙ step) (at-carry-out .carry-out .ensures .tried code (code-of (a .p .now) (a .t) (drop labels w)))
+    tried-as (e ∙ step) (at-carry-out .carry-out .ensures .tried code (code-of (a .p .now) (a .t) w))
 
 pub advance-by-spec : {M : Type 1} → statement M
 advance-by-spec =

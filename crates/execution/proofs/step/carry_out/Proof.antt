@@ -18,8 +18,11 @@ add-next c =
 
 skip-requires : tie.Need-skip-requires
 skip-requires c κs =
-    let at-start = c .before .before .before .before .before .before .before .before .before in
-    let h = at-start .pre .place in let s = at-start .pre .counted .steps in (omega arith, omega arith)
+    let at-match = c .before .before in
+    let at-start = at-match .before .before .before .before .before .before .before .before in
+    let h = at-start .pre .place in
+    let s = at-start .pre .counted .steps in
+    (at-start .pre .unexpired .fits .room, omega arith, omega arith)
 
 assign-requires : tie.Need-assign-requires
 assign-requires c κs =
@@ -58,15 +61,17 @@ store-requires c κs =
 
 go-to-requires : tie.Need-go-to-requires
 go-to-requires c κs =
-    let at-enum-told2 = c .before .before .before .before in
+    let at-enum-told2 = c .before .before .before .before .before in
     let at-start = at-enum-told2 .before .before .before .before .before .before .before .before .before in
-    let s = at-start .pre .counted .steps in (jump-shown (at-start .pre) (at-enum-told2 .enum-told2 .given .1), omega arith)
+    let s = at-start .pre .counted .steps in
+    (at-start .pre .unexpired .fits .room, jump-shown (at-start .pre) (at-enum-told2 .enum-told2 .given .1), omega arith)
 
 go-to-requires-2 : tie.Need-go-to-requires-2
 go-to-requires-2 c κs =
-    let at-i4 = c .before .before .before .before .before in
+    let at-i4 = c .before .before .before .before .before .before in
     let at-start = at-i4 .before .before .before .before .before .before .before .before .before in
-    let s = at-start .pre .counted .steps in (branch-shown (at-start .pre) (at-i4 .i4 .given .1), omega arith)
+    let s = at-start .pre .counted .steps in
+    (at-start .pre .unexpired .fits .room, branch-shown (at-start .pre) (at-i4 .i4 .given .1), omega arith)
 
 chosen-requires : tie.Need-chosen-requires
 chosen-requires c κs =
@@ -87,8 +92,11 @@ assign-requires-2 c κs =
 
 skip-requires-2 : tie.Need-skip-requires-2
 skip-requires-2 c κs =
-    let at-start = c .before .before .before .before .before .before .before .before .before in
-    let h = at-start .pre .place in let s = at-start .pre .counted .steps in (omega arith, omega arith)
+    let at-match = c .before .before in
+    let at-start = at-match .before .before .before .before .before .before .before .before in
+    let h = at-start .pre .place in
+    let s = at-start .pre .counted .steps in
+    (at-start .pre .unexpired .fits .room, omega arith, omega arith)
 
 -- a load, a store, a jump or a branch that brings a location in
 returns : tie.Need-returns
@@ -134,12 +142,12 @@ returns-4 c =
 
 returns-5 : tie.Need-returns-5
 returns-5 c =
-    let at-enum-told = c .before in
+    let at-enum-told = c .before .before in
     let at-start = at-enum-told .before .before .before .before .before .before .before .before .before in
     let a = at-start .args in
     let l = at-start .pre .limits .cells in
     skip-carried (at-enum-told .enum-told .given .1)
-    (c .skip .ensures .1 (a .work .now) (a .trace .now) (a .t .cells) (at-start .pre .unexpired) (omega arith))
+    (c .skip .ensures .1 (a .trace .now) (a .t .cells) (at-start .pre .unexpired) (omega arith))
 
 returns-6 : tie.Need-returns-6
 returns-6 c =
@@ -174,7 +182,7 @@ returns-8 c =
 returns-9 : tie.Need-returns-9
 returns-9 c =
     let at-go-to = c .before .before in
-    let at-jump-to = at-go-to .before .before in
+    let at-jump-to = at-go-to .before .before .before in
     let at-if3 = at-jump-to .before in
     let at-subset3 = at-if3 .before in
     let at-enum-told2 = at-subset3 .before in
@@ -182,12 +190,12 @@ returns-9 c =
     let l = at-start .pre .limits .cells in
     jump-carried (at-enum-told2 .enum-told2 .given .1) (rw (at-enum-told2 .enum-told2 .given .1) at (at-start .pre .value))
     (sym (at-subset3 .subset3 .ensures) ∙ kept-true _ (at-if3 .if3 .left)) (at-jump-to .jump-to .ensures)
-    (at-go-to .go-to .ensures .1 (at-start .args .work .now) (at-start .args .t .cells) (at-start .pre .unexpired) (omega arith))
+    (at-go-to .go-to .ensures .1 (at-start .args .t .cells) (at-start .pre .unexpired) (omega arith))
 
 returns-10 : tie.Need-returns-10
 returns-10 c =
     let at-go-to2 = c .before .before in
-    let at-branch-to = at-go-to2 .before .before in
+    let at-branch-to = at-go-to2 .before .before .before in
     let at-if4 = at-branch-to .before in
     let at-subset4 = at-if4 .before in
     let at-i4 = at-subset4 .before .before in
@@ -196,7 +204,7 @@ returns-10 c =
     let q = rw (at-i4 .i4 .given .1) at (at-start .pre) in
     branch-carried (at-i4 .i4 .given .1) (q .below) (rw (at-i4 .i4 .given .1) at (at-start .pre .value) ∙ register-value _ _)
     (sym (at-subset4 .subset4 .ensures) ∙ kept-true _ (at-if4 .if4 .left)) (at-branch-to .branch-to .ensures)
-    (at-go-to2 .go-to2 .ensures .1 (at-start .args .work .now) (at-start .args .t .cells) (at-start .pre .unexpired) (omega arith))
+    (at-go-to2 .go-to2 .ensures .1 (at-start .args .t .cells) (at-start .pre .unexpired) (omega arith))
 
 returns-11 : tie.Need-returns-11
 returns-11 c =
@@ -212,12 +220,12 @@ returns-11 c =
 
 returns-12 : tie.Need-returns-12
 returns-12 c =
-    let at-enum-told3 = c .before in
+    let at-enum-told3 = c .before .before in
     let at-start = at-enum-told3 .before .before .before .before .before .before .before .before .before in
     let a = at-start .args in
     let l = at-start .pre .limits .cells in
     barrier-carried (at-enum-told3 .enum-told3 .given .1)
-    (c .skip2 .ensures .1 (a .work .now) (a .trace .now) (a .t .cells) (at-start .pre .unexpired) (omega arith))
+    (c .skip2 .ensures .1 (a .trace .now) (a .t .cells) (at-start .pre .unexpired) (omega arith))
 
 pub carry-out-spec : {M : Type 1} → statement M
 carry-out-spec =
@@ -251,6 +259,7 @@ carry-out-spec =
     assign-requires-2
     (λ c. search needs)
     skip-requires-2
+    (λ c. search needs)
     returns-5
     (λ c. search needs)
     returns-6
@@ -261,9 +270,12 @@ carry-out-spec =
     (λ c. search needs)
     returns-8
     (λ c. search needs)
+    (λ c. search needs)
     returns-9
+    (λ c. search needs)
     (λ c. search needs)
     returns-10
     (λ c. search needs)
     returns-11
+    (λ c. search needs)
     returns-12)
