@@ -12,7 +12,8 @@ use Rattle.rules.specs.Rules.Instructions.{skip}
 use Rattle.rules.specs.Rules.JobFile.{little, jump, conditional, fields, instr}
 use Rattle.rules.specs.Theorems.Readers.{readable, valueOr, unread}
 use Rattle.instruction.specs.Fields.{instr-kind, instr-unknown, instr-read}
-use Rattle.descriptor.specs.Descriptors.{nothingRead, kindShapes, shapeAt, extraAt, offsets, shapes, firsts, descriptorIn, isSkip, WithExpression}
+use Rattle.descriptor.specs.Descriptors.{jumpShape, nothingRead, kindShapes, shapeAt, targetAt, extraAt, offsets, shapes, firsts, descriptorIn}
+use Rattle.descriptor.specs.Descriptors.{isSkip, WithExpression}
 
 -- a kind that is none of 1 to 6
 pub shape-nothing : (p : List ℕ) (at : ℕ) → (getD p at 0 ≡ 1 → ⊥) → (getD p at 0 ≡ 2 → ⊥) → (getD p at 0 ≡ 3 → ⊥)
@@ -31,14 +32,22 @@ shape-nothing p at b c d e f g = go (getD p at 0) refl
     go (suc (suc (suc (suc (suc (suc (suc zero))))))) z = refl
     go (suc (suc (suc (suc (suc (suc (suc (suc k)))))))) z = refl
 
--- ---- the label of a branch, the place of a second expression, or neither
+-- ---- the label of a branch, the place that a jump names, the place of a second expression, or none of them
 pub label-extra : (p : List ℕ) (at : ℕ) → getD p at 0 ≡ 5 → little p (at + 2) 2 ≡ extraAt p at
 unfolding extraAt
 label-extra p at e = rw e
 
-pub no-extra : (p : List ℕ) (at : ℕ) → (getD p at 0 ≡ 5 → ⊥) → (getD p at 0 ≡ 6 → ⊥) → 0 ≡ extraAt p at
+pub target-extra : (p : List ℕ) (at : ℕ) → getD p at 0 ≡ 4 → targetAt p at ≡ extraAt p at
 unfolding extraAt
-no-extra p at a b = rw (ne-eqb (getD p at 0) 5 a, ne-eqb (getD p at 0) 6 b)
+target-extra p at e = rw e
+
+pub jump-shape : (p : List ℕ) (at : ℕ) → getD p at 0 ≡ 4 → jumpShape p (at + 1) ≡ shapeAt p at
+unfolding shapeAt kindShapes
+jump-shape p at e = rw e
+
+pub no-extra : (p : List ℕ) (at : ℕ) → (getD p at 0 ≡ 4 → ⊥) → (getD p at 0 ≡ 5 → ⊥) → (getD p at 0 ≡ 6 → ⊥) → 0 ≡ extraAt p at
+unfolding extraAt
+no-extra p at a b c = rw (ne-eqb (getD p at 0) 5 b, ne-eqb (getD p at 0) 6 c, ne-eqb (getD p at 0) 4 a)
 
 -- ---- a conditional assignment or a jump that can be read
 module _ (p : List ℕ) (at : ℕ) (h : readable (instr p at) ≡ true) where

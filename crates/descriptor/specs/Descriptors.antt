@@ -4,7 +4,7 @@
 use mathlib.Core.Path.{_≡_}
 use mathlib.Core.Bool.{Bool, true, _&&_, cond}
 use mathlib.Core.List.{List, [], _∷_}
-use Prim.Native.Nat.{ℕ, zero, suc, _+_, _-_, _*_, _/_, _%_, _<_, _≤_}
+use Prim.Native.Nat.{ℕ, zero, suc, _+_, _-_, _*_, _/_, _%_, _<_, _≤_, min}
 use lib.Dec.{eqb, ltb}
 use lib.ListN.{length, getD}
 use Rattle.location.specs.Sets.{registers}
@@ -90,9 +90,20 @@ firstBy k p at =
 unfoldable pub firstAt : List ℕ → ℕ → ℕ
 firstAt p at = firstBy (getD p at 0) p at
 
--- the label of a branch; where the second expression of a conditional assignment stands; 0 of any other kind
+-- the place that a jump to a constant names, which stands from an offset on: a larger one than `farthest` is past the end, as that is too
+abbrev pub farthest : ℕ
+farthest = 65535
+
+abbrev pub named : List ℕ → ℕ → ℕ
+named p at = min (little p at 8) farthest
+
+-- of a jump at an offset; 0 where it is to no constant
+abbrev pub targetAt : List ℕ → ℕ → ℕ
+targetAt p at = cond (eqb (jumpShape p (at + 1)) shapeJumpConstant) (named p (at + 3)) 0
+
+-- the label of a branch; where the second expression of a conditional assignment stands; the place that a jump names; 0 of any other kind
 abbrev pub extraBy : ℕ → List ℕ → ℕ → ℕ
-extraBy k p at = cond (eqb k 5) (little p (at + 2) 2) (cond (eqb k 6) (nextOffset (expr p (at + 2))) 0)
+extraBy k p at = cond (eqb k 5) (little p (at + 2) 2) (cond (eqb k 6) (nextOffset (expr p (at + 2))) (cond (eqb k 4) (targetAt p at) 0))
 
 unfoldable pub extraAt : List ℕ → ℕ → ℕ
 extraAt p at = extraBy (getD p at 0) p at
@@ -135,7 +146,7 @@ descriptorIn w = record {
 -- ---- instructions
 -- of a kind that reads nothing
 abbrev pub bare : ℕ → Instr
-bare k = cond (eqb k 7) spbarr skip
+bare k = cond (eqb k 0) skip spbarr
 
 -- whether a descriptor's instruction reads nothing; and whether it is a skip by its kind, which is 0
 abbrev pub isBare : Descriptor → Bool
@@ -208,9 +219,11 @@ ShapeMeans (suc (suc (suc (suc (suc (suc zero)))))) p at r x = Unit
 ShapeMeans (suc (suc (suc (suc (suc (suc (suc n))))))) p at r x = WithExpression p at × General p at x
 
 -- A descriptor of an accepted program's instruction: the instruction keeps the postfix rule, names registers below 16, and is what
--- the shape says. Where it stands in the bytes, its second expression stands where the descriptor says.
+-- the shape says. Where it stands in the bytes, its second expression stands where the descriptor says; and a jump to a constant names the
+-- place that the descriptor says.
 pub record Valid (p : List ℕ) (d : Descriptor) : Type 0 where
   pub sound : postfix (instructionIn p d) ≡ true
   pub below : RegistersBelow registers (instructionIn p d)
   pub shaped : ShapeMeans (d .shape) p (d .at) (d .first) (instructionIn p d)
   pub second : (d .shape ≡ shapeNothing → ⊥) → (d .shape ≡ shapeBranch → ⊥) → SecondAt p (d .at) (d .extra)
+  pub target : d .shape ≡ shapeJumpConstant → d .extra ≡ named p (d .at + 3)

@@ -20,7 +20,7 @@ use Rattle.instruction.specs.Registers.{RegistersBelow, instr-below}
 use Rattle.descriptor.specs.declared.Descriptor.{Descriptor}
 use Rattle.descriptor.specs.Descriptors.{shapeNothing, shapeRegister, shapeConstant, shapeRegisterConstant, shapeRegisterRegister}
 use Rattle.descriptor.specs.Descriptors.{shapeJumpConstant, shapeBranch, oneShape, threeShape, expressionShape, jumpShape, nothingRead}
-use Rattle.descriptor.specs.Descriptors.{kindShapes, shapeAt, firstBy, firstAt, extraBy, extraAt, countAt}
+use Rattle.descriptor.specs.Descriptors.{kindShapes, shapeAt, firstBy, firstAt, named, extraBy, extraAt, countAt}
 use Rattle.descriptor.specs.Descriptors.{offsets, shapes, firsts, wordAt, descriptorIn, bare, instructionBy, instructionIn}
 use Rattle.descriptor.specs.Descriptors.{operatorOf, firstTokens, NoBranch, WithExpression, General, SecondAt, ShapeMeans, Valid}
 
@@ -342,13 +342,23 @@ descriptor-taken p at h =
 
 -- a descriptor whose instruction is x
 valid : (p : List ℕ) (d : Descriptor) (x : Instr) → instructionIn p d ≡ x → postfix x ≡ true → RegistersBelow registers x
-    → ShapeMeans (d .shape) p (d .at) (d .first) x → SecondAt p (d .at) (d .extra) → Valid p d
-valid p d x e s b m n = record { sound = rw e s; below = rw e b; shaped = rw e m; second = λ a b. n }
+    → ShapeMeans (d .shape) p (d .at) (d .first) x → SecondAt p (d .at) (d .extra)
+    → (d .shape ≡ shapeJumpConstant → d .extra ≡ named p (d .at + 3)) → Valid p d
+valid p d x e s b m n t = record { sound = rw e s; below = rw e b; shaped = rw e m; second = λ a b. n; target = t }
 
 -- the word says where the second expression of a conditional assignment stands
 pub second-said : (p : List ℕ) (at : ℕ) → SecondAt p at (extraAt p at)
 unfolding extraAt
 second-said p at e = rw e
+
+-- it says where a jump to a constant goes, which then stands in the bytes
+pub jump-said : (p : List ℕ) (at : ℕ) → readable (instr p at) ≡ true → shapeAt p at ≡ shapeJumpConstant
+    → (at + 11 ≤ length p) × (extraAt p at ≡ named p (at + 3))
+unfolding shapeAt kindShapes extraAt
+jump-said p at h e =
+    let m = rw e at (word-meant p at h .1) in
+    let j = rw (m .3) at e in
+    (m .2, rw (m .3, j))
 
 -- the word of an instruction that can be read and keeps the postfix rule describes it
 pub word-valid : (p : List ℕ) (at : ℕ) → readable (instr p at) ≡ true → postfix (valueOr skip (instr p at)) ≡ true → at < offsets
@@ -357,19 +367,19 @@ unfolding instructionIn
 word-valid p at h s l =
     let m = word-meant p at h in
     let d : Descriptor = record { at = at; shape = shapeAt p at; first = firstAt p at % firsts; extra = extraAt p at } in
-    rw (descriptor-taken p at l) (m .0, valid p d (valueOr skip (instr p at)) (m .0) s (instr-below p at) (m .1) (second-said p at))
+    rw (descriptor-taken p at l) (m .0, valid p d (valueOr skip (instr p at)) (m .0) s (instr-below p at) (m .1) (second-said p at) (λ e. jump-said p at h e .1))
 
 -- ---- the shape of a branch and beqz go together
 pub branch-shaped : {p : List ℕ} {d : Descriptor} → Valid p d → d .shape ≡ shapeBranch → instructionIn p d ≡ beqz (d .first) (d .extra)
 unfolding instructionIn
 branch-shaped v e = rw e
 
-bare-other : (b : Bool) → NoBranch (cond b spbarr skip)
+bare-other : (b : Bool) → NoBranch (cond b skip spbarr)
 bare-other true r l z = let y : _≡_ {A = ℕ} 0 1 = cc in omega arith
 bare-other false r l z = let y : _≡_ {A = ℕ} 0 1 = cc in omega arith
 
 other-by : (s : ℕ) (p : List ℕ) (at r l : ℕ) (x : Instr) → (s ≡ 6 → ⊥) → ShapeMeans s p at r x → NoBranch (instructionBy s p at r l)
-other-by zero p at r l x n m = bare-other (eqb r 7)
+other-by zero p at r l x n m = bare-other (eqb r 0)
 other-by (suc zero) p at r l x n m = m .0 .other
 other-by (suc (suc zero)) p at r l x n m = m .0 .other
 other-by (suc (suc (suc zero))) p at r l x n m = m .0 .other
@@ -402,14 +412,14 @@ standing-shaped {p} {d} v a b =
     (standing-by (d .shape) p (d .at) (d .first) (instructionIn p d) a b (v .shaped), stands-by (d .shape) p (d .at) (d .first) (d .extra) a b)
 
 -- what is read where the shape says that nothing is, or the register of a branch
-bare-tokens : (b : Bool) → firstTokens (cond b spbarr skip) ≡ []
+bare-tokens : (b : Bool) → firstTokens (cond b skip spbarr) ≡ []
 bare-tokens true = refl
 bare-tokens false = refl
 
 pub nothing-shaped : {p : List ℕ} {d : Descriptor} → Valid p d → d .shape ≡ shapeNothing
     → (instructionIn p d ≡ bare (d .first)) × (firstTokens (instructionIn p d) ≡ [])
 unfolding instructionIn
-nothing-shaped {p} {d} v e = (rw e, rw e (bare-tokens (eqb (d .first) 7)))
+nothing-shaped {p} {d} v e = (rw e, rw e (bare-tokens (eqb (d .first) 0)))
 
 -- a shape that is none of 0 to 6
 general-by : (s : ℕ) (p : List ℕ) (at r : ℕ) (x : Instr) → (s ≡ 0 → ⊥) → (s ≡ 1 → ⊥) → (s ≡ 2 → ⊥) → (s ≡ 3 → ⊥)

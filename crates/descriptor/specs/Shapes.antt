@@ -2,17 +2,19 @@
 -- Assumes nothing.
 use mathlib.Core.Path.{_≡_, sym, ap, ap₂, subst, _∙_}
 use mathlib.Core.List.{List, [], _∷_}
-use Prim.Native.Nat.{ℕ, _+_, _<_, _≤_}
+use Prim.Native.Nat.{ℕ, _+_, _<_, _≤_, min}
 use native.Mathlib.Omega.{arith}
 use lib.ListN.{length, getD}
 use Rattle.location.specs.Sets.{registers}
 use Rattle.rules.specs.Rules.Expressions.{reg, const}
-use Rattle.rules.specs.Rules.Instructions.{Instr}
-use Rattle.rules.specs.Rules.JobFile.{little}
+use Rattle.rules.specs.Rules.Instructions.{Instr, skip, jmp}
+use Rattle.rules.specs.Rules.JobFile.{little, fields}
+use Rattle.rules.specs.Theorems.Readers.{valueOr}
+use Rattle.instruction.specs.Fields.{instr-kind, instr-read, jump-parts}
 use Rattle.descriptor.specs.declared.Descriptor.{Descriptor}
 use Rattle.descriptor.specs.Descriptors.{shapeRegister, shapeConstant, shapeRegisterConstant, shapeRegisterRegister, shapeJumpConstant}
-use Rattle.descriptor.specs.Descriptors.{shapeBranch, constantPlace, operatorPlace, operatorOf, instructionIn, firstTokens, ShapeMeans, Valid}
-use Rattle.descriptor.specs.Reading.{branch-shaped}
+use Rattle.descriptor.specs.Descriptors.{shapeBranch, farthest, constantPlace, operatorPlace, operatorOf, instructionIn, firstTokens, ShapeMeans, Valid}
+use Rattle.descriptor.specs.Reading.{branch-shaped, standing-shaped}
 
 -- a register alone
 pub record OneRegister (p : List ℕ) (d : Descriptor) : Type 0 where
@@ -23,6 +25,11 @@ pub record OneRegister (p : List ℕ) (d : Descriptor) : Type 0 where
 pub record OneConstant (p : List ℕ) (d : Descriptor) : Type 0 where
   pub room : d .at + constantPlace (d .shape) + 8 ≤ length p
   pub tokens : firstTokens (instructionIn p d) ≡ const (little p (d .at + constantPlace (d .shape)) 8) ∷ []
+
+-- A jump to a constant. Among the places of a program, which are not more than `farthest`, it goes to the one that the descriptor names.
+pub record ConstantJump (p : List ℕ) (d : Descriptor) : Type 0 where
+  pub jumps : instructionIn p d ≡ jmp (const (little p (d .at + 3) 8) ∷ [])
+  pub place : (n : ℕ) → n ≤ farthest → min (d .extra) n ≡ min (little p (d .at + 3) 8) n
 
 -- the operator of a shape with two operands stands before the end, and is one of two operands
 pub record Operated (p : List ℕ) (d : Descriptor) : Type 0 where
@@ -67,6 +74,18 @@ module _ {p : List ℕ} {d : Descriptor} (v : Valid p d) where
       let l = h .2 in
       let c : constantPlace (d .shape) ≡ 3 = ap constantPlace e in
       record { room = omega arith; tokens = h .1 ∙ ap (λ (k : ℕ). const (little p (d .at + k) 8) ∷ []) (sym c) }
+
+  pub constant-jump-shaped : d .shape ≡ shapeJumpConstant → ConstantJump p d
+  unfolding fields
+  constant-jump-shaped e =
+      let h = known p (d .at) (d .first) (instructionIn p d) e (v .shaped) in
+      let s = standing-shaped v (λ z. omega arith) (λ z. omega arith) in
+      let i = instr-kind p (d .at) 4 (instr-read p (d .at) (s .0 .read)) (h .3) in
+      let x = s .1 ∙ ap (valueOr skip) i ∙ jump-parts p (d .at + 1) (rw i at (s .0 .read)) .1 in
+      record {
+        jumps = x ∙ ap jmp (sym (ap firstTokens x) ∙ h .1);
+        place = λ n l. rw (v .target e) (omega arith);
+      }
 
   pub jump-kind : d .shape ≡ shapeJumpConstant → getD p (d .at) 0 ≡ 4
   jump-kind e = known p (d .at) (d .first) (instructionIn p d) e (v .shaped) .3

@@ -14,13 +14,13 @@ ghost use Rattle.rules.specs.Rules.Instructions.{skip};
 ghost use Rattle.rules.specs.Rules.JobFile.{little, tokens, expr, withRegister, jump, conditional, instr};
 ghost use Rattle.rules.specs.Theorems.Readers.{readable, nextOffset, valueOr};
 ghost use Rattle.instruction.specs.Meaning.{meaning, withRegisterOf};
-ghost use Rattle.descriptor.specs.Descriptors.{oneShape, threeShape, expressionShape, jumpShape, shapeAt, firstAt, extraAt, countAt, offsets};
-ghost use Rattle.descriptor.specs.Descriptors.{wordAt, descriptorIn, constantPlace, operatorPlace, bare, isSkip, isBare, instructionIn};
+ghost use Rattle.descriptor.specs.Descriptors.{oneShape, threeShape, expressionShape, jumpShape, shapeAt, firstAt, targetAt, extraAt, countAt};
+ghost use Rattle.descriptor.specs.Descriptors.{offsets, wordAt, descriptorIn, constantPlace, operatorPlace, bare, isSkip, isBare, instructionIn};
 ghost use Rattle.descriptor.specs.Descriptors.{WithExpression, SecondAt, Valid};
 
-// `at` is the instruction's offset, `shape` what the instruction reads first, `extra` the label of a branch, or where the second expression
-// of a conditional assignment stands. In the shapes that do not name it, `first` means nothing; nor does `extra` of any other instruction,
-// or `at` where nothing is read, or of a branch.
+// `at` is the instruction's offset, `shape` what the instruction reads first, `extra` the label of a branch, the place that a jump to a
+// constant names (FARTHEST for a larger one), or where the second expression of a conditional assignment stands. In the shapes that do not
+// name it, `first` means nothing; nor does `extra` of any other instruction, or `at` where nothing is read, or of a branch.
 pub struct Descriptor {
     pub at: usize,
     pub shape: u8,
@@ -64,6 +64,9 @@ const FIRSTS: u64 = 256;
 
 // The kind of a barrier, as in the kind byte.
 const BARRIER: u8 = 7;
+
+// The farthest place that a word names: no program has so many labels, so that it stands for every larger one.
+const FARTHEST: u64 = 65535;
 
 // The byte at an offset, or 0 past the end.
 fn byte_at(p: &[u8], at: usize) -> u8
@@ -176,12 +179,29 @@ fn first_at(p: &[u8], at: usize) -> u8
     }
 }
 
-// The label of a branch; the offset of a conditional assignment's second expression; 0 elsewhere.
+// The place that a jump names if it is to a constant; 0 of any other jump. It is found here once, so that a step does not wait for the
+// constant's bytes.
+fn target_at(p: &[u8], at: usize) -> u64
+    requires { ⌜ (readable (instr (now p) at) ≡ true) × (getD (now p) at 0 ≡ 4) ⌝ }
+    ensures { λ r. ⌜ (r ≡ targetAt (now (p .entry)) at) × (r ≤ offsets) ⌝ }
+{
+    if shape_of_jump(p, at + 1) != JUMP_CONSTANT {
+        return 0;
+    }
+    let constant = token::word(p, at + 3);
+    if constant < FARTHEST {
+        return constant;
+    }
+    FARTHEST
+}
+
+// The label of a branch; the offset of a conditional assignment's second expression; the place that a jump names; 0 elsewhere.
 fn extra_at(p: &[u8], at: usize) -> u64
     requires { ⌜ (readable (instr (now p) at) ≡ true) × (length (now p) ≤ offsets) ⌝ }
     ensures { λ r. ⌜ (r ≡ extraAt (now (p .entry)) at) × (r ≤ offsets) ⌝ }
 {
     match p[at] {
+        4 => target_at(p, at),
         5 => token::two_bytes(p, at + 2),
         6 => token::expression_end(p, at + 2) as u64,
         _ => 0,
@@ -341,14 +361,14 @@ fn instruction_at(p: &[u8], at: usize, second: usize) -> Instruction
     }
 }
 
-// The instruction of a kind that reads nothing.
+// The instruction of a kind that reads nothing: one that is not a skip is a barrier.
 fn bare(kind: u8) -> Instruction
     ensures { λ i. ⌜ ((p : List ℕ) → meaning p i ≡ bare kind) ⌝ }
 {
-    if kind == BARRIER {
-        return Instruction::Barrier;
+    if kind == 0 {
+        return Instruction::Skip;
     }
-    Instruction::Skip
+    Instruction::Barrier
 }
 
 // Whether the instruction of a word is a skip by its kind, which is 0: shape and kind are looked at at once.
@@ -363,13 +383,6 @@ pub fn is_bare(word: u64) -> bool
     ensures { λ r. ⌜ r ≡ isBare (descriptorIn word) ⌝ }
 {
     word / OFFSETS % SHAPES == 0
-}
-
-// The instruction of a word, if it reads nothing.
-pub fn bare_in(word: u64) -> Instruction
-    ensures { λ i. ⌜ ((p : List ℕ) → meaning p i ≡ bare (descriptorIn word .first)) ⌝ }
-{
-    bare((word / OFFSETS / SHAPES % FIRSTS) as u8)
 }
 
 // The instruction of a descriptor. The shape of a jump to a constant tells its kind.

@@ -1,7 +1,7 @@
 -- The step of an instruction that reads nothing: it is rule 3's, and changes and shows nothing.
 -- Assumes nothing.
 use mathlib.Core.Path.{_≡_, refl, sym, ap, _∙_}
-use mathlib.Core.Bool.{Bool, true, false, cond}
+use mathlib.Core.Bool.{Bool, true, false, _&&_, cond}
 use mathlib.Core.List.{List}
 use Prim.Native.Nat.{ℕ}
 use lib.Dec.{eqb}
@@ -34,22 +34,26 @@ skip-bare d h =
     let z = eqb-true (d .first) 0 (and-right (isBare d) (eqb (d .first) 0) h) in
     (and-left (isBare d) (eqb (d .first) 0) h, rw z)
 
+-- what reads nothing and is no skip is a barrier
+pub barrier-bare : (d : Descriptor) → isBare d ≡ true → isSkip d ≡ false → spbarr ≡ bare (d .first)
+barrier-bare d b h = rw (sym (ap (λ (x : Bool). x && eqb (d .first) 0) b) ∙ h)
+
 -- it opens no branch
 opens-none : (mode : Mode) (k : ℕ) → Opens mode (bare k) openings.Nothing
 unfolding forward
 opens-none modes.Plain k code M = refl
-opens-none modes.Mispredicting k code M = go (eqb k 7)
+opens-none modes.Mispredicting k code M = go (eqb k 0)
   where
-    go : (b : Bool) → forward code M (cond b spbarr skip) ≡ ordinary code M (cond b spbarr skip)
+    go : (b : Bool) → forward code M (cond b skip spbarr) ≡ ordinary code M (cond b skip spbarr)
     go true = refl
     go false = refl
 
 -- its effect is to go on
 goes-on : (k : ℕ) (code : Code) (σ : State) (place : ℕ) → silent σ place ≡ exec code σ place (bare k)
 unfolding exec
-goes-on k code σ place = go (eqb k 7)
+goes-on k code σ place = go (eqb k 0)
   where
-    go : (b : Bool) → silent σ place ≡ exec code σ place (cond b spbarr skip)
+    go : (b : Bool) → silent σ place ≡ exec code σ place (cond b skip spbarr)
     go true = refl
     go false = refl
 

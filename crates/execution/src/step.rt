@@ -5,6 +5,7 @@ use super::rule::Rule;
 use descriptor::Descriptor;
 use instruction::Instruction;
 use location::Label;
+use location::LocationSet;
 use rules::Tagged;
 use rules::Trailer;
 use stepping::Progress;
@@ -55,14 +56,14 @@ fn carry_out(
                 return c;
             }
             let place = evaluation::jump_to(a.value, t.count);
-            stepping::go_to(&work[..], &mut trace[..], c, i, place, a)
+            stepping::go_to(&work[..], &mut trace[..], c, i, place, seen)
         }
         Instruction::BranchZero(_, l) => {
             if !seen.subset(full) {
                 return c;
             }
             let place = evaluation::branch_to(a, l, next);
-            stepping::go_to(&work[..], &mut trace[..], c, i, place, a)
+            stepping::go_to(&work[..], &mut trace[..], c, i, place, seen)
         }
         Instruction::AssignIf(r, _, e) => {
             let v = evaluation::chosen(p, &work[..], r, a, e);
@@ -123,7 +124,8 @@ fn advance_by(
 }
 
 // The instruction at the place. One that reads nothing goes its own way, as its word tells it alone, and does not wait for what the other
-// kinds need. A skip is tested first and by itself, so that its kind is not taken from the word.
+// kinds need. A skip is tested first and by itself, so that the kind is not taken from the word: what else reads nothing is a barrier. So does a
+// jump to a constant: its word names the place, and it rests on nothing, so that no set is compared with D.
 fn advance(
     p: &[u8],
     t: Trailer,
@@ -142,9 +144,15 @@ fn advance(
         return stepping::skip(&work[..], c, Instruction::Skip);
     }
     if descriptor::is_bare(word) {
-        return stepping::skip(&work[..], c, descriptor::bare_in(word));
+        return stepping::skip(&work[..], c, Instruction::Barrier);
     }
     let d = descriptor::descriptor_in(word);
+    if d.shape == descriptor::JUMP_CONSTANT {
+        let i = descriptor::instruction_of(p, d);
+        let place = evaluation::jump_to(d.extra as u64, t.count);
+        let nothing = LocationSet::empty();
+        return stepping::go_to(&work[..], &mut trace[..], c, i, place, nothing);
+    }
     advance_by(p, t, mode, &mut work[..], &mut trace[..], c, d)
 }
 

@@ -2,7 +2,7 @@
 -- Assumes nothing.
 use mathlib.Core.Path.{_≡_, refl, sym, ap, _∙_, subst}
 use mathlib.Core.List.{List, [], _∷_}
-use Prim.Native.Nat.{ℕ, zero, suc, _+_, _-_, _*_, _<_, _≤_}
+use Prim.Native.Nat.{ℕ, zero, suc, _+_, _-_, _*_, _<_, _≤_, max}
 use native.Mathlib.Omega.{arith}
 use lib.ListN.{length, getD, drop}
 use lib.Seq.{sets}
@@ -24,7 +24,7 @@ use Rattle.work.specs.Machines.{stateIn, branchesOf, branches-length, machineOf
 use Rattle.work.specs.Moves.{lowerTo, windowOn}
 use Rattle.work.proofs.Moves.{at-above}
 use Rattle.stepping.specs.Progress.{gatherAt}
-use Rattle.stepping.specs.Steps.{leftBy, Leaves}
+use Rattle.stepping.specs.Steps.{leftBy, Charged, Leaves, Lowers}
 
 -- ---- the plain set, by the number of open branches
 pub gathers-plain : (d : ℕ) (plain s : LocationSet) → d ≡ 0 → union plain s ≡ gatherAt d plain s
@@ -64,43 +64,43 @@ stored-twice t t₁ t₂ k a b x y e₁ e₂ =
     e₂ ∙ (λ i. sets (e₁ i) (s i) (x ∷ y ∷ []))
 
 -- ---- the window
--- what is left of the top's, where it was v
-pub top-lowered : (code : Code) (i : Instr) (e : ℕ → OpenBranch) (g : ℕ → Change) (σ : State) (v k d : ℕ)
-    → lowerTo (windowAt d v (remaining code i v)) (branchesOf e g σ v k d) ≡ lower code i (branchesOf e g σ v k d)
+-- what is left of the top's, where it was v; u with nothing open
+pub top-lowered : (code : Code) (i : Instr) (e : ℕ → OpenBranch) (g : ℕ → Change) (σ : State) (u v k d : ℕ)
+    → lowerTo (windowAt d u (remaining code i v)) (branchesOf e g σ v k d) ≡ lower code i (branchesOf e g σ v k d)
 unfolding lower
-top-lowered code i e g σ v k zero = refl
-top-lowered code i e g σ v k (suc d) = refl
+top-lowered code i e g σ u v k zero = refl
+top-lowered code i e g σ u v k (suc d) = refl
 
 -- a new branch's window
-pub window-lowered : (code : Code) (i : Instr) (e : ℕ → OpenBranch) (g : ℕ → Change) (σ : State) (v k d : ℕ)
-    → windowOn (branchesOf e g σ v k d) (code .window) (windowAt d v (remaining code i v)) ≡ newWindow code (lower code i (branchesOf e g σ v k d))
+pub window-lowered : (code : Code) (i : Instr) (e : ℕ → OpenBranch) (g : ℕ → Change) (σ : State) (u v k d : ℕ)
+    → windowOn (branchesOf e g σ v k d) (code .window) (windowAt d u (remaining code i v)) ≡ newWindow code (lower code i (branchesOf e g σ v k d))
 unfolding lower newWindow
-window-lowered code i e g σ v k zero = refl
-window-lowered code i e g σ v k (suc d) = refl
+window-lowered code i e g σ u v k zero = refl
+window-lowered code i e g σ u v k (suc d) = refl
 
 -- what is left is less, if there was any
 pub left-less : (code : Code) → PositiveCosts (code .costs) → (i : Instr) (v : ℕ) → 0 < v → remaining code i v < v
 left-less code positive i v h = omega (arith, remaining-less code positive i v (λ z. omega arith))
 
 -- with d branches open
-at-less : (d u v : ℕ) → 0 < d → v < u → windowAt d u v < u
-at-less zero u v d h = absurd (omega arith)
-at-less (suc n) u v d h = h
+at-less : (d t u v : ℕ) → 0 < d → v < t → windowAt d u v < t
+at-less zero t u v d h = absurd (omega arith)
+at-less (suc n) t u v d h = h
 
-pub left-some : (code : Code) → PositiveCosts (code .costs) → (i : Instr) (c : Control) → 0 < c .window → Left c (leftBy code i c)
-left-some code positive i c h = record {
-  less = λ d. at-less (c .depth) (c .window) (remaining code i (c .window)) d (left-less code positive i (c .window) h);
-  some = λ z. subst (λ (d : ℕ). 0 < windowAt d (c .window) (remaining code i (c .window))) (sym z) h;
+pub left-some : (u : ℕ) → 0 < u → (code : Code) → PositiveCosts (code .costs) → (i : Instr) (c : Control) → 0 < c .window → Left c (leftBy u code i c)
+left-some u k code positive i c h = record {
+  less = λ d. at-less (c .depth) (c .window) u (remaining code i (c .window)) d (left-less code positive i (c .window) h);
+  some = λ z. subst (λ (d : ℕ). 0 < windowAt d u (remaining code i (c .window))) (sym z) k;
 }
 
 -- what the code finds, with nothing open and else
 pub leaves : (w : List ℕ) (c : Control) (i : Instruction) (v : ℕ)
-    → ((p : List ℕ) (code : Code) → code .costs ≡ costsIn (drop labels w) → v ≡ leftBy code (meaning p i) c) → Leaves w c i v
+    → ((p : List ℕ) (code : Code) → code .costs ≡ costsIn (drop labels w) → v ≡ leftBy (c .window) code (meaning p i) c) → Leaves w c i v
 leaves w c i v exact = record {
   exact = exact;
   left = λ positive h.
       let any : Code = record { prog = []; cells = 0; window = 0; costs = costsIn (drop labels w) } in
-      subst (Left c) (sym (exact [] any refl)) (left-some any positive (meaning [] i) c h);
+      subst (Left c) (sym (exact [] any refl)) (left-some (c .window) h any positive (meaning [] i) c h);
 }
 
 pub closed-leaves : (w : List ℕ) (c : Control) (i : Instruction) → c .depth ≡ 0 → Leaves w c i (c .window)
@@ -108,11 +108,29 @@ closed-leaves w c i z =
     leaves w c i (c .window) (λ p code costs. ap (λ (d : ℕ). windowAt d (c .window) (remaining code (meaning p i) (c .window))) (sym z))
 
 -- k is the kind that the code finds, and x its entry
-pub open-leaves : (w : List ℕ) (c : Control) (i : Instruction) (v k x : ℕ) → (c .depth ≡ 0 → ⊥)
-    → ((p : List ℕ) → k ≡ kind (meaning p i)) → x ≡ getD (costsIn (drop labels w)) k 0
-    → ((p : List ℕ) (code : Code) → x ≡ getD (code .costs) (kind (meaning p i)) 0 → v ≡ remaining code (meaning p i) (c .window))
-    → Leaves w c i v
-open-leaves w c i v k x o ek ex e =
-    leaves w c i v
-    (λ p code costs.
-    e p code (ex ∙ (λ j. getD (sym costs j) (ek p j) 0)) ∙ at-above (c .depth) (c .window) (remaining code (meaning p i) (c .window)) o)
+pub charged-exact : (w : List ℕ) (window : ℕ) (i : Instruction) (v k x : ℕ) → ((p : List ℕ) → k ≡ kind (meaning p i)) → x ≡ getD (costsIn (drop labels w)) k 0
+    → ((p : List ℕ) (code : Code) → x ≡ getD (code .costs) (kind (meaning p i)) 0 → v ≡ remaining code (meaning p i) window) → Charged w window i v
+charged-exact w window i v k x ek ex e = record { exact = λ p code costs. e p code (ex ∙ (λ j. getD (sym costs j) (ek p j) 0)) }
+
+not-below : (d v : ℕ) → (v ≡ 0 → ⊥) → v ≡ windowAt d (max 1 v) v
+not-below zero v n = omega arith
+not-below (suc d) v n = refl
+
+-- v is what is left by the costs
+module _ {w : List ℕ} {c : Control} {i : Instruction} {v : ℕ} (charged : Charged w (c .window) i v) where
+  pub open-leaves : (c .depth ≡ 0 → ⊥) → Leaves w c i v
+  open-leaves o =
+      leaves w c i v (λ p code costs. charged .exact p code costs ∙ at-above (c .depth) (c .window) (remaining code (meaning p i) (c .window)) o)
+
+  -- nothing, and so the least window; or some
+  pub none-left : {u : ℕ} → v ≡ 0 → u ≡ windowAt (c .depth) 1 0 → Lowers w c i u
+  none-left z h = record {
+    exact = λ p code costs.
+        let r = sym z ∙ charged .exact p code costs in
+        h ∙ ap (λ (m : ℕ). windowAt (c .depth) (max 1 m) m) r;
+  }
+
+  pub some-left : (v ≡ 0 → ⊥) → Lowers w c i v
+  some-left n = record {
+    exact = λ p code costs. not-below (c .depth) v n ∙ ap (λ (m : ℕ). windowAt (c .depth) (max 1 m) m) (charged .exact p code costs);
+  }

@@ -3,7 +3,7 @@
 use mathlib.Core.Path.{_≡_, refl, sym, ap, _∙_, subst}
 use mathlib.Core.Bool.{Bool, true, false, not, true≢false}
 use mathlib.Core.List.{List, [], _∷_, _++_, append-nil}
-use Prim.Native.Nat.{ℕ, suc, _+_, _*_, _<_, _≤_}
+use Prim.Native.Nat.{ℕ, suc, _+_, _*_, _<_, _≤_, max}
 use native.Mathlib.Numerals.{add-one}
 use native.Mathlib.Omega.{arith}
 use lib.ListN.{length, drop}
@@ -19,7 +19,7 @@ use Rattle.rules.specs.Rules.Outside.{remember, overfull}
 use Rattle.rules.specs.Rules.Plain.{State, at, put, withOutside, Code, loadedFrom, storedTo, storeOverfull, branchTo}
 use Rattle.rules.specs.Rules.Plain.{silent, loadEffect, storeEffect, goEffect}
 use Rattle.rules.specs.Rules.Plain as plain
-use Rattle.rules.specs.Rules.Mispredicting.{Branch, Machine, Step, lower, newWindow, rolling, opening, stepWith}
+use Rattle.rules.specs.Rules.Mispredicting.{Branch, Machine, Step, remaining, lower, newWindow, rolling, opening, stepWith}
 use Rattle.rules.specs.Rules.Runs.{observedSet, note}
 use Rattle.instruction.specs.declared.Instruction.{Instruction}
 use Rattle.instruction.specs.declared.Instruction.the-variants.{BranchZero}
@@ -37,7 +37,7 @@ use Rattle.outside.specs.Stores.{StoreTried}
 use Rattle.evaluation.proofs.Laws.{inside-fits, outside-fits}
 use Rattle.stepping.specs.declared.Progress.{Progress}
 use Rattle.stepping.specs.Progress.{standing, gatheredOf, rolledBack, progressAfter}
-use Rattle.stepping.specs.Steps.{Unexpired, Leaves, leftBy, Made, Attempted, RolledBackTo, OpenedTo, CarriedOut, TriedOut, StateKept}
+use Rattle.stepping.specs.Steps.{Unexpired, Leaves, Lowers, leftBy, loweredBy, Made, Attempted, RolledBackTo, OpenedTo, CarriedOut, TriedOut, StateKept}
 use Rattle.stepping.specs.Steps.{wordEffect, outsideEffect}
 use Rattle.stepping.proofs.Laws.{gathered, counted-back, depth-of, length-lower, top-lowered, window-lowered, left-some}
 
@@ -98,19 +98,19 @@ rolled-back {w} {w′} {t} {t′} {c} {c′} {r} {seen} m h et es ec =
           (λ z. h);
     }
 
--- ---- what an instruction leaves of the top's window, in the machine
-module _ (w : List ℕ) (c : Control) (n v : ℕ) (i : Instr) (code : Code) (left : v ≡ leftBy code i c) where
+-- ---- what an instruction leaves of the top's window, in the machine; u with nothing open
+module _ (w : List ℕ) (c : Control) (n u v : ℕ) (i : Instr) (code : Code) (left : v ≡ leftBy u code i c) where
   abbrev open-branches : List Branch
   open-branches = machineOf w c n .branches
 
   branches-left : lowerTo v open-branches ≡ lower code i open-branches
   branches-left =
-      ap (λ (u : ℕ). lowerTo u open-branches) left ∙ top-lowered code i (branchAt w) (changeAt w) (stateIn w n) (c .window) (c .log) (c .depth)
+      ap (λ (t : ℕ). lowerTo t open-branches) left ∙ top-lowered code i (branchAt w) (changeAt w) (stateIn w n) u (c .window) (c .log) (c .depth)
 
   new-left : windowOn open-branches (code .window) v ≡ newWindow code (lower code i open-branches)
   new-left =
       ap (windowOn open-branches (code .window)) left
-      ∙ window-lowered code i (branchAt w) (changeAt w) (stateIn w n) (c .window) (c .log) (c .depth)
+      ∙ window-lowered code i (branchAt w) (changeAt w) (stateIn w n) u (c .window) (c .log) (c .depth)
 
 -- ---- rule 2
 pub opened : {w w′ t t′ : List ℕ} {c c′ : Progress} {r window wrong target v : ℕ} {l : Label} {x : Tagged} {control : Control} → r < registers
@@ -128,8 +128,9 @@ opened {w} {w′} {t} {t′} {c} {c′} {r} {window} {wrong} {target} {v} {l} {x
           let N = add-one (c .control .place) in
           let G = eg ∙ (λ i. branchTo (A i) (l .0) (N i)) in
           let W = ew ∙ (λ i. branchTo (A i) (N i) (l .0)) in
-          let B = branches-left w (c .control) n v (beqz r (l .0)) code (left .exact [] code hc) in
-          let U = ap (λ (u : ℕ). windowOn (M .branches) u v) (sym hw) ∙ new-left w (c .control) n v (beqz r (l .0)) code (left .exact [] code hc) in
+          let B = branches-left w (c .control) n (c .control .window) v (beqz r (l .0)) code (left .exact [] code hc) in
+          let U = ap (λ (u : ℕ). windowOn (M .branches) u v) (sym hw)
+          ∙ new-left w (c .control) n (c .control .window) v (beqz r (l .0)) code (left .exact [] code hc) in
           made-of w w′ t t′ c c′ n (opening code M r (l .0)) control (ec ∙ ap (λ (y : Tagged). progressAfter c control 2 (y .deps)) A)
           (m .machine n hn
           ∙ (λ i. record {
@@ -145,14 +146,14 @@ opened {w} {w′} {t} {t′} {c} {c′} {r} {window} {wrong} {target} {v} {l} {x
 -- ---- rule 3: from the machine's move to state σ and place q, with v left of the top's window
 module _ {n : ℕ} {w w′ t t′ : List ℕ} {c c′ : Progress} (i : Instruction) {v q : ℕ} {control : Control} {σ : State}
     (m : machineOf w′ control n ≡ ordinaryNext (machineOf w (c .control) n) σ q v) (fits : Fit w′ control) (frame : drop reports w′ ≡ drop reports w)
-    (p : List ℕ) (code : Code) (left : v ≡ leftBy code (meaning p i) (c .control)) where
+    (p : List ℕ) (code : Code) (u : ℕ) (left : v ≡ leftBy u code (meaning p i) (c .control)) where
   -- the effect x is that state, that place, and what was counted and written
   carried : (x : plain.Effect) → σ ≡ x .state → q ≡ x .place → t′ ≡ sets t (2 * c .observations) (traceWords (x .obs))
       → c′ ≡ progressAfter c control (length (x .obs)) (x .seen)
       → Made n (stepWith code (machineOf w (c .control) n) (meaning p i) x) (standing w t c) (standing w′ t′ c′)
   carried x es eq et ec =
       let M = machineOf w (c .control) n in
-      let B = branches-left w (c .control) n v (meaning p i) code left in
+      let B = branches-left w (c .control) n u v (meaning p i) code left in
       made-of w w′ t t′ c c′ n (stepWith code M (meaning p i) x) control ec
       (m ∙ (λ j. record { state = es j; place = eq j; branches = B j; opened = M .opened })) fits frame et (omega arith)
       (let D = depth-of w (c .control) n in let L = length-lower code (meaning p i) (M .branches) in omega arith) (λ z. absurd (omega arith))
@@ -183,7 +184,7 @@ module _ {w w′ t t′ : List ℕ} {c c′ : Progress} {i : Instruction} {v : �
       (standing w′ t′ c′)
   assigned r el et es ec =
       let m′ = m .machine n most ∙ (λ j. ordinaryNext (machineOf w (c .control) n) (put (stateIn w n) (el j) x) (c .control .place + 1) v) in
-      carried-silently i m′ (m .fits) (m .frame) p code (leaves .exact p code costs) refl et es ec
+      carried-silently i m′ (m .fits) (m .frame) p code (c .control .window) (leaves .exact p code costs) refl et es ec
 
   -- and shows an observation
   pub assigned-shown : {a b : ℕ} (o : Observation) {s : LocationSet} (r : ℕ) (y : Tagged) → l ≡ r → x ≡ y → a ∷ b ∷ [] ≡ observationWords o
@@ -192,16 +193,16 @@ module _ {w w′ t t′ : List ℕ} {c c′ : Progress} {i : Instruction} {v : �
       (record { state = put (stateIn w n) r y; place = suc (c .control .place); obs = o ∷ []; seen = s; overfull = false })) (standing w t c)
       (standing w′ t′ c′)
   assigned-shown o r y el ex eo et ec =
-      carried-shown i (m .machine n most) (m .fits) (m .frame) p code (leaves .exact p code costs) o (put (stateIn w n) r y) (suc (c .control .place)) false
+      carried-shown i (m .machine n most) (m .fits) (m .frame) p code (c .control .window) (leaves .exact p code costs) o (put (stateIn w n) r y) (suc (c .control .place)) false
       (λ j. put (stateIn w n) (el j) (ex j)) (add-one (c .control .place)) eo et ec
 
 -- ---- rule 3 for an instruction that changes no location
 -- from what the callees give
-pub kept : {w : List ℕ} {c c′ : Progress} {i : Instruction} {q k v : ℕ} {control : Control} {s s′ : LocationSet} → Leaves w (c .control) i v
+pub kept : {w : List ℕ} {c c′ : Progress} {i : Instruction} {q k v : ℕ} {control : Control} {s s′ : LocationSet} → Lowers w (c .control) i v
     → control ≡ gone (c .control) q v → s′ ≡ s → c′ ≡ progressAfter c control k s′ → StateKept w q k s i c c′
-kept {w} {c} {c′} {i} {q} {k} left eg es ec = record {
+kept {w} {c} {c′} {i} {q} {k} lowers eg es ec = record {
   exact = λ p code costs.
-      let L = left .exact p code costs in
+      let L = lowers .exact p code costs in
       ec ∙ (λ j. progressAfter c ((eg ∙ (λ u. gone (c .control) q (L u))) j) k (es j));
 }
 
@@ -210,10 +211,11 @@ module _ {w t : List ℕ} {c c′ : Progress} {i : Instruction} {cells : ℕ} (l
       → CarriedOut cells i (λ code σ. silent σ (c .control .place)) (standing w t c) (standing w t c′)
   kept-silently h = record {
     made = λ p code ec costs.
-        let v = leftBy code (meaning p i) (c .control) in
-        let left = left-some code (rw costs (live .costs)) (meaning p i) (c .control) (live .window) in
+        let v = loweredBy code (meaning p i) (c .control) in
+        let u = max 1 (remaining code (meaning p i) (c .control .window)) in
+        let left = left-some u (omega arith) code (rw costs (live .costs)) (meaning p i) (c .control) (live .window) in
         let m = go-law w (c .control) (c .control .place + 1) v (live .fits) left in
-        carried-silently i (m .machine (registers + cells) most) (m .fits) (m .frame) p code refl refl refl refl (h .exact p code costs);
+        carried-silently i (m .machine (registers + cells) most) (m .fits) (m .frame) p code u refl refl refl refl (h .exact p code costs);
   }
 
   pub kept-shown : {t′ : List ℕ} (q : ℕ) (x : Tagged) → StateKept w q 1 (x .deps) i c c′ → t′ ≡ sets t (2 * c .observations) (traceWords (pc q ∷ []))
@@ -221,10 +223,11 @@ module _ {w t : List ℕ} {c c′ : Progress} {i : Instruction} {cells : ℕ} (l
   kept-shown q x h et = record {
     made = λ p code ec costs.
         let n = registers + cells in
-        let v = leftBy code (meaning p i) (c .control) in
-        let left = left-some code (rw costs (live .costs)) (meaning p i) (c .control) (live .window) in
+        let v = loweredBy code (meaning p i) (c .control) in
+        let u = max 1 (remaining code (meaning p i) (c .control .window)) in
+        let left = left-some u (omega arith) code (rw costs (live .costs)) (meaning p i) (c .control) (live .window) in
         let m = go-law w (c .control) q v (live .fits) left in
-        carried i (m .machine n most) (m .fits) (m .frame) p code refl (goEffect (stateIn w n) q x) refl refl et (h .exact p code costs);
+        carried i (m .machine n most) (m .fits) (m .frame) p code u refl (goEffect (stateIn w n) q x) refl refl et (h .exact p code costs);
   }
 
 -- ---- rule 3 for a load, where v is the word that the address gives
@@ -255,7 +258,7 @@ module _ {w w′ t t′ : List ℕ} {c c′ : Progress} {i : Instruction} {cells
         let σ = stateIn w n in
         record {
           made = λ o.
-              carried-shown i (m .machine n most) (m .fits) (m .frame) p code (leaves .exact p code costs) (stored (a .value))
+              carried-shown i (m .machine n most) (m .fits) (m .frame) p code (c .control .window) (leaves .exact p code costs) (stored (a .value))
               (storedTo code σ a (at σ r)) (suc (c .control .place)) (storeOverfull code σ a) (same code ec) (add-one (c .control .place)) refl et counted;
           unmade = λ o. absurd (true≢false (sym o ∙ inside-fits w cells a code ec h));
         };
@@ -306,7 +309,7 @@ module _ {w w′ t : List ℕ} {c : Progress} {i : Instruction} {v : ℕ} {a y :
       made = λ o.
           let n = registers + cells in
           let m = word .made o .1 in
-          carried-shown i (m .machine n most) (m .fits) (m .frame) p code (leaves .exact p code costs) (stored (a .value))
+          carried-shown i (m .machine n most) (m .fits) (m .frame) p code (c .control .window) (leaves .exact p code costs) (stored (a .value))
           (withOutside (stateIn w n) (remember (tableIn w) (a .value) y)) (suc (c .control .place)) (overfull (tableIn w) (a .value)) refl
           (add-one (c .control .place)) refl et counted;
       unmade = λ o. absurd (true≢false (sym (was-made (x .made) h) ∙ word .unmade o .0));

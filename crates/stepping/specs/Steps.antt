@@ -3,7 +3,7 @@
 use mathlib.Core.Path.{_≡_}
 use mathlib.Core.Bool.{true, false}
 use mathlib.Core.List.{List, [], _∷_, _++_}
-use Prim.Native.Nat.{ℕ, suc, _+_, _*_, _^_, _<_, _≤_}
+use Prim.Native.Nat.{ℕ, suc, _+_, _*_, _^_, _<_, _≤_, max}
 use lib.ListN.{length, drop}
 use lib.Seq.{sets}
 use Rattle.location.specs.declared.LocationSet.{LocationSet}
@@ -97,15 +97,19 @@ outsideEffect σ p a v = record {
   overfull = overfull (σ .outside) (a .value);
 }
 
--- what an instruction leaves of the top's window; with nothing open the window is kept
-abbrev pub leftBy : Code → Instr → Control → ℕ
-leftBy code i c = windowAt (c .depth) (c .window) (remaining code i (c .window))
+-- what an instruction leaves of the top's window; u with nothing open
+abbrev pub leftBy : ℕ → Code → Instr → Control → ℕ
+leftBy u code i c = windowAt (c .depth) u (remaining code i (c .window))
+
+-- the same where the window is lowered with nothing open too, but not below 1
+abbrev pub loweredBy : Code → Instr → Control → ℕ
+loweredBy code i c = leftBy (max 1 (remaining code i (c .window))) code i c
 
 -- The progress after an instruction that changes no location and goes to a place, with so many observations, which rest on s, by the window
 -- costs of the words w.
 pub record StateKept (w : List ℕ) (place observations : ℕ) (s : LocationSet) (i : Instruction) (c c′ : Progress) : Type 0 where
   pub exact : (p : List ℕ) (code : Code) → code .costs ≡ costsIn (drop labels w)
-      → c′ ≡ progressAfter c (gone (c .control) place (leftBy code (meaning p i) (c .control))) observations s
+      → c′ ≡ progressAfter c (gone (c .control) place (loweredBy code (meaning p i) (c .control))) observations s
 
 -- The words fit, each kind of instruction costs 1 at least, and there is some window left: rule 1 is not for the window's sake the next.
 pub record Unexpired (w : List ℕ) (c : Progress) : Type 0 where
@@ -120,8 +124,16 @@ pub record Steppable (observations : ℕ) (x : Standing) : Type 0 where
   pub place : x .progress .control .place + 1 < 2 ^ 64
   pub steps : x .progress .steps + 1 < 2 ^ 64
 
--- What instruction i leaves of the window, by the window costs of the words w: where each kind costs 1 at least, with a branch open less than
--- there was, and with none not 0, if there was any.
+-- What instruction i leaves of a window, by the window costs of the words w.
+pub record Charged (w : List ℕ) (window : ℕ) (i : Instruction) (v : ℕ) : Type 0 where
+  pub exact : (p : List ℕ) (code : Code) → code .costs ≡ costsIn (drop labels w) → v ≡ remaining code (meaning p i) window
+
+-- What it leaves of the top's; with nothing open the window is kept. Where each kind costs 1 at least, it is less than there was with a branch
+-- open, and with none not 0, if there was any.
 pub record Leaves (w : List ℕ) (c : Control) (i : Instruction) (v : ℕ) : Type 0 where
-  pub exact : (p : List ℕ) (code : Code) → code .costs ≡ costsIn (drop labels w) → v ≡ leftBy code (meaning p i) c
+  pub exact : (p : List ℕ) (code : Code) → code .costs ≡ costsIn (drop labels w) → v ≡ leftBy (c .window) code (meaning p i) c
   pub left : PositiveCosts (costsIn (drop labels w)) → 0 < c .window → Left c v
+
+-- What it leaves of the top's, where the window is lowered with nothing open too.
+pub record Lowers (w : List ℕ) (c : Control) (i : Instruction) (v : ℕ) : Type 0 where
+  pub exact : (p : List ℕ) (code : Code) → code .costs ≡ costsIn (drop labels w) → v ≡ loweredBy code (meaning p i) c

@@ -21,10 +21,11 @@ ghost use Rattle.location.specs.Sets.{registers, limit, empty};
 ghost use Rattle.rules.specs.Rules.Calls.{traceWords, workingWords};
 ghost use Rattle.rules.specs.Rules.Instructions.{pcKind, pc};
 ghost use Rattle.rules.specs.Rules.Plain.{put, silent, loadEffect, storeEffect, goEffect};
-ghost use Rattle.work.specs.Words.{taggedAt};
+ghost use Rattle.work.specs.Words.{taggedAt, windowAt};
 ghost use Rattle.work.specs.Machines.{maxWindow, Fit};
 ghost use Rattle.stepping.specs.Progress.{standing, standingBefore, standingAfter, gatherAt, progressAfter, progressUnmade};
-ghost use Rattle.stepping.specs.Steps.{Unexpired, Steppable, Leaves, RolledBackTo, OpenedTo, CarriedOut, TriedOut, StateKept, wordEffect, outsideEffect};
+ghost use Rattle.stepping.specs.Steps.{Unexpired, Steppable, Charged, Leaves, Lowers, RolledBackTo, OpenedTo, CarriedOut, TriedOut, StateKept};
+ghost use Rattle.stepping.specs.Steps.{wordEffect, outsideEffect};
 
 // Where a run stands: the machine's control, the counts, the full set and the plain set. The rollbacks are not counted: every branch
 // that was opened is open or rolled back.
@@ -111,8 +112,16 @@ pub fn roll_back(work: &mut [u64], trace: &mut [u64], c: Progress) -> Progress
     count_step(c, next, 2, LocationSet::empty())
 }
 
-// What an instruction leaves of the top's window, by its kind's entry in the table of window costs. With nothing open the window is kept, so
-// that it is 0 for rule 1 alone.
+// What an instruction leaves of a window, by its kind's entry in the table of window costs.
+fn charged(work: &[u64], window: usize, i: Instruction) -> usize
+    requires { ⌜ workingWords ≤ length (now work) ⌝ }
+    ensures { λ r. ⌜ Charged (now (work .entry)) window i r ⌝ }
+{
+    let cost = work::cost_of(work, instruction::kind(i));
+    instruction::lowered(cost, window as u64, i) as usize
+}
+
+// What an instruction leaves of the top's window. With nothing open the window is kept, so that it is 0 for rule 1 alone.
 fn remaining_window(work: &[u64], c: Control, i: Instruction) -> usize
     requires { ⌜ workingWords ≤ length (now work) ⌝ }
     ensures { λ r. ⌜ Leaves (now (work .entry)) c i r ⌝ }
@@ -120,8 +129,30 @@ fn remaining_window(work: &[u64], c: Control, i: Instruction) -> usize
     if c.depth == 0 {
         return c.window;
     }
-    let cost = work::cost_of(work, instruction::kind(i));
-    instruction::lowered(cost, c.window as u64, i) as usize
+    charged(work, c.window, i)
+}
+
+// The least window: 0, but with nothing open 1, so that it is 0 for rule 1 alone.
+fn least_window(depth: usize) -> usize
+    ensures { λ r. ⌜ r ≡ windowAt depth 1 0 ⌝ }
+{
+    if depth == 0 {
+        return 1;
+    }
+    0
+}
+
+// What an instruction that changes no location leaves of the top's window. Its step asks nothing else of the depth, and a jump by the depth
+// would cost more than what it spares: with nothing open the window is lowered too, but not below the least.
+fn lowered_window(work: &[u64], c: Control, i: Instruction) -> usize
+    requires { ⌜ workingWords ≤ length (now work) ⌝ }
+    ensures { λ r. ⌜ Lowers (now (work .entry)) c i r ⌝ }
+{
+    let left = charged(work, c.window, i);
+    if left == 0 {
+        return least_window(c.depth);
+    }
+    left
 }
 
 // Rule 2 for beqz r, l, with its observations; t is what the register holds, and w is the window of a branch that is opened with none
@@ -158,7 +189,7 @@ pub fn skip(work: &[u64], c: Progress, i: Instruction) -> Progress
         → CarriedOut cells i (λ code σ. silent σ (c .control .place)) (standing (now (work .entry)) t c) (standing (now (work .entry)) t x)) ⌝ }
 {
     let control = c.control;
-    let remaining = remaining_window(work, control, i);
+    let remaining = lowered_window(work, control, i);
     let next = work::machine::go(control, control.place + 1, remaining);
     count_step(c, next, 0, LocationSet::empty())
 }
@@ -276,26 +307,25 @@ pub fn store(
     count_step(c, next, 1, deps)
 }
 
-// Rule 3 for a jump or a branch to a place, which rests on v.
+// Rule 3 for a jump or a branch to a place, which rests on the set `observed`.
 pub fn go_to(
     work: &[u64],
     trace: &mut [u64],
     c: Progress,
     i: Instruction,
     place: usize,
-    v: Tagged,
+    observed: LocationSet,
 ) -> Progress
     requires { ⌜ (workingWords ≤ length (now work)) × (2 * (c .observations + 1) ≤ length (now trace)) × (c .steps + 1 < 2 ^ 64) ⌝ }
-    ensures exact { λ x. ⌜ StateKept (now (work .entry)) place 1 (v .deps) i c x
+    ensures exact { λ x. ⌜ StateKept (now (work .entry)) place 1 observed i c x
         × (now (trace .exit) ≡ sets (now (trace .entry)) (2 * c .observations) (traceWords (pc place ∷ []))) ⌝ }
-    ensures carried { λ x. ⌜ ((cells : ℕ) → Unexpired (now (work .entry)) c → registers + cells ≤ limit
+    ensures carried { λ x. ⌜ ((v : Tagged) (cells : ℕ) → v .deps ≡ observed → Unexpired (now (work .entry)) c → registers + cells ≤ limit
         → CarriedOut cells i (λ code σ. goEffect σ place v)
         (standing (now (work .entry)) (now (trace .entry)) c) (standing (now (work .entry)) (now (trace .exit)) x)) ⌝ }
 {
     let control = c.control;
-    let remaining = remaining_window(work, control, i);
+    let remaining = lowered_window(work, control, i);
     let next = work::machine::go(control, place, remaining);
     observe(&mut trace[..], c.observations, PC, place as u64);
-    let seen = v.deps;
-    count_step(c, next, 1, seen)
+    count_step(c, next, 1, observed)
 }

@@ -16,7 +16,7 @@ ghost use Rattle.work.specs.Machines.{withEntry, maxWindow, Fit, Left};
 ghost use Rattle.work.specs.Moves.{Moves, RollsBack, ordinaryNext, gone, loggedTo, openingNext};
 
 // The place, how many branches are open, how many changes are logged, how many branches were opened in all, and the window of the
-// top one; with none open it is kept, and is not 0.
+// top one; with none open it is no window, and not 0.
 pub struct Control {
     pub place: usize,
     pub depth: usize,

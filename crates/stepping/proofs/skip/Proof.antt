@@ -8,8 +8,8 @@ returns : tie.Need-returns
 returns c =
     let at-empty = c .before in
     let at-go = at-empty .before in
-    let at-remaining-window = at-go .before .before in
-    let k = kept (at-remaining-window .remaining-window .ensures) (at-go .go .ensures) (at-empty .empty .ensures) (c .count-step .ensures) in
+    let at-lowered-window = at-go .before .before in
+    let k = kept (at-lowered-window .lowered-window .ensures) (at-go .go .ensures) (at-empty .empty .ensures) (c .count-step .ensures) in
     (k, λ t cells live most. kept-silently live most k)
 
 pub skip-spec : {M : Type 1} → statement M

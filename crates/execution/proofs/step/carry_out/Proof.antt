@@ -190,7 +190,7 @@ returns-9 c =
     let l = at-start .pre .limits .cells in
     jump-carried (at-enum-told2 .enum-told2 .given .1) (rw (at-enum-told2 .enum-told2 .given .1) at (at-start .pre .value))
     (sym (at-subset3 .subset3 .ensures) ∙ kept-true _ (at-if3 .if3 .left)) (at-jump-to .jump-to .ensures)
-    (at-go-to .go-to .ensures .1 (at-start .args .t .cells) (at-start .pre .unexpired) (omega arith))
+    (at-go-to .go-to .ensures .1 (at-start .args .a) (at-start .args .t .cells) refl (at-start .pre .unexpired) (omega arith))
 
 returns-10 : tie.Need-returns-10
 returns-10 c =
@@ -204,7 +204,7 @@ returns-10 c =
     let q = rw (at-i4 .i4 .given .1) at (at-start .pre) in
     branch-carried (at-i4 .i4 .given .1) (q .below) (rw (at-i4 .i4 .given .1) at (at-start .pre .value) ∙ register-value _ _)
     (sym (at-subset4 .subset4 .ensures) ∙ kept-true _ (at-if4 .if4 .left)) (at-branch-to .branch-to .ensures)
-    (at-go-to2 .go-to2 .ensures .1 (at-start .args .t .cells) (at-start .pre .unexpired) (omega arith))
+    (at-go-to2 .go-to2 .ensures .1 (at-start .args .a) (at-start .args .t .cells) refl (at-start .pre .unexpired) (omega arith))
 
 returns-11 : tie.Need-returns-11
 returns-11 c =
