@@ -1,17 +1,19 @@
-//! Fixed cases of running: each operator at its edges, loads and stores at the edges of memory, the
-//! deepest nesting, the longest wrong paths, and the misreadings that document 01 rules out.
+//! Fixed cases of running: each operator at its edges, loads and stores at the edges of memory, jumps to
+//! and past the last labels, the deepest nesting, the longest wrong paths, and the misreadings that
+//! document 01 rules out.
 
 use crate::calls::Lengths;
 use crate::fixed::{case_of, Cases, ROOMY};
 use crate::job_file::{
     assign, beqz, conditional, jmp, load, skip, spbarr, store, Instruction, Parts, Token, ADD,
-    MAX_BUDGET, REGISTERS, XOR,
+    MAX_BUDGET, MAX_INSTRUCTIONS, REGISTERS, XOR,
 };
 
 pub fn add(cases: &mut Cases) {
     operators(cases);
     memory_edges(cases);
     jump_values(cases);
+    jumps_to_the_last_labels(cases);
     deep_nesting(cases);
     long_wrong_paths(cases);
     misreadings(cases);
@@ -63,17 +65,30 @@ fn memory_edges(cases: &mut Cases) {
     }
 }
 
-/// A jump's place is its value, END from n on; the jump is made on the plain and on a wrong path.
+/// A jump's place is its value, END from n on, whether a register holds it or the program names it; the
+/// jump is made on the plain and on a wrong path. Among the values are those that are a label modulo
+/// 2^16 or 2^32.
 fn jump_values(cases: &mut Cases) {
-    for value in (0..8).chain([511, 512, 513, 65_536, 1 << 32, 1 << 63, u64::MAX]) {
-        for taken in [0, 1] {
-            let program =
-                vec![beqz(1, 3), skip(), jmp(&[Token::Register(0)]), skip(), spbarr(), skip()];
-            let mut parts = Parts::new(program, 1, 5, 40);
-            parts.state[0] = value;
-            parts.state[1] = taken;
-            cases.push(case_of(&parts, ROOMY));
+    let far = (65_530..65_544).chain([131_074, 1 << 32, (1 << 32) + 3, 1 << 63, u64::MAX]);
+    for value in (0..8).chain([511, 512, 513]).chain(far) {
+        for to in [Token::Register(0), Token::Constant(value)] {
+            for taken in [0, 1] {
+                let program = vec![beqz(1, 3), skip(), jmp(&[to]), skip(), spbarr(), skip()];
+                let mut parts = Parts::new(program, 1, 5, 40);
+                parts.state[0] = value;
+                parts.state[1] = taken;
+                cases.push(case_of(&parts, ROOMY));
+            }
         }
+    }
+}
+
+/// A jump to the last labels that a program can have, and past them.
+fn jumps_to_the_last_labels(cases: &mut Cases) {
+    for value in MAX_INSTRUCTIONS as u64 - 3..MAX_INSTRUCTIONS as u64 + 3 {
+        let mut program = vec![skip(); MAX_INSTRUCTIONS];
+        program[0] = jmp(&[Token::Constant(value)]);
+        cases.push(case_of(&Parts::new(program, 1, 5, 40), ROOMY));
     }
 }
 
