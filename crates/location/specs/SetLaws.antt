@@ -4,7 +4,7 @@
 use mathlib.Core.Path.{_≡_, refl, sym, ap, ap₂, _∙_}
 use mathlib.Core.Bool.{Bool, true, false, _&&_, _||_, true≢false}
 use mathlib.Core.List.{List, [], _∷_}
-use Prim.Native.Nat.{ℕ, zero, suc, _+_, _*_, _/_, _%_, _^_, _<_, _≤_, max}
+use Prim.Native.Nat.{ℕ, zero, suc, _+_, _-_, _*_, _/_, _%_, _^_, _<_, _≤_, max}
 use native.Mathlib.Nat.{div-self, zero-div, div-one, zero-max, div-add-mod'}
 use native.Mathlib.Numerals.{one-add}
 use native.Mathlib.Omega.{arith}
@@ -16,7 +16,7 @@ use lib.ListN.{length, getD, replicate, length-replicate, List·getD-eq-default}
 use lib.Seq.{getD-set-same, set-out}
 use borrow.Author.Tests.{eqb-true, eq-eqb, ltb-true}
 use Rattle.location.specs.declared.LocationSet.{LocationSet}
-use Rattle.location.specs.Sets.{bit, has, none, only, either, inside, empty, single, union, subset, member}
+use Rattle.location.specs.Sets.{bit, has, bitsFrom, none, only, either, inside, empty, single, union, subset, member, rest}
 
 -- ---- Bool
 pub or-left : (a b : Bool) → a ≡ true → (a || b) ≡ true
@@ -279,6 +279,20 @@ pub has-nil : (l : ℕ) → has [] l ≡ false
 unfolding has
 has-nil l = bit-zero (l % 64)
 
+-- ---- a word from one number on
+-- its lowest bit is whether that number is in the set
+pub has-low : (s : List ℕ) (l : ℕ) → has s l ≡ eqb (bitsFrom s l % 2) 1
+unfolding has bit bitsFrom
+has-low s l = refl
+
+-- where it is 0, no number from that one to the end of the word is in the set
+pub has-rest : (s : List ℕ) (l k : ℕ) → bitsFrom s l ≡ 0 → l ≤ k → k < l + (64 - l % 64) → has s k ≡ false
+unfolding has bit bitsFrom
+has-rest s l k z h i =
+    let e : k / 64 ≡ l / 64 = omega arith in
+    let j : k % 64 ≡ l % 64 + (k - l) = omega arith in
+    rw (e, j, ← shr-shr (getD s (l / 64) 0) (l % 64) (k - l), z, zero-div (2 ^ (k - l))) refl
+
 -- every number of s is in t
 abbrev Each : List ℕ → List ℕ → Type 0
 Each s t = (l : ℕ) → has s l ≡ true → has t l ≡ true
@@ -360,6 +374,14 @@ empty-union s h = ap (λ (ws : List ℕ). record { words = ws }) (either-comm (n
 pub member-single : (l : ℕ) → l < 256 → member (single l) l ≡ true
 unfolding member single
 member-single l h = has-only 4 l (omega arith)
+
+pub member-low : (s : LocationSet) (l : ℕ) → member s l ≡ eqb (rest s l % 2) 1
+unfolding member rest
+member-low s l = has-low (s .words) l
+
+pub member-rest : (s : LocationSet) (l k : ℕ) → rest s l ≡ 0 → l ≤ k → k < l + (64 - l % 64) → member s k ≡ false
+unfolding member rest
+member-rest s l k z h i = has-rest (s .words) l k z h i
 
 pub within-refl : (s : LocationSet) → Within s s
 within-refl s = record { each = λ l h. h }

@@ -25,6 +25,10 @@ bit w k = eqb (w / 2 ^ k % 2) 1
 unfoldable pub has : List ℕ → ℕ → Bool
 has s l = bit (getD s (l / 64) 0) (l % 64)
 
+-- the bits of l's word from l on: its lowest bit is l's
+unfoldable pub bitsFrom : List ℕ → ℕ → ℕ
+bitsFrom s l = getD s (l / 64) 0 / 2 ^ (l % 64)
+
 unfoldable pub none : ℕ → List ℕ
 none n = replicate n 0
 
@@ -61,3 +65,6 @@ subset s t = inside (s .words) (t .words)
 
 unfoldable pub member : LocationSet → ℕ → Bool
 member s l = has (s .words) l
+
+unfoldable pub rest : LocationSet → ℕ → ℕ
+rest s l = bitsFrom (s .words) l

@@ -2,7 +2,7 @@
 // Fields are private: a number of one kind becomes one of another only by the functions here.
 ghost use mathlib.Core.Path.{_≡_};
 ghost use Prim.Native.Nat.{_+_, _<_, _^_};
-ghost use Rattle.location.specs.Sets.{registers, empty, single, union, subset, member};
+ghost use Rattle.location.specs.Sets.{registers, limit, empty, single, union, subset, member, rest};
 
 // An instruction's number in the program; the number of instructions is the place END.
 pub struct Label(usize);
@@ -82,6 +82,8 @@ pub struct LocationSet {
 
 impl LocationSet {
     pub const LIMIT: usize = 256;
+    // How many locations a word has.
+    pub const BITS: usize = 64;
 
     pub fn empty() -> Self
         ensures { λ r. ⌜ r ≡ empty ⌝ }
@@ -142,5 +144,15 @@ impl LocationSet {
         }
         let i = k / 64;
         (words[i] >> (k % 64)) % 2 == 1
+    }
+
+    // The locations of the set from l to the end of l's word: location l + k is bit k.
+    pub fn rest(self, l: Location) -> u64
+        requires { ⌜ l .0 < limit ⌝ }
+        ensures { λ r. ⌜ r ≡ rest self (l .0) ⌝ }
+    {
+        let words = self.words;
+        let k = l.0;
+        words[k / 64] >> (k % 64)
     }
 }
