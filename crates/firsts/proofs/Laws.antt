@@ -8,13 +8,12 @@ use Prim.Native.Nat.{ℕ, zero, suc, _+_, _-_, _*_, _/_, _%_, _^_, _<_, _≤_}
 use native.Mathlib.Nat.{add-zero, zero-add, le-refl, pow-suc}
 use native.Mathlib.Decide.{decLt}
 use native.Mathlib.Omega.{arith}
-use borrow.Author.Tests.{eqb-true}
 use lib.Dec.{eqb}
-use lib.ListN.{length, getD, drop, set, replicate, length-set}
+use lib.ListN.{length, getD, drop, set, length-set}
 use lib.Seq.{ext-getD, getD-set-same, getD-set-other, drop-set-lt}
 use Rattle.location.specs.declared.LocationSet.{LocationSet}
-use Rattle.location.specs.Sets.{limit, bit, has, subset, member}
-use Rattle.location.specs.SetLaws.{and-left, and-right, bit-0, bit-half, bit-zero, has-head, has-tail, has-nil, subset-within}
+use Rattle.location.specs.Sets.{limit, bit, has, subset, member, rest}
+use Rattle.location.specs.SetLaws.{bit-0, bit-half, bit-zero, has-head, has-tail, has-nil, subset-within}
 use Rattle.rules.specs.declared.Cause.{Cause}
 use Rattle.rules.specs.declared.Cause.the-variants.{Branch, Jump, Load, Store}
 use Rattle.rules.specs.declared.First.{First}
@@ -25,8 +24,9 @@ use Rattle.work.specs.Layout.{reports, reportBase, labels}
 use Rattle.rules.specs.Rules.Firsts.{noReport, firstsOf}
 use Rattle.rules.specs.Theorems.Firsts.{firsts-none}
 use Rattle.location.proofs.Laws.{four}
+use Rattle.location.proofs.Filling.{Filled, filled-none, filled-next}
 use Rattle.work.proofs.Past.{SameMachine, machine-refl, machine-trans, past-same}
-use Rattle.firsts.specs.Reports.{report, packed, causeAt, unpacked, reportIn, reportOn, vacant, reportsIn}
+use Rattle.firsts.specs.Reports.{report, packed, causeAt, unpacked, reportIn, reportOn, reportsIn}
 use Rattle.firsts.specs.Recording.{recordedBit, recordedBits, recordedFrom, recorded}
 
 -- ---- packing
@@ -273,13 +273,6 @@ unfolding recorded recordedFrom
 recorded-words x full seen w w₁ w₂ w₃ w₄ hf hs e₁ e₂ e₃ e₄ = rw (← four (full .words) hf, ← four (seen .words) hs, e₄, e₃, e₂, e₁)
 
 -- ---- what is read
-pub told-member : (w : List ℕ) (full : LocationSet) (l k : ℕ) {b : Bool} {r : First} → k ≡ l → b ≡ member full k → b ≡ true
-    → r ≡ reportIn w l → r ≡ reportOn w full l
-told-member w full l k e m b h = h ∙ ap (λ (c : Bool). cond c (reportIn w l) noReport) (sym b ∙ m ∙ ap (member full) e)
-
-pub told-nothing : (w : List ℕ) (full : LocationSet) (l k : ℕ) {b : Bool} → k ≡ l → b ≡ member full k → b ≡ false → noReport ≡ reportOn w full l
-told-nothing w full l k e m b = ap (λ (c : Bool). cond c (reportIn w l) noReport) (sym b ∙ m ∙ ap (member full) e)
-
 pub reports-length : (w : List ℕ) (full : LocationSet) (l n : ℕ) → length (reportsIn w full l n) ≡ n
 unfolding reportsIn
 reports-length w full l zero = refl
@@ -293,58 +286,20 @@ reports-at w full l (suc n) (suc k) h =
     let e : l + 1 + k ≡ l + suc k = omega arith in
     reports-at w full (l + 1) n k (omega arith) ∙ ap (reportOn w full) e
 
--- where a word of the set is empty, nothing is reported of its locations
-pub vacant-nothing : (w : List ℕ) (full : LocationSet) (l k : ℕ) → vacant full l ≡ true → l ≤ k → k < l + 64 → reportOn w full k ≡ noReport
-unfolding vacant member has
-vacant-nothing w full l k v h i =
-    let a = eqb-true (l % 64) 0 (and-left (eqb (l % 64) 0) (eqb (getD (full .words) (l / 64) 0) 0) v) in
-    let b = eqb-true (getD (full .words) (l / 64) 0) 0 (and-right (eqb (l % 64) 0) (eqb (getD (full .words) (l / 64) 0) 0) v) in
-    let e : k / 64 ≡ l / 64 = omega arith in
-    rw (e, b, bit-zero (k % 64))
+-- ---- the list of all reports, filled by a walk over D
+pub reports-none : (w : List ℕ) (full : LocationSet) {xs : List First} → xs ≡ firstsOf [] → Filled full noReport (reportOn w full) xs 0
+reports-none w full e =
+    rw (e, firsts-none) (filled-none full noReport (reportOn w full) (λ k h m. ap (λ (b : Bool). cond b (reportIn w k) noReport) m))
 
--- and there is room for them
-pub vacant-room : (full : LocationSet) (l : ℕ) → vacant full l ≡ true → l < limit → l + 64 ≤ limit
-unfolding vacant
-vacant-room full l v h =
-    let a = eqb-true (l % 64) 0 (and-left (eqb (l % 64) 0) (eqb (getD (full .words) (l / 64) 0) 0) v) in
-    omega arith
+-- location l of D has its report; j is its number, and r what is left of its word
+pub reports-next : (w : List ℕ) (full : LocationSet) {xs : List First} {l j r : ℕ} → Filled full noReport (reportOn w full) xs l → l < limit
+    → j ≡ l → r ≡ rest full j → r % 2 ≡ 1 → {x : First} → x ≡ reportIn w l → Filled full noReport (reportOn w full) (set xs l x) (l + 1)
+reports-next w full {l = l} h next same left odd e =
+    filled-next h next same left odd (λ m. e ∙ ap (λ (b : Bool). cond b (reportIn w l) noReport) (sym m))
 
--- the locations of such a word are passed
-pub filled-past : (w : List ℕ) (full : LocationSet) (xs : List First) (l : ℕ) → vacant full l ≡ true
-    → ((k : ℕ) → k < l → getD xs k noReport ≡ reportOn w full k) → ((k : ℕ) → l ≤ k → getD xs k noReport ≡ noReport)
-    → (k : ℕ) → k < l + 64 → getD xs k noReport ≡ reportOn w full k
-filled-past w full xs l v h r k i = go (decLt k l)
-  where
-    go : Dec (k < l) → getD xs k noReport ≡ reportOn w full k
-    go (yes q) = h k q
-    go (no n) = r k (omega arith) ∙ sym (vacant-nothing w full l k v (omega arith) i)
-
--- those after the next one are left
-pub rest-next : (xs : List First) (l : ℕ) (x : First) → ((k : ℕ) → l ≤ k → getD xs k noReport ≡ noReport)
-    → (k : ℕ) → l + 1 ≤ k → getD (set xs l x) k noReport ≡ noReport
-rest-next xs l x r k i = getD-set-other xs l k x noReport (λ z. absurd (omega arith)) ∙ r k (omega arith)
-
--- nothing is reported at first
-pub rest-all : (xs : List First) → xs ≡ firstsOf [] → (k : ℕ) → 0 ≤ k → getD xs k noReport ≡ noReport
-rest-all xs e k h = rw (e, firsts-none) (go limit k)
-  where
-    go : (n k : ℕ) → getD (replicate n noReport) k noReport ≡ noReport
-    go zero k = refl
-    go (suc n) zero = refl
-    go (suc n) (suc k) = go n k
-
--- a list with the report of one location more, and one with all of them
-pub filled-next : (w : List ℕ) (full : LocationSet) (xs : List First) (l : ℕ) (x : First) → l < length xs
-    → ((k : ℕ) → k < l → getD xs k noReport ≡ reportOn w full k) → x ≡ reportOn w full l
-    → (k : ℕ) → k < l + 1 → getD (set xs l x) k noReport ≡ reportOn w full k
-filled-next w full xs l x b h e k i = go (decLt k l)
-  where
-    go : Dec (k < l) → getD (set xs l x) k noReport ≡ reportOn w full k
-    go (yes q) = getD-set-other xs l k x noReport (λ z. absurd (omega arith)) ∙ h k q
-    go (no n) = let z : k ≡ l = omega arith in rw z (getD-set-same xs l x noReport b ∙ e)
-
-pub filled-all : (w : List ℕ) (full : LocationSet) (xs : List First) → length xs ≡ limit
-    → ((k : ℕ) → k < limit → getD xs k noReport ≡ reportOn w full k) → xs ≡ reportsIn w full 0 limit
-filled-all w full xs n h =
-    ext-getD noReport xs (reportsIn w full 0 limit) (n ∙ sym (reports-length w full 0 limit))
-    (λ k i. let b : k < limit = omega arith in h k b ∙ sym (reports-at w full 0 limit k b ∙ ap (reportOn w full) (zero-add k)))
+pub reports-all : (w : List ℕ) (full : LocationSet) {xs : List First} {l : ℕ} → Filled full noReport (reportOn w full) xs l → limit ≤ l
+    → xs ≡ reportsIn w full 0 limit
+reports-all w full {xs} h e =
+    ext-getD noReport xs (reportsIn w full 0 limit) (h .size ∙ sym (reports-length w full 0 limit))
+    (λ k i. let b : k < limit = omega (arith, h .size) in
+    h .passed k (omega arith) ∙ sym (reports-at w full 0 limit k b ∙ ap (reportOn w full) (zero-add k)))

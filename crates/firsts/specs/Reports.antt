@@ -1,10 +1,9 @@
 -- The report of a location as one of the working words, and what a run's words tell of the sets that it has observed.
 -- Assumes nothing.
 use mathlib.Core.Path.{_≡_}
-use mathlib.Core.Bool.{Bool, true, _&&_, cond}
+use mathlib.Core.Bool.{true, cond}
 use mathlib.Core.List.{List, [], _∷_}
 use Prim.Native.Nat.{ℕ, zero, suc, _+_, _*_, _/_, _%_, _<_}
-use lib.Dec.{eqb}
 use lib.ListN.{getD}
 use Rattle.location.specs.declared.LocationSet.{LocationSet}
 use Rattle.location.specs.Sets.{limit, member}
@@ -39,10 +38,6 @@ reportIn w l = unpacked (getD w (reportBase l) 0)
 -- where D is the set
 abbrev pub reportOn : List ℕ → LocationSet → ℕ → First
 reportOn w full l = cond (member full l) (reportIn w l) noReport
-
--- whether a word of the set begins with location l and is empty: then the 64 locations from l on are not in it
-unfoldable pub vacant : LocationSet → ℕ → Bool
-vacant full l = eqb (l % 64) 0 && eqb (getD (full .words) (l / 64) 0) 0
 
 -- of n locations from l on
 unfoldable pub reportsIn : List ℕ → LocationSet → ℕ → ℕ → List First

@@ -13,7 +13,7 @@ ghost use Rattle.rules.specs.Rules.Limits.{maxInstructions};
 ghost use Rattle.rules.specs.Rules.Calls.{workingWords};
 ghost use Rattle.rules.specs.Rules.Firsts.{noReport, firstsOf};
 ghost use mathlib.Core.List.{[]};
-ghost use Rattle.firsts.specs.Reports.{report, packed, causeAt, unpacked, reportOn, vacant, reportsIn};
+ghost use Rattle.firsts.specs.Reports.{report, packed, causeAt, unpacked, reportsIn};
 ghost use Rattle.firsts.specs.Recording.{recordedBit, recordedBits, recorded};
 
 // What an index counts in a packed word, and what a cause does; a label is less than CAUSE.
@@ -23,7 +23,7 @@ const CAUSE: u64 = 512;
 
 const CAUSES: u64 = 4;
 // How many locations a word of a set has.
-const BITS: usize = 64;
+const BITS: usize = LocationSet::BITS;
 
 fn cause_number(cause: Cause) -> u64
     ensures { λ r. ⌜ r ≡ causeNumber cause ⌝ }
@@ -146,30 +146,7 @@ pub fn nothing() -> [First; LocationSet::LIMIT]
     [first; LocationSet::LIMIT]
 }
 
-// What is reported of location l, where D is the set.
-fn report_on(work: &[u64], full: LocationSet, l: usize) -> First
-    requires { ⌜ (workingWords ≤ length (now work)) × (l < limit) ⌝ }
-    ensures { λ r. ⌜ r ≡ reportOn (now (work .entry)) full l ⌝ }
-{
-    if full.member(Location::new(l)) {
-        return unpack(work[work::REPORTS + l]);
-    }
-    no_report()
-}
-
-// Whether a word of D begins with location l and is empty.
-fn is_vacant(full: LocationSet, l: usize) -> bool
-    requires { ⌜ l < limit ⌝ }
-    ensures { λ r. ⌜ r ≡ vacant full l ⌝ }
-{
-    let words = full.words;
-    if l % BITS != 0 {
-        return false;
-    }
-    words[l / BITS] == 0
-}
-
-// What is reported of every location. An empty word of D is passed at once, as there is nothing to report of its locations.
+// What is reported of every location. Where nothing is left of a word of D, the next word follows: nothing is reported of what is passed.
 pub fn reports(work: &[u64], full: LocationSet) -> [First; LocationSet::LIMIT]
     requires { ⌜ workingWords ≤ length (now work) ⌝ }
     ensures { λ r. ⌜ r ≡ reportsIn (now (work .entry)) full 0 limit ⌝ }
@@ -177,10 +154,13 @@ pub fn reports(work: &[u64], full: LocationSet) -> [First; LocationSet::LIMIT]
     let mut firsts = nothing();
     let mut l = 0;
     while l < LocationSet::LIMIT {
-        if is_vacant(full, l) {
-            l += BITS;
+        let left = full.rest(Location::new(l));
+        if left == 0 {
+            l += BITS - l % BITS;
+        } else if left % 2 == 1 {
+            firsts[l] = unpack(work[work::REPORTS + l]);
+            l += 1;
         } else {
-            firsts[l] = report_on(work, full, l);
             l += 1;
         }
     }
