@@ -1,14 +1,17 @@
 -- The words of an answer, as the code writes them one by one.
 -- Assumes nothing.
-use mathlib.Core.Path.{_≡_, sym, ap, _∙_}
+use mathlib.Core.Path.{_≡_, refl, sym, ap, _∙_}
+use mathlib.Core.Logic.{_≢_}
 use mathlib.Core.List.{List, [], _∷_, _++_}
-use Prim.Native.Nat.{ℕ, suc, _+_, _*_, _<_, _≤_}
+use Prim.Native.Nat.{ℕ, zero, suc, _+_, _-_, _*_, _%_, _<_, _≤_}
 use native.Mathlib.Nat.{add-zero}
 use native.Mathlib.Omega.{arith}
-use lib.ListN.{length, getD, set, drop, drop-of-length-le}
-use lib.Seq.{sets, length-sets, drop-cons}
+use lib.ListN.{length, getD, set, replicate}
+use lib.Seq.{sets, length-sets, set-set, set-comm, ext-getD}
 use Rattle.location.specs.declared.LocationSet.{LocationSet}
+use Rattle.location.specs.Sets.{limit, rest}
 use Rattle.location.proofs.Laws.{four}
+use Rattle.location.proofs.Filling.{Filled, filled-none, filled-word, filled-other, filled-next}
 use Rattle.rules.specs.declared.Verdict.{Verdict}
 use Rattle.rules.specs.declared.Counts.{Counts}
 use Rattle.rules.specs.declared.PlainCounts.{PlainCounts}
@@ -16,7 +19,8 @@ use Rattle.rules.specs.declared.First.{First}
 use Rattle.rules.specs.declared.PairWord.{PairWord}
 use Rattle.rules.specs.declared.PairWord.the-variants as words
 use Rattle.rules.specs.Rules.Answers.{stopNumber, verdictNumber, causeNumber, pairNumber}
-use Rattle.answer_words.specs.Words.{countWords, reportWords, reportsWords, runWords, plainWords}
+use Rattle.rules.specs.Rules.Firsts.{noReport}
+use Rattle.answer_words.specs.Words.{countWords, reportWords, reportsWords, MembersOnly, runWords, plainWords}
 use Rattle.answer_words.specs.Words.{pairWords, unfinishedWords, testLoadWords}
 
 -- what a run counts, from a place on
@@ -36,32 +40,88 @@ report-written l at x ek =
     let e₂ : at + 2 ≡ suc (suc at) = omega arith in
     rw (ek, e₁, e₂)
 
--- the reports of the first n locations are written: with those of all others too, the area l has them all from `at` on
-pub record Reported (l : List ℕ) (at : ℕ) (xs : List First) (l₁ : List ℕ) (n : ℕ) : Type 0 where
-  pub few : n ≤ length xs
-  pub area : sets l₁ (at + 3 * n) (reportsWords (drop n xs)) ≡ sets l at (reportsWords xs)
+-- one word more is 0
+pub cleared-next : (l : List ℕ) (at n : ℕ) → set (sets l at (replicate n 0)) (at + n) 0 ≡ sets l at (replicate (n + 1) 0)
+cleared-next l at zero = ap (λ (i : ℕ). set l i 0) (add-zero at)
+cleared-next l at (suc n) =
+    let e : at + suc n ≡ suc at + n = omega arith in
+    let m : suc n + 1 ≡ suc (n + 1) = omega arith in
+    rw (e, m) (cleared-next (set l at 0) (suc at) n)
 
-pub none-reported : (l : List ℕ) (at : ℕ) (xs : List First) → Reported l at xs l 0
-none-reported l at xs = record { few = omega arith; area = ap (λ (i : ℕ). sets l i (reportsWords xs)) (add-zero at) }
+-- the words of a list of locations of which nothing is reported
+none-words : (n : ℕ) → replicate (3 * n) 0 ≡ reportsWords (replicate n noReport)
+unfolding reportsWords
+none-words zero = refl
+none-words (suc n) =
+    let e : 3 * suc n ≡ suc (suc (suc (3 * n))) = omega arith in
+    rw e (ap (λ (ws : List ℕ). 0 ∷ 0 ∷ 0 ∷ ws) (none-words n))
 
-module _ {l : List ℕ} {at : ℕ} {xs : List First} {l₁ : List ℕ} {n : ℕ} (h : Reported l at xs l₁ n) where
-  pub reported-length : length l₁ ≡ length l
-  reported-length =
-      sym (length-sets l₁ (at + 3 * n) (reportsWords (drop n xs))) ∙ ap length (h .area) ∙ length-sets l at (reportsWords xs)
+-- a store ahead of others can be made after them
+set-ahead : (l : List ℕ) (i j a : ℕ) (vs : List ℕ) → j < i → set (sets l i vs) j a ≡ sets (set l j a) i vs
+set-ahead l i j a [] h = refl
+set-ahead l i j a (v ∷ vs) h =
+    set-ahead (set l i v) (suc i) j a vs (omega arith) ∙ ap (λ (m : List ℕ). sets m (suc i) vs) (set-comm l i j v a (λ e. absurd (omega arith)))
 
-  pub reported-next : (d : First) {l₂ : List ℕ} → n < length xs → l₂ ≡ sets l₁ (at + 3 * n) (reportWords (getD xs n d))
-      → Reported l at xs l₂ (n + 1)
-  unfolding reportsWords
-  reported-next d {l₂} more e =
-      let e₁ : n + 1 ≡ suc n = omega arith in
-      let e₂ : at + 3 * (n + 1) ≡ suc (suc (suc (at + 3 * n))) = omega arith in
-      let split = drop-cons xs n d more in
-      record { few = omega arith; area = rw (e₂, e₁, e) (ap (λ (ys : List First). sets l₁ (at + 3 * n) (reportsWords ys)) (sym split) ∙ h .area) }
+-- words are written over as many others
+sets-over : (l : List ℕ) (at : ℕ) (us ws vs : List ℕ) → length us ≡ length ws → sets (sets l at (us ++ vs)) at ws ≡ sets l at (ws ++ vs)
+sets-over l at [] [] vs h = refl
+sets-over l at [] (w ∷ ws) vs h = absurd (omega arith)
+sets-over l at (u ∷ us) [] vs h = absurd (omega arith)
+sets-over l at (u ∷ us) (w ∷ ws) vs h =
+    ap (λ (m : List ℕ). sets m (suc at) ws)
+    (set-ahead (set l at u) (suc at) at w (us ++ vs) (omega arith) ∙ ap (λ (m : List ℕ). sets m (suc at) (us ++ vs)) (set-set l at u w))
+    ∙ sets-over (set l at w) (suc at) us ws vs (omega arith)
 
-  pub all-reported : length xs ≤ n → l₁ ≡ sets l at (reportsWords xs)
-  unfolding reportsWords
-  all-reported last =
-      sym (ap (λ (ys : List First). sets l₁ (at + 3 * n) (reportsWords ys)) (drop-of-length-le xs last)) ∙ h .area
+-- the report of one location is written over what stands for it
+report-set : (l : List ℕ) (at : ℕ) (xs : List First) (n : ℕ) (x : First) → n < length xs
+    → sets (sets l at (reportsWords xs)) (at + 3 * n) (reportWords x) ≡ sets l at (reportsWords (set xs n x))
+unfolding reportsWords
+report-set l at [] n x h = absurd (omega arith)
+report-set l at (y ∷ ys) zero x h = rw (add-zero at) (sets-over l at (reportWords y) (reportWords x) (reportsWords ys) refl)
+report-set l at (y ∷ ys) (suc n) x h =
+    let e : at + 3 * suc n ≡ suc (suc (suc at)) + 3 * n = omega arith in
+    rw e (report-set (sets l at (reportWords y)) (suc (suc (suc at))) ys n x (omega arith))
+
+-- A walk over set s writes the reports xs, and location n is next. The area was l₀ when the walk began and is l₁ now: as if the reports so far
+-- were written over any area l of which l₀ has the words, but for those of the reports, which are 0.
+pub record Reported (l₀ : List ℕ) (at : ℕ) (s : LocationSet) (xs : List First) (l₁ : List ℕ) (n : ℕ) : Type 0 where
+  pub written : List First
+  pub filled : Filled s noReport (λ k. getD xs k noReport) written n
+  pub area : (l : List ℕ) → l₀ ≡ sets l at (replicate 768 0) → l₁ ≡ sets l at (reportsWords written)
+
+pub none-reported : (l₀ : List ℕ) (at : ℕ) {s : LocationSet} {xs : List First} → MembersOnly s xs → Reported l₀ at s xs l₀ 0
+none-reported l₀ at {s} {xs} h = record {
+  written = replicate limit noReport;
+  filled = filled-none s noReport (λ k. getD xs k noReport) (h .nothing);
+  area = λ l e. e ∙ ap (sets l at) (none-words limit);
+}
+
+module _ {l₀ : List ℕ} {at : ℕ} {s : LocationSet} {xs : List First} {l₁ : List ℕ} {n : ℕ} (h : Reported l₀ at s xs l₁ n) where
+  pub reported-length : (l : List ℕ) → l₀ ≡ sets l at (replicate 768 0) → length l₁ ≡ length l
+  reported-length l cleared = ap length (h .area l cleared) ∙ length-sets l at (reportsWords (h .written))
+
+  pub all-reported : (l : List ℕ) → l₀ ≡ sets l at (replicate 768 0) → length xs ≡ limit → limit ≤ n → l₁ ≡ sets l at (reportsWords xs)
+  all-reported l cleared size last = h .area l cleared ∙ ap (λ (ys : List First). sets l at (reportsWords ys)) same
+    where
+      same : h .written ≡ xs
+      same = ext-getD noReport (h .written) xs (h .filled .size ∙ sym size) (λ k i. h .filled .passed k (omega (arith, h .filled .size)))
+
+  -- j is the number of location n, and r what is left of its word of the set
+  module _ {j r : ℕ} (next : n < limit) (same : j ≡ n) (left : r ≡ rest s j) where
+    pub reported-word : r ≡ 0 → Reported l₀ at s xs l₁ (n + (64 - n % 64))
+    reported-word e = record { written = h .written; filled = filled-word (h .filled) next same left e; area = h .area }
+
+    pub reported-other : r % 2 ≢ 1 → Reported l₀ at s xs l₁ (n + 1)
+    reported-other e = record { written = h .written; filled = filled-other (h .filled) next same left e; area = h .area }
+
+    pub reported-next : r % 2 ≡ 1 → {l₂ : List ℕ} → l₂ ≡ sets l₁ (at + 3 * n) (reportWords (getD xs n noReport)) → Reported l₀ at s xs l₂ (n + 1)
+    reported-next e e₂ = record {
+      written = set (h .written) n (getD xs n noReport);
+      filled = filled-next (h .filled) next same left e (λ m. refl);
+      area = λ l cleared.
+          e₂ ∙ ap (λ (m : List ℕ). sets m (at + 3 * n) (reportWords (getD xs n noReport))) (h .area l cleared)
+          ∙ report-set l at (h .written) n (getD xs n noReport) (omega (arith, h .filled .size));
+    }
 
 -- ---- the answers
 -- a list of four words, as the code reads them

@@ -1,8 +1,12 @@
 -- An answer as the words that a C caller gets.
 -- Assumes nothing.
+use mathlib.Core.Path.{_≡_}
+use mathlib.Core.Bool.{false}
 use mathlib.Core.List.{List, [], _∷_, _++_}
-use Prim.Native.Nat.{ℕ}
+use Prim.Native.Nat.{ℕ, _<_}
+use lib.ListN.{getD}
 use Rattle.location.specs.declared.LocationSet.{LocationSet}
+use Rattle.location.specs.Sets.{limit, member}
 use Rattle.rules.specs.declared.Verdict.{Verdict}
 use Rattle.rules.specs.declared.Counts.{Counts}
 use Rattle.rules.specs.declared.PlainCounts.{PlainCounts}
@@ -22,6 +26,7 @@ use Rattle.rules.specs.declared.ReadAnswer.the-variants as reads
 use Rattle.rules.specs.declared.PrintAnswer.{PrintAnswer}
 use Rattle.rules.specs.declared.PrintAnswer.the-variants as prints
 use Rattle.rules.specs.Rules.Answers.{stopNumber, verdictNumber, causeNumber, pairNumber}
+use Rattle.rules.specs.Rules.Firsts.{noReport}
 
 -- stop, observations, steps and rollbacks
 abbrev pub countWords : Counts → List ℕ
@@ -35,6 +40,10 @@ reportWords x = x .index ∷ causeNumber (x .cause) ∷ x .label ∷ []
 unfoldable pub reportsWords : List First → List ℕ
 reportsWords [] = []
 reportsWords (x ∷ xs) = reportWords x ++ reportsWords xs
+
+-- nothing is reported of a location that is not in the set
+pub record MembersOnly (s : LocationSet) (firsts : List First) : Type 0 where
+  pub nothing : (l : ℕ) → l < limit → member s l ≡ false → getD firsts l noReport ≡ noReport
 
 -- stop, observations, steps, rollbacks, the words of D and of the plain set, the verdict, and the words of each location
 abbrev pub runWords : Counts → LocationSet → LocationSet → Verdict → List First → List ℕ

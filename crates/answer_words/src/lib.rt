@@ -1,5 +1,6 @@
 // An answer as numbers and words, for callers that have no enums: a number for each case (of a refusal the documents'), and the words
 // in their order.
+use location::Location;
 use location::LocationSet;
 use rules::Cause;
 use rules::Counts;
@@ -11,11 +12,14 @@ use rules::Stop;
 use rules::Verdict;
 ghost use mathlib.Core.Path.{_≡_};
 ghost use Prim.Native.Nat.{_+_, _≤_};
-ghost use lib.ListN.{length};
+ghost use lib.ListN.{length, replicate};
 ghost use lib.Seq.{sets};
 ghost use Rattle.rules.specs.Rules.Answers.{stopNumber, verdictNumber, causeNumber, pairNumber, refusalNumber};
-ghost use Rattle.answer_words.specs.Words.{countWords, reportWords, reportsWords, runWords, plainWords, pairWords};
+ghost use Rattle.answer_words.specs.Words.{countWords, reportWords, reportsWords, MembersOnly, runWords, plainWords, pairWords};
 ghost use Rattle.answer_words.specs.Words.{unfinishedWords, testLoadWords, readWords, printWords};
+
+// How many words the reports of all locations have.
+const REPORT_WORDS: usize = 768;
 
 fn stop_number(s: Stop) -> u64
     ensures { λ r. ⌜ r ≡ stopNumber s ⌝ }
@@ -107,15 +111,40 @@ fn write_report(x: First, answer: &mut [u64], at: usize)
     answer[at + 2] = x.label as u64;
 }
 
-// The reports of all locations, from a place on.
-fn write_reports(firsts: [First; LocationSet::LIMIT], answer: &mut [u64], at: usize)
+// Nothing is reported of any location, from a place on.
+fn clear_reports(answer: &mut [u64], at: usize)
     requires { ⌜ at + 768 ≤ length (now answer) ⌝ }
+    ensures { λ _. ⌜ now (answer .exit) ≡ sets (now (answer .entry)) at (replicate 768 0) ⌝ }
+{
+    let mut i = 0;
+    while i < REPORT_WORDS {
+        answer[at + i] = 0;
+        i += 1;
+    }
+}
+
+// The reports of all locations, from a place on: after the clearing those of D alone are written, as nothing is reported of the others.
+fn write_reports(
+    full: LocationSet,
+    firsts: [First; LocationSet::LIMIT],
+    answer: &mut [u64],
+    at: usize,
+)
+    requires { ⌜ (at + 768 ≤ length (now answer)) × MembersOnly full firsts ⌝ }
     ensures { λ _. ⌜ now (answer .exit) ≡ sets (now (answer .entry)) at (reportsWords firsts) ⌝ }
 {
+    clear_reports(&mut answer[..], at);
     let mut l = 0;
     while l < LocationSet::LIMIT {
-        write_report(firsts[l], &mut answer[..], at + 3 * l);
-        l += 1;
+        let left = full.rest(Location::new(l));
+        if left == 0 {
+            l += LocationSet::BITS - l % LocationSet::BITS;
+        } else if left % 2 == 1 {
+            write_report(firsts[l], &mut answer[..], at + 3 * l);
+            l += 1;
+        } else {
+            l += 1;
+        }
     }
 }
 
@@ -128,6 +157,7 @@ pub fn write_run(
     firsts: [First; LocationSet::LIMIT],
     answer: &mut [u64; 781],
 )
+    requires { ⌜ MembersOnly full firsts ⌝ }
     ensures { λ _. ⌜ now (answer .exit) ≡ sets (now (answer .entry)) 0 (runWords c full plain v firsts) ⌝ }
 {
     let d = full.words;
@@ -142,7 +172,7 @@ pub fn write_run(
     answer[10] = p[2];
     answer[11] = p[3];
     answer[12] = verdict_number(v);
-    write_reports(firsts, &mut answer[..], 13);
+    write_reports(full, firsts, &mut answer[..], 13);
 }
 
 // Stop, observations, steps, four words of the plain set.

@@ -29,7 +29,7 @@ use Rattle.rules.specs.Rules.Promises.{RunPromise, PlainPromise, PairPromise}
 use Rattle.rules.specs.Rules.TextPromises.{ReadPromise, PrintPromise}
 use Rattle.rules.specs.Rules.TestLoads.{TestLoadAreas}
 use Rattle.rules.specs.Rules.TestLoadPromises.{TestLoadPromise}
-use Rattle.answer_words.specs.Words.{runWords, plainWords, pairWords, readWords, printWords, runAnswerWords, plainAnswerWords, pairAnswerWords}
+use Rattle.answer_words.specs.Words.{MembersOnly, runWords, plainWords, pairWords, readWords, printWords, runAnswerWords, plainAnswerWords, pairAnswerWords}
 use Rattle.answer_words.specs.Words.{unfinishedWords, testLoadWords, testLoadAnswerWords, readAnswerWords, printAnswerWords}
 use Rattle.checker_c.specs.Calls.{Returns}
 
@@ -63,6 +63,10 @@ module _ {f costs : List ℕ} {lent left : Areas} {a : RunAnswer} (h : RunPromis
       → after ≡ sets before 0 (runWords c (a .full) (a .plain) v (a .firsts))
       → Returns runRefusal runAnswerWords before 0 after (λ x. RunPromise f costs lent x left)
   run-returned e ew = carried-out a h (rw e) (rw e ew)
+
+-- nothing is reported of a location that is not in D
+pub run-members : {f costs : List ℕ} {lent left : Areas} {a : RunAnswer} → RunPromise f costs lent a left → MembersOnly (a .full) (a .firsts)
+run-members h = record { nothing = λ l i m. h .brought .nothing l m }
 
 module _ {f : List ℕ} {lent left : Areas} {a : PlainAnswer} (h : PlainPromise f lent a left) {before : List ℕ} where
   pub plain-refused : {n : Refusal} {r : ℕ} → a .outcome ≡ plains.Refused n → r ≡ refusalNumber n

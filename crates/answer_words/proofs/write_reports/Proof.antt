@@ -1,48 +1,73 @@
--- `write_reports` meets its contract. The invariant: with what is left of the locations written too, all are written. Assumes nothing.
+-- `write_reports` meets its contract. The invariant: the locations passed have their words, and those of all others are 0. Assumes nothing.
 use mathlib.Core.Path.{_≡_}
 use Prim.Native.Nat.{_-_}
 use native.Mathlib.Omega.{arith}
 use lib.ListN.{length}
 use Rattle.location.specs.Sets.{limit}
-use Rattle.answer_words.proofs.Laws.{Reported, none-reported, reported-length, reported-next, all-reported}
+use Rattle.answer_words.proofs.Laws.{Reported, none-reported, reported-length, reported-word, reported-other, reported-next, all-reported}
 use borrow.Author.Needs.{needs}
 use Rattle.answer_words.proofs.write_reports.Statement.{statement}
 use Rattle.answer_words.proofs.write_reports.Tie as tie
 
 abbrev Inv-loop : tie.InvT-loop
-Inv-loop answer₀ at firsts l₀ answer l = Reported answer₀ at firsts answer l
+Inv-loop full answer₀ at firsts l₀ answer l = Reported answer₀ at full firsts answer l
 
 abbrev μ-loop : tie.MeasureT-loop
-μ-loop answer₀ at firsts l₀ answer l = limit - l
+μ-loop full answer₀ at firsts l₀ answer l = limit - l
 
 loop-holds : tie.Need-loop-holds Inv-loop μ-loop
 loop-holds c =
-    let a = c .before .args in
-    none-reported (a .answer .now) (a .at) (a .t1)
+    let at-start = c .before .before .before .before .before in
+    none-reported _ (at-start .args .at) (at-start .pre .1)
+
+-- nothing is left of the word
+loop-again : tie.Need-loop-again Inv-loop μ-loop
+loop-again c =
+    let at-rest = c .before in
+    let at-new = at-rest .before in
+    let at-loop = at-new .before .before in
+    reported-word (at-loop .loop .inv) (omega arith) (at-new .new .ensures) (at-rest .rest .ensures) (c .if1 .taken)
 
 write-report-requires : tie.Need-write-report-requires Inv-loop μ-loop
 write-report-requires c κs =
-    let at-loop = c .before .before .before in
-    let at-start = at-loop .before .before in
-    omega (arith, reported-length (at-loop .loop .inv), at-start .pre)
+    let at-loop = c .before .before .before .before .before .before .before in
+    let at-clear = at-loop .before .before .before in
+    let at-start = at-clear .before .before .before in
+    let size = reported-length (at-loop .loop .inv) (at-start .args .answer .now) (at-clear .clear-reports .ensures) in
+    omega (arith, size, at-start .pre .0)
 
-loop-again : tie.Need-loop-again Inv-loop μ-loop
-loop-again c =
+-- the location is in D
+loop-again-2 : tie.Need-loop-again-2 Inv-loop μ-loop
+loop-again-2 c =
     let at-write-report = c .before .before in
-    let at-loop = at-write-report .before .before .before .before in
-    let a = at-loop .before .before .args in
-    let h : length (a .t1) ≡ limit = search needs in
-    reported-next (at-loop .loop .inv) _ (omega arith) (at-write-report .write-report .ensures)
+    let at-if2 = at-write-report .before .before .before in
+    let at-rest = at-if2 .before .before in
+    let at-new = at-rest .before in
+    let at-loop = at-new .before .before in
+    reported-next (at-loop .loop .inv) (omega arith) (at-new .new .ensures) (at-rest .rest .ensures) (at-if2 .if2 .taken)
+    (at-write-report .write-report .ensures)
+
+-- it is not
+loop-again-3 : tie.Need-loop-again-3 Inv-loop μ-loop
+loop-again-3 c =
+    let at-rest = c .before .before in
+    let at-new = at-rest .before in
+    let at-loop = at-new .before .before in
+    reported-other (at-loop .loop .inv) (omega arith) (at-new .new .ensures) (at-rest .rest .ensures) (c .if2 .left)
 
 same-length : tie.Need-same-length Inv-loop μ-loop
-same-length c = reported-length (c .before .loop .inv)
+same-length c =
+    let at-loop = c .before in
+    let at-clear = at-loop .before .before .before in
+    reported-length (at-loop .loop .inv) (at-clear .before .before .before .args .answer .now) (at-clear .clear-reports .ensures)
 
 returns : tie.Need-returns Inv-loop μ-loop
 returns c =
     let at-loop = c .before in
-    let a = at-loop .before .before .args in
-    let h : length (a .t1) ≡ limit = search needs in
-    all-reported (at-loop .loop .inv) (omega arith)
+    let at-clear = at-loop .before .before .before in
+    let a = at-clear .before .before .before .args in
+    let h : length (a .t2) ≡ limit = search needs in
+    all-reported (at-loop .loop .inv) (a .answer .now) (at-clear .clear-reports .ensures) h (omega arith)
 
 pub write-reports-spec : {M : Type 1} → statement M
 write-reports-spec =
@@ -50,7 +75,14 @@ write-reports-spec =
     (tie.spec
     Inv-loop
     μ-loop
+    (λ c κs. search needs)
     loop-holds
+    (λ c κs. search needs)
+    (λ c κs. search needs)
+    (λ c. search needs)
+    (λ c. search needs)
+    (λ c. search needs)
+    loop-again
     (λ c. search needs)
     (λ c. search needs)
     (λ c. search needs)
@@ -58,6 +90,9 @@ write-reports-spec =
     write-report-requires
     (λ c. search needs)
     (λ c. search needs)
-    loop-again
+    loop-again-2
+    (λ c. search needs)
+    (λ c. search needs)
+    loop-again-3
     same-length
     returns)

@@ -6,6 +6,11 @@ use borrow.Author.Needs.{needs}
 use Rattle.answer_words.proofs.write_run.Statement.{statement}
 use Rattle.answer_words.proofs.write_run.Tie as tie
 
+write-reports-requires : tie.Need-write-reports-requires
+write-reports-requires c κs =
+    let at-start = c .before .before .before .before .before .before in
+    (search needs, at-start .pre)
+
 returns : tie.Need-returns
 returns c =
     let at-verdict = c .before .before in
@@ -40,5 +45,5 @@ write-run-spec =
     (λ c. search needs)
     (λ c κs. search needs)
     (λ c. search needs)
-    (λ c κs. search needs)
+    write-reports-requires
     returns)

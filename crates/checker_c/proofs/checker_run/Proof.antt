@@ -1,8 +1,14 @@
 -- `checker_run` meets its contract. Assumes nothing.
-use Rattle.checker_c.proofs.Laws.{run-refused, run-returned}
+use Rattle.checker_c.proofs.Laws.{run-refused, run-returned, run-members}
 use borrow.Author.Needs.{needs}
 use Rattle.checker_c.proofs.checker_run.Statement.{statement}
 use Rattle.checker_c.proofs.checker_run.Tie as tie
+
+write-run-requires : tie.Need-write-run-requires
+write-run-requires c κs =
+    let at-arm = c .before .before in
+    let at-call = at-arm .before .before .before .before .before .before .before .before .before .before .before in
+    run-members (at-call .run .ensures)
 
 returns : tie.Need-returns
 returns c =
@@ -24,7 +30,7 @@ checker-run-spec =
     (λ c. search needs)
     (λ c κs. search needs)
     (λ c. search needs)
-    (λ c κs. search needs)
+    write-run-requires
     (λ c. search needs)
     (λ c. search needs)
     (λ c. search needs)
