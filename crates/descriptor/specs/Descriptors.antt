@@ -1,5 +1,5 @@
 -- The words of the table of labels: for each instruction its offset, the shape of what it reads first, its first register, and the
--- label of a branch or the place of a second expression; and the instruction that a word describes.
+-- label of a branch, the place that a jump to a constant names or the place of a second expression; and the instruction that a word describes.
 -- Assumes nothing.
 use mathlib.Core.Path.{_≡_}
 use mathlib.Core.Bool.{Bool, true, _&&_, cond}
@@ -90,14 +90,15 @@ firstBy k p at =
 unfoldable pub firstAt : List ℕ → ℕ → ℕ
 firstAt p at = firstBy (getD p at 0) p at
 
--- the place that a jump to a constant names, which stands from an offset on: a larger one than `farthest` is past the end, as that is too
+-- the farthest place that a word names: no program has so many labels, so that it stands for every larger one
 abbrev pub farthest : ℕ
 farthest = 65535
 
+-- the constant from an offset on, as a place that a word can name
 abbrev pub named : List ℕ → ℕ → ℕ
 named p at = min (little p at 8) farthest
 
--- of a jump at an offset; 0 where it is to no constant
+-- the place that a jump at an offset names; 0 where it is to no constant
 abbrev pub targetAt : List ℕ → ℕ → ℕ
 targetAt p at = cond (eqb (jumpShape p (at + 1)) shapeJumpConstant) (named p (at + 3)) 0
 

@@ -367,7 +367,8 @@ unfolding instructionIn
 word-valid p at h s l =
     let m = word-meant p at h in
     let d : Descriptor = record { at = at; shape = shapeAt p at; first = firstAt p at % firsts; extra = extraAt p at } in
-    rw (descriptor-taken p at l) (m .0, valid p d (valueOr skip (instr p at)) (m .0) s (instr-below p at) (m .1) (second-said p at) (λ e. jump-said p at h e .1))
+    let x = valueOr skip (instr p at) in
+    rw (descriptor-taken p at l) (m .0, valid p d x (m .0) s (instr-below p at) (m .1) (second-said p at) (λ e. jump-said p at h e .1))
 
 -- ---- the shape of a branch and beqz go together
 pub branch-shaped : {p : List ℕ} {d : Descriptor} → Valid p d → d .shape ≡ shapeBranch → instructionIn p d ≡ beqz (d .first) (d .extra)

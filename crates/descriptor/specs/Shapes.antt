@@ -75,9 +75,9 @@ module _ {p : List ℕ} {d : Descriptor} (v : Valid p d) where
       let c : constantPlace (d .shape) ≡ 3 = ap constantPlace e in
       record { room = omega arith; tokens = h .1 ∙ ap (λ (k : ℕ). const (little p (d .at + k) 8) ∷ []) (sym c) }
 
-  pub constant-jump-shaped : d .shape ≡ shapeJumpConstant → ConstantJump p d
+  pub constant-jump : d .shape ≡ shapeJumpConstant → ConstantJump p d
   unfolding fields
-  constant-jump-shaped e =
+  constant-jump e =
       let h = known p (d .at) (d .first) (instructionIn p d) e (v .shaped) in
       let s = standing-shaped v (λ z. omega arith) (λ z. omega arith) in
       let i = instr-kind p (d .at) 4 (instr-read p (d .at) (s .0 .read)) (h .3) in

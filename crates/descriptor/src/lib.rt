@@ -1,7 +1,7 @@
-// An instruction's word in the table of labels: its byte offset, the shape of what it reads first, its first register, and a branch's
-// label or the offset of a second expression, so that a step finds the operands where they stand and tests no token again. The word of
-// an instruction without operands, or of a branch, describes it alone. The fields of an accepted instruction are found without tests
-// here only.
+// An instruction's word in the table of labels: its byte offset, the shape of what it reads first, its first register, and a branch's label,
+// the place that a jump to a constant names or the offset of a second expression, so that a step finds the operands where they stand and
+// tests no token again. The word of an instruction without operands, or of a branch, describes it alone. The fields of an accepted instruction
+// are found without tests here only.
 use instruction::Instruction;
 use location::Label;
 use token::Expression;

@@ -169,7 +169,8 @@ fn with_register(p: &[u8], work: &[u64], d: Descriptor) -> Tagged
     }
 }
 
-// What the instruction of a descriptor reads first, the set ahead of the value in each shape; 0 where it reads nothing.
+// What the instruction of a descriptor reads first, the set ahead of the value in each shape; 0 where it reads nothing. No step asks it of a
+// jump to a constant, which its word tells.
 pub fn source_value(p: &[u8], work: &[u64], d: Descriptor) -> Tagged
     requires { ⌜ Valid (now p) d × (operandBase registers ≤ length (now work)) ⌝ }
     ensures { λ r. ⌜ r ≡ eval (taggedAt (now (work .entry))) (firstTokens (instructionIn (now (p .entry)) d)) ⌝ }

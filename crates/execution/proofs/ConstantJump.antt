@@ -9,32 +9,24 @@ use Rattle.location.specs.Sets.{empty}
 use Rattle.location.specs.SetLaws.{subset-empty}
 use Rattle.rules.specs.declared.Tagged.{Tagged}
 use Rattle.rules.specs.declared.Trailer.{Trailer}
-use Rattle.rules.specs.Rules.Expressions.{Expr, const, tagged, pushed, evalOn, top, eval}
+use Rattle.rules.specs.Rules.Expressions.{const, tagged, pushed, evalOn, top, eval}
 use Rattle.rules.specs.Rules.Instructions.{jmp}
-use Rattle.rules.specs.Rules.JobFile.{little, locations}
+use Rattle.rules.specs.Rules.JobFile.{little}
 use Rattle.rules.specs.Rules.Plain.{State, Code, endPlace, goEffect, exec}
-use Rattle.rules.specs.Rules.Mispredicting.{forward, ordinary}
+use Rattle.rules.specs.Rules.Mispredicting.{ordinary}
 use Rattle.instruction.specs.declared.Instruction.{Instruction}
 use Rattle.instruction.specs.Meaning.{meaning}
 use Rattle.descriptor.specs.declared.Descriptor.{Descriptor}
-use Rattle.descriptor.specs.Descriptors.{shapeJumpConstant, instructionIn, Valid}
-use Rattle.descriptor.specs.Shapes.{ConstantJump, constant-jump-shaped}
-use Rattle.stepping.specs.Progress.{Standing, machineAt}
+use Rattle.descriptor.specs.Descriptors.{shapeJumpConstant, shapeBranch, instructionIn}
+use Rattle.descriptor.specs.Shapes.{ConstantJump, constant-jump}
+use Rattle.stepping.specs.Progress.{Standing}
 use Rattle.stepping.specs.Steps.{CarriedOut}
 use Rattle.execution.specs.declared.Mode.{Mode}
-use Rattle.execution.specs.declared.Mode.the-variants as modes
-use Rattle.execution.specs.declared.step.Opening.the-variants as openings
-use Rattle.execution.specs.Next.{Opens}
 use Rattle.execution.specs.Running.{descriptorAt, codeAt, Performed, Advancing, NextTried}
 use Rattle.execution.proofs.Effects.{carrying}
 use Rattle.execution.proofs.Machine.{still-going}
-use Rattle.execution.proofs.Running.{tried-as, code-of, fetched-valid, fetched-same, other-step, other-room}
-
--- it opens no branch
-opens-none : (mode : Mode) (e : Expr) → Opens mode (jmp e) openings.Nothing
-unfolding forward
-opens-none modes.Plain e code M = refl
-opens-none modes.Mispredicting e code M = refl
+use Rattle.execution.proofs.Running.{fetched-same, other-room}
+use Rattle.execution.proofs.RuleThree.{described-valid, opens-none, tried-by}
 
 -- its effect, at the end that a program has
 effect : (k to : ℕ) (code : Code) (σ : State) (place : ℕ) → to ≡ min k (endPlace code)
@@ -48,11 +40,11 @@ module _ {p : List ℕ} {t : Trailer} {mode : Mode} {x : Standing} (a : Advancin
   abbrev pub constant : Tagged
   constant = tagged (little p (d .at + 3) 8) empty
 
-  valid : Valid p d
-  valid = fetched-valid p t mode (x .work) (x .progress .control) (a .ready .steady) (a .inside) refl told
-
   jump : ConstantJump p d
-  jump = constant-jump-shaped valid s
+  jump = constant-jump (described-valid a d told) s
+
+  other : d .shape ≡ shapeBranch → ⊥
+  other z = omega arith
 
   -- there is room for what it shows
   pub jump-shown : 2 * (x .progress .observations + 1) ≤ length (x .trace)
@@ -62,7 +54,7 @@ module _ {p : List ℕ} {t : Trailer} {mode : Mode} {x : Standing} (a : Advancin
       let c = x .progress .control in
       let same = fetched-same p t mode w c (a .ready .steady) (a .inside) refl told in
       other-room p t mode w c (still-going (a .inside) (a .window)) (sym (jump .jumps) ∙ same) (x .progress .observations) (length (x .trace)) (a .room)
-      (opens-none mode _) (codeAt p t x)
+      (rw (jump .jumps) at (opens-none a d told other)) (codeAt p t x)
 
   module _ {y : Standing} {i : Instruction} {to : ℕ} (e : meaning p i ≡ instructionIn p d) (place : to ≡ min (d .extra) (t .count))
       (h : CarriedOut (t .cells) i (λ code σ. goEffect σ to constant) x y) where
@@ -75,10 +67,4 @@ module _ {p : List ℕ} {t : Trailer} {mode : Mode} {x : Standing} (a : Advancin
         (λ code el. rw m (effect (constant .value) to code _ (x .progress .control .place) (l ∙ ap (min (constant .value)) (sym el))))
 
     pub jumped : NextTried p t mode x y
-    jumped =
-        let w = x .work in
-        let c = x .progress .control in
-        let same = fetched-same p t mode w c (a .ready .steady) (a .inside) refl told in
-        let step = other-step p t mode w c (still-going (a .inside) (a .window)) (sym (jump .jumps) ∙ same) (opens-none mode _) in
-        let f = ap (ordinary (codeAt p t x) (machineAt x (locations t))) (e ∙ jump .jumps) in
-        tried-as (f ∙ step) (performed .tried (codeAt p t x) (code-of p t w))
+    jumped = tried-by a d told other e performed

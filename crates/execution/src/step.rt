@@ -123,9 +123,9 @@ fn advance_by(
     }
 }
 
-// The instruction at the place. One that reads nothing goes its own way, as its word tells it alone, and does not wait for what the other
-// kinds need. A skip is tested first and by itself, so that the kind is not taken from the word: what else reads nothing is a barrier. So does a
-// jump to a constant: its word names the place, and it rests on nothing, so that no set is compared with D.
+// The instruction at the place. A skip, a barrier and a jump to a constant go their own ways by the word, and do not wait for what the other kinds
+// need. What reads nothing and is no skip is a barrier, so that the kind is not taken from the word. The word of such a jump names its place, and as
+// it rests on nothing no set is compared with D.
 fn advance(
     p: &[u8],
     t: Trailer,

@@ -22,7 +22,7 @@ const INDEX: u64 = 2048;
 const CAUSE: u64 = 512;
 
 const CAUSES: u64 = 4;
-// How many locations a word of a set has.
+// How many locations a word of a set has, by a short name.
 const BITS: usize = LocationSet::BITS;
 
 fn cause_number(cause: Cause) -> u64

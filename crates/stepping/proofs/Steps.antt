@@ -193,7 +193,8 @@ module _ {w w′ t t′ : List ℕ} {c c′ : Progress} {i : Instruction} {v : �
       (record { state = put (stateIn w n) r y; place = suc (c .control .place); obs = o ∷ []; seen = s; overfull = false })) (standing w t c)
       (standing w′ t′ c′)
   assigned-shown o r y el ex eo et ec =
-      carried-shown i (m .machine n most) (m .fits) (m .frame) p code (c .control .window) (leaves .exact p code costs) o (put (stateIn w n) r y) (suc (c .control .place)) false
+      carried-shown i (m .machine n most) (m .fits) (m .frame) p code (c .control .window) (leaves .exact p code costs) o (put (stateIn w n) r y)
+      (suc (c .control .place)) false
       (λ j. put (stateIn w n) (el j) (ex j)) (add-one (c .control .place)) eo et ec
 
 -- ---- rule 3 for an instruction that changes no location

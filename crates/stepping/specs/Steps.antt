@@ -134,6 +134,6 @@ pub record Leaves (w : List ℕ) (c : Control) (i : Instruction) (v : ℕ) : Typ
   pub exact : (p : List ℕ) (code : Code) → code .costs ≡ costsIn (drop labels w) → v ≡ leftBy (c .window) code (meaning p i) c
   pub left : PositiveCosts (costsIn (drop labels w)) → 0 < c .window → Left c v
 
--- What it leaves of the top's, where the window is lowered with nothing open too.
+-- What it leaves of the top's, where the window is lowered with nothing open too, but not below 1.
 pub record Lowers (w : List ℕ) (c : Control) (i : Instruction) (v : ℕ) : Type 0 where
   pub exact : (p : List ℕ) (code : Code) → code .costs ≡ costsIn (drop labels w) → v ≡ loweredBy code (meaning p i) c

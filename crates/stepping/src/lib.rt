@@ -21,7 +21,7 @@ ghost use Rattle.location.specs.Sets.{registers, limit, empty};
 ghost use Rattle.rules.specs.Rules.Calls.{traceWords, workingWords};
 ghost use Rattle.rules.specs.Rules.Instructions.{pcKind, pc};
 ghost use Rattle.rules.specs.Rules.Plain.{put, silent, loadEffect, storeEffect, goEffect};
-ghost use Rattle.work.specs.Words.{taggedAt, windowAt};
+ghost use Rattle.work.specs.Words.{taggedAt};
 ghost use Rattle.work.specs.Machines.{maxWindow, Fit};
 ghost use Rattle.stepping.specs.Progress.{standing, standingBefore, standingAfter, gatherAt, progressAfter, progressUnmade};
 ghost use Rattle.stepping.specs.Steps.{Unexpired, Steppable, Charged, Leaves, Lowers, RolledBackTo, OpenedTo, CarriedOut, TriedOut, StateKept};
@@ -132,25 +132,16 @@ fn remaining_window(work: &[u64], c: Control, i: Instruction) -> usize
     charged(work, c.window, i)
 }
 
-// The least window: 0, but with nothing open 1, so that it is 0 for rule 1 alone.
-fn least_window(depth: usize) -> usize
-    ensures { λ r. ⌜ r ≡ windowAt depth 1 0 ⌝ }
-{
-    if depth == 0 {
-        return 1;
-    }
-    0
-}
-
-// What an instruction that changes no location leaves of the top's window. Its step asks nothing else of the depth, and a jump by the depth
-// would cost more than what it spares: with nothing open the window is lowered too, but not below the least.
+// What an instruction that changes no location leaves of the top's window. The steps of a skip, a barrier and a jump to a constant ask nothing else
+// of the depth, and a jump by it would cost more than what it spares. So with nothing open a cost is taken too, but 1 is left at least: a run
+// begins with 1, and has it whenever nothing is open.
 fn lowered_window(work: &[u64], c: Control, i: Instruction) -> usize
     requires { ⌜ workingWords ≤ length (now work) ⌝ }
     ensures { λ r. ⌜ Lowers (now (work .entry)) c i r ⌝ }
 {
     let left = charged(work, c.window, i);
     if left == 0 {
-        return least_window(c.depth);
+        return work::machine::window_at(c.depth, 1, 0);
     }
     left
 }
@@ -307,25 +298,25 @@ pub fn store(
     count_step(c, next, 1, deps)
 }
 
-// Rule 3 for a jump or a branch to a place, which rests on the set `observed`.
+// Rule 3 for a jump or a branch to a place, which rests on the set `seen`.
 pub fn go_to(
     work: &[u64],
     trace: &mut [u64],
     c: Progress,
     i: Instruction,
     place: usize,
-    observed: LocationSet,
+    seen: LocationSet,
 ) -> Progress
     requires { ⌜ (workingWords ≤ length (now work)) × (2 * (c .observations + 1) ≤ length (now trace)) × (c .steps + 1 < 2 ^ 64) ⌝ }
-    ensures exact { λ x. ⌜ StateKept (now (work .entry)) place 1 observed i c x
+    ensures exact { λ x. ⌜ StateKept (now (work .entry)) place 1 seen i c x
         × (now (trace .exit) ≡ sets (now (trace .entry)) (2 * c .observations) (traceWords (pc place ∷ []))) ⌝ }
-    ensures carried { λ x. ⌜ ((v : Tagged) (cells : ℕ) → v .deps ≡ observed → Unexpired (now (work .entry)) c → registers + cells ≤ limit
+    ensures carried { λ x. ⌜ ((v : Tagged) (cells : ℕ) → v .deps ≡ seen → Unexpired (now (work .entry)) c → registers + cells ≤ limit
         → CarriedOut cells i (λ code σ. goEffect σ place v)
         (standing (now (work .entry)) (now (trace .entry)) c) (standing (now (work .entry)) (now (trace .exit)) x)) ⌝ }
 {
     let control = c.control;
     let remaining = lowered_window(work, control, i);
-    let next = work::machine::go(control, place, remaining);
+    let gone = work::machine::go(control, place, remaining);
     observe(&mut trace[..], c.observations, PC, place as u64);
-    count_step(c, next, 1, observed)
+    count_step(c, gone, 1, seen)
 }

@@ -57,8 +57,8 @@ pub fn roll_back(work: &mut [u64], c: Control) -> RolledBack
     }
 }
 
-// The window of a branch that is opened over so many others.
-fn new_window(depth: usize, window: usize, remaining: usize) -> usize
+// With so many branches open: `window` with none, else `remaining`. So the window of a branch that is opened over so many others.
+pub fn window_at(depth: usize, window: usize, remaining: usize) -> usize
     ensures { λ r. ⌜ r ≡ windowAt depth window remaining ⌝ }
 {
     if depth == 0 {
@@ -98,7 +98,7 @@ pub fn open_branch(
         depth: k + 1,
         log,
         opened: opened + 1,
-        window: new_window(k, window, remaining),
+        window: window_at(k, window, remaining),
     }
 }
 

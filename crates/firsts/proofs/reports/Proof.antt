@@ -1,4 +1,4 @@
--- `reports` meets its contract. The invariant: the locations passed have their reports. Assumes nothing.
+-- `reports` meets its contract. The invariant: the locations passed have their reports, and nothing is reported of the others yet. Assumes nothing.
 use Prim.Native.Nat.{_-_}
 use native.Mathlib.Omega.{arith}
 use borrow.Author.Needs.{needs}

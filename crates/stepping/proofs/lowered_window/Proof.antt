@@ -8,7 +8,7 @@ returns : tie.Need-returns
 returns c =
     let at-if1 = c .before in
     let at-charged = at-if1 .before in
-    none-left (at-charged .charged .ensures) (at-if1 .if1 .taken) (c .least-window .ensures)
+    none-left (at-charged .charged .ensures) (at-if1 .if1 .taken) (c .window-at .ensures)
 
 returns-2 : tie.Need-returns-2
 returns-2 c = let at-charged = c .before in some-left (at-charged .charged .ensures) (c .if1 .left)

@@ -20,7 +20,7 @@ returns c =
     let a = c .before .before .before .before .before .before .args in
     let p = c .before .before .before .before .before .before .pre in
     moved-to (c .before .before .before .push-branch .ensures)
-    (open-law (a .work .now) (a .c) (a .wrong) (a .target) (a .window) (a .remaining) (p .0) (p .1 .0) (p .1 .1 .0) _ (c .new-window .ensures))
+    (open-law (a .work .now) (a .c) (a .wrong) (a .target) (a .window) (a .remaining) (p .0) (p .1 .0) (p .1 .1 .0) _ (c .window-at .ensures))
 
 pub open-branch-spec : {M : Type 1} → statement M
 open-branch-spec =
