@@ -1,5 +1,7 @@
 // An answer as numbers and words, for callers that have no enums: a number for each case (of a refusal the documents'), and the words
 // in their order.
+#![tactic(auto)]
+
 ghost use Rattle.std.specs.Prelude.{◌≡◌, ◌+◌, ◌≤◌, length, replicate};
 ghost use Rattle.std.proofs.lemmas.List.Edits.{sets};
 ghost use Rattle.rules.specs.Rules.Answers.{stop_number, verdict_number, cause_number, pair_number, refusal_number};

@@ -1,5 +1,7 @@
 // Bytes written into an area that the caller lends: a byte, a text, the decimal digits of a number, a number in bytes.
 // Each function writes from a place on, as far as the area goes, and returns the next place.
+#![tactic(auto)]
+
 ghost use Rattle.std.specs.Prelude.{◌≡◌, ◌∷◌, [], ◌+◌, ◌^◌, ◌<◌, length, drop};
 ghost use Rattle.rules.specs.Rules.Listing.{decimal};
 ghost use Rattle.rules.specs.Rules.Encoding.{bytes_of};

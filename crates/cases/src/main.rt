@@ -1,6 +1,8 @@
 // The worked cases of document 01's section "A run printed whole", run on the bytes of job files. Each case prints a heading and
 // then the listing of its job; reference/ prints the same cases by the second implementation.
 // The contract of each job fixes its bytes, by the definitions of the rules' tables. Assumed of the system: what the toolchain's libraries say of write.
+#![tactic(auto)]
+
 ghost use Rattle.std.specs.Prelude.{◌≡◌, ◌+◌, ◌*◌, ◌≤◌, length};
 ghost use Rattle.rules.specs.Rules.Encoding.{word_bytes};
 ghost use Rattle.rules.specs.Cases.Files.{file};

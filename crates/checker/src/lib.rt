@@ -5,6 +5,8 @@
 //   each location of D in); for `compare` meaning, what the words on a pair say. `test_load` has TestLoadPromises.antt: compared (the plain
 //   trace of the new state is the job's, and the pair is checked) and unfinished. The three calls with a mispredicting run take a table of
 //   window costs: fixed (eight ones give the answers of the fixed table) and bounded (any table keeps the bounds of the wrong paths).
+#![tactic(auto)]
+
 ghost use Rattle.std.specs.Prelude.{◌≡◌, ◌≤◌, length};
 ghost use Rattle.location.specs.Sets.{limit};
 ghost use Rattle.rules.specs.Rules.JobFile.{public_of};

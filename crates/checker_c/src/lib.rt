@@ -3,6 +3,8 @@
 // The number and the words that each call returns are those of an answer for which the promise of the call that it makes holds, for
 // every input: demands 1 to 3, the meaning of the words on a pair, what a test load claims of its new state, what is claimed of a table of
 // window costs, and that a printed text restores its program. A refusal leaves the answer's words as they were.
+#![tactic(auto)]
+
 ghost use Rattle.rules.specs.Rules.Promises.{RunPromise, PlainPromise, PairPromise, areas_at_entry, areas_at_exit, pair_at_entry, pair_at_exit};
 ghost use Rattle.rules.specs.Rules.TextPromises.{ReadPromise, PrintPromise};
 ghost use Rattle.rules.specs.Rules.TestLoadPromises.{TestLoadPromise, test_load_at_entry, test_load_at_exit};

@@ -2,6 +2,8 @@
 // the place that a jump to a constant names or the offset of a second expression, so that a step finds the operands where they stand and
 // tests no token again. The word of an instruction without operands, or of a branch, describes it alone. The fields of an accepted instruction
 // are found without tests here only.
+#![tactic(auto)]
+
 ghost use Rattle.std.specs.Prelude.{◌≡◌, true, List, ℕ, ◌+◌, ◌-◌, ◌^◌, ◌<◌, ◌≤◌, length, get_or};
 ghost use Rattle.rules.specs.Rules.Instructions.{skip};
 ghost use Rattle.rules.specs.Rules.JobFile.{little, tokens, expr, with_register, jump, conditional, instr};

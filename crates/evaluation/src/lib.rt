@@ -1,5 +1,7 @@
 // What one instruction computes from the working words, and writes nowhere: what it reads first, what a load gives, what a
 // conditional assignment assigns and where a jump goes. The crate `stepping` carries the instruction out.
+#![tactic(auto)]
+
 ghost use Rattle.std.specs.Prelude.{◌≡◌, true, ℕ, ◌+◌, ◌<◌, ◌≤◌, min, length};
 ghost use Rattle.location.specs.Sets.{registers, empty};
 ghost use Rattle.rules.specs.Rules.Expressions.{sound, tagged, eval, SetFirst};

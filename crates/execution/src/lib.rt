@@ -1,4 +1,6 @@
 // The plain run and the mispredicting run over the lent areas: steps are made as long as none of the stops is found.
+#![tactic(auto)]
+
 pub mod first;
 pub mod halt;
 pub mod rule;

@@ -1,4 +1,6 @@
 // An expression of the job: the set of locations that it rests on, and then its value.
+#![tactic(auto)]
+
 pub mod sets;
 pub mod values;
 

@@ -1,4 +1,6 @@
 // Reading a file into a buffer. Assumed of the system: what the toolchain's libraries say of open and read.
+#![tactic(auto)]
+
 ghost use Rattle.std.specs.Prelude.{length};
 ghost use Rattle.file_reader.specs.Reading.{InBuffer, FullRefused};
 

@@ -1,5 +1,7 @@
 // What is reported of each location of D: the observation that brought it in. It stands in one of the working words a location, packed:
 // index * INDEX + cause * CAUSE + label.
+#![tactic(auto)]
+
 ghost use Rattle.std.specs.Prelude.{◌≡◌, ◌+◌, ◌^◌, ◌<◌, ◌≤◌, length, []};
 ghost use Rattle.location.specs.Sets.{limit};
 ghost use Rattle.rules.specs.Rules.Answers.{cause_number};

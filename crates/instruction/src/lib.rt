@@ -1,4 +1,6 @@
 // Instructions: decoding them from the bytes of a program, their kinds, and what they leave of a window.
+#![tactic(auto)]
+
 ghost use Rattle.std.specs.Prelude.{◌≡◌, List, ℕ, ◌<◌, get_or};
 ghost use Rattle.rules.specs.Rules.Instructions.{kind};
 ghost use Rattle.rules.specs.Rules.JobFile.{word_of, register, with_register, jump, branch, conditional, instr};

@@ -1,5 +1,7 @@
 // A job file: its trailer, program and public list; refusals 1 to 8 in their order. No offset is trusted
 // before it is tested: `read_job` asks nothing of the bytes.
+#![tactic(auto)]
+
 ghost use Rattle.std.specs.Prelude.{◌≡◌, ◌+◌, ◌-◌, ◌/◌, ◌%◌, ◌^◌, ◌<◌, ◌≤◌, length, get_or};
 ghost use Rattle.location.specs.Sets.{registers, limit};
 ghost use Rattle.rules.specs.Rules.Limits.{max_cells, list_size};

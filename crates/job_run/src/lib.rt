@@ -1,5 +1,7 @@
 // One run of an accepted job over lent areas: the plain or the mispredicting one, from the job's own state or from another, by a table of
 // window costs.
+#![tactic(auto)]
+
 ghost use Rattle.std.specs.Prelude.{◌≡◌, ◌&&◌, ◌+◌, leb, length};
 ghost use Rattle.rules.specs.Rules.Calls.{table_size, working_words};
 ghost use Rattle.rules.specs.Rules.Promises.{areas_at_entry, areas_at_exit};

@@ -1,5 +1,7 @@
 // The two judgements: the verdict on a run and the word on a pair, of what the runs have left. The plain traces are compared without a
 // second pair of runs: where a run has finished they are its trace with each outermost wrong path struck out.
+#![tactic(auto)]
+
 ghost use Rattle.std.specs.Prelude.{◌≡◌};
 ghost use Rattle.rules.specs.Rules.Runs.{is_finished, judge};
 ghost use Rattle.judgement.specs.Words.{pair_word_of};

@@ -1,4 +1,6 @@
 // The parts and lines of a routine as text. A text is any bytes, and an offset any number: past the end nothing stands.
+#![tactic(auto)]
+
 ghost use Rattle.std.specs.Prelude.{◌≡◌, ◌+◌, drop};
 ghost use Rattle.rules.specs.Rules.Parts.{in_name};
 ghost use Rattle.lexer.specs.Places.{blanks, name_length, line_length, PartTold, Passable, blanks_passed, line_passed, line_at};

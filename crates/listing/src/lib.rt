@@ -1,5 +1,7 @@
 // The printed run: the lines of an answer and its trace, written into an area of bytes that the caller lends.
 // Each function writes from a place on, as far as the area goes, and returns the next place.
+#![tactic(auto)]
+
 ghost use Rattle.std.specs.Prelude.{◌∷◌, ◌+◌, ◌^◌, ◌<◌, length};
 ghost use Rattle.location.specs.Sets.{limit};
 ghost use Rattle.rules.specs.Rules.Answers.{text, stop_word, verdict_word, cause_word};

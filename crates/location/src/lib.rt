@@ -1,5 +1,7 @@
 // The three kinds of number that must not be mixed up (labels, addresses, locations), and the set of locations.
 // Fields are private: a number of one kind becomes one of another only by the functions here.
+#![tactic(auto)]
+
 ghost use Rattle.std.specs.Prelude.{◌≡◌, ◌+◌, ◌<◌, ◌^◌};
 ghost use Rattle.location.specs.Sets.{registers, limit, empty, single, union, subset, member, rest};
 

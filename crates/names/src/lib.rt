@@ -1,5 +1,7 @@
 // What a name of a text stands for: a constant, a register, a sign, an operator or an instruction word. A name is the bytes of the
 // text from one offset to another.
+#![tactic(auto)]
+
 ghost use Rattle.std.specs.Prelude.{◌≡◌, ◌≤◌, length};
 ghost use Rattle.rules.specs.Rules.Parts.{segment};
 ghost use Rattle.rules.specs.Rules.Pairs.{same_words};

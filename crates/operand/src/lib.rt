@@ -1,5 +1,7 @@
 // Operands of a routine as text: read part by part, and written as the tokens of document 01's postfix. Bytes are written as far as the
 // area goes: into an area without length a reading only counts.
+#![tactic(auto)]
+
 ghost use Rattle.std.specs.Prelude.{◌≡◌, ◌∷◌, [], ◌+◌, ◌*◌, ◌^◌, ◌<◌, drop};
 ghost use Rattle.rules.specs.Rules.Limits.{max_tokens};
 ghost use Rattle.rules.specs.Rules.Expressions.{const};

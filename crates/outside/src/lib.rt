@@ -1,5 +1,7 @@
 // The table of stores outside the image, in the working words: which entry has an address, what is remembered there, and the move of a
 // store.
+#![tactic(auto)]
+
 ghost use Rattle.std.specs.Prelude.{◌≡◌, ◌+◌, ◌^◌, ◌<◌, ◌≤◌, length};
 ghost use Rattle.location.specs.Sets.{empty};
 ghost use Rattle.rules.specs.Rules.Expressions.{tagged};

@@ -1,5 +1,7 @@
 // The pair of states: both runs of an accepted job, and the answer on them. The second run is a function of its own, as a test load
 // makes the second state once it has seen the first run.
+#![tactic(auto)]
+
 ghost use Rattle.std.specs.Prelude.{◌≡◌, true, ◌≤◌, length};
 ghost use Rattle.rules.specs.Rules.JobFile.{public_of};
 ghost use Rattle.rules.specs.Rules.Costs.{costs_fit};

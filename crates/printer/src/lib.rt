@@ -1,5 +1,7 @@
 // A run printed whole, from any bytes as a job to the bytes of its lines, by a table of eight ones. The caller lends a trace area and an area for the lines;
 // the end area and the working area are this crate's own, long enough for every job. Nothing has to be tested beforehand.
+#![tactic(auto)]
+
 ghost use Rattle.std.specs.Prelude.{◌≡◌, ◌+◌, ◌*◌, ◌≤◌, length};
 ghost use Rattle.rules.specs.Rules.JobFile.{parse};
 ghost use Rattle.printer.specs.Printing.{instruction_count, Prints, Listed};

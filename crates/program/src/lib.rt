@@ -1,4 +1,6 @@
 // A program: its tests (refusals 4 to 7), the table of its labels, and the descriptor of a label.
+#![tactic(auto)]
+
 ghost use Rattle.std.specs.Prelude.{◌≡◌, true, List, ℕ, ◌+◌, ◌<◌, ◌≤◌, length, get_or};
 ghost use Rattle.std.proofs.lemmas.List.Edits.{sets};
 ghost use Rattle.rules.specs.Rules.JobFile.{branch_label_holds, instruction, program};

@@ -1,4 +1,6 @@
 // The types that the contracts of the checker show, the kinds of observation and the limits. What they mean is said in specs/Rules.
+#![tactic(auto)]
+
 ghost use Rattle.std.specs.Prelude.{◌≡◌, ◌^◌, ◌<◌};
 ghost use Rattle.rules.specs.Rules.JobFile.{locations};
 

@@ -1,6 +1,8 @@
 // The program that prints one run: the listing of job.mua in its folder. A missing file is an empty job.
 // Where the file cannot be read, or the listing cannot be written, it says why on standard error: a program has no exit status.
 // Assumed of the system: what the toolchain's libraries say of write; of open and read see crates/file_reader.
+#![tactic(auto)]
+
 use file_reader::Reading;
 use libc::STDOUT_FILENO;
 

@@ -1,6 +1,8 @@
 // The program that reads a routine as text: routine.txt in its folder. It prints how many bytes and instructions the program has, or, on
 // standard error, the line of the first fault and the refusal's number. A missing file is an empty text.
 // Assumed of the system: what the toolchain's libraries say of write; of open and read see crates/file_reader.
+#![tactic(auto)]
+
 use file_reader::Reading;
 use libc::{STDERR_FILENO, STDOUT_FILENO};
 use rules::ReadAnswer;

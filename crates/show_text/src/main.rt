@@ -1,6 +1,8 @@
 // The program that prints a routine as text: the program of the job job.mua in its folder. A missing file is an empty job.
 // A refusal, and what fails, is told on standard error, where nothing stands otherwise: a program has no exit status.
 // Assumed of the system: what the toolchain's libraries say of write; of open and read see crates/file_reader.
+#![tactic(auto)]
+
 use file_reader::Reading;
 use libc::{STDERR_FILENO, STDOUT_FILENO};
 use rules::limits::MAX_BYTES;

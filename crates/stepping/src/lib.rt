@@ -1,5 +1,7 @@
 // The three rules of a step, carried out over the lent areas: the machine in the working words, the observations in the trace
 // area, and the progress by value.
+#![tactic(auto)]
+
 ghost use Rattle.std.specs.Prelude.{◌≡◌, List, [], ◌∷◌, ℕ, ◌+◌, ◌*◌, ◌^◌, ◌<◌, ◌≤◌, length};
 ghost use Rattle.std.proofs.lemmas.List.Edits.{sets};
 ghost use Rattle.location.specs.Sets.{registers, limit, empty};

@@ -1,5 +1,7 @@
 // A test load of an accepted job: a new state from a seed, and the check of the pair on it. The job's own run is made once: it is the
 // first run of the pair, and its plain set says which words the new state keeps.
+#![tactic(auto)]
+
 ghost use Rattle.std.specs.Prelude.{◌≡◌, ◌+◌, ◌*◌, ◌<◌, ◌≤◌, length};
 ghost use Rattle.location.specs.Sets.{union};
 ghost use Rattle.rules.specs.Rules.JobFile.{locations, public_of, words_at};

@@ -1,5 +1,7 @@
 // A job's program as text, written into an area of bytes that the caller lends. Bytes are written as far as the area goes: into an
 // area without length a pass only counts.
+#![tactic(auto)]
+
 ghost use Rattle.std.specs.Prelude.{◌≡◌, true, List, ℕ, ◌+◌, ◌^◌, ◌<◌, ◌≤◌, length, get_or};
 ghost use Rattle.rules.specs.Rules.Operators.{neg, add};
 ghost use Rattle.rules.specs.Rules.Instructions.{assign, beqz, cassign};

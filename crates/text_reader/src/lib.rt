@@ -1,5 +1,7 @@
 // A routine as text, read line by line and written as the bytes of document 01's program. Bytes are written as far as the area goes: into
 // an area without length a reading only tests and counts.
+#![tactic(auto)]
+
 ghost use Rattle.std.specs.Prelude.{◌≡◌, ◌+◌, ◌^◌, ◌<◌, drop};
 ghost use Rattle.rules.specs.Rules.Limits.{max_instructions};
 ghost use Rattle.rules.specs.Rules.Parts.{parts};

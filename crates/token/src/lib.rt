@@ -1,5 +1,7 @@
 // Reading bytes: numbers, the tokens of expressions, and expressions with the postfix rule. A reader is given the bytes
 // and an offset; it answers what stands there with the next offset, or a refusal.
+#![tactic(auto)]
+
 ghost use Rattle.std.specs.Prelude.{◌≡◌, true, ◌+◌, ◌^◌, ◌<◌, ◌≤◌, length};
 ghost use Rattle.rules.specs.Rules.Expressions.{takes, after};
 ghost use Rattle.rules.specs.Rules.JobFile.{got, little, token, tokens, expr};

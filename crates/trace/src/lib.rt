@@ -1,5 +1,7 @@
 // Two traces compared, as the words that runs have written (two an observation): word for word, and with everything from each
 // outermost start to its rollback struck out, as the plain runs' traces are.
+#![tactic(auto)]
+
 ghost use Rattle.std.specs.Prelude.{◌≡◌, ◌+◌, ◌*◌, ◌≤◌, length};
 ghost use Rattle.rules.specs.Rules.Pairs.{same_words};
 ghost use Rattle.trace.specs.Struck.{struck_words, closes_at, same_at, Closed, Outside};

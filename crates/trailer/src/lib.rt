@@ -1,4 +1,6 @@
 // The trailer of a job file: its numbers, their limits (refusal 2) and the offsets (refusal 3).
+#![tactic(auto)]
+
 ghost use Rattle.std.specs.Prelude.{◌≡◌, ◌+◌, ◌≤◌, length};
 ghost use Rattle.rules.specs.Rules.Limits.{max_cells, trailer_size};
 ghost use Rattle.rules.specs.Rules.JobFile.{little, trailer_at, limits, offsets};

@@ -1,4 +1,6 @@
 // Words moved between what the caller lends and the working words, before a run and after it; and two states compared.
+#![tactic(auto)]
+
 ghost use Rattle.std.specs.Prelude.{◌≡◌, not, ◌||◌, ◌+◌, ◌*◌, ◌<◌, ◌≤◌, eqb, length};
 ghost use Rattle.std.proofs.lemmas.List.Edits.{sets};
 ghost use Rattle.location.specs.Sets.{limit, member};

@@ -1,4 +1,6 @@
 // The operators of expressions on words of 64 bits. Each one's contract is its equation with the rules' operator.
+#![tactic(auto)]
+
 ghost use Rattle.std.specs.Prelude.{◌≡◌};
 ghost use Rattle.rules.specs.Rules.Operators.{apply1, neg, inv, apply2, add, sub, mul, and, or, xor, shl, shr, eq, ult};
 

@@ -1,6 +1,8 @@
 // The state of a run in the working words that the caller lends: an operand for each location, the table of stores outside the image, the
 // log of changes, the open branches, the words of the reports, the table of labels and the window costs. specs/Layout.antt has the layout of
 // the constants below for the proofs.
+#![tactic(auto)]
+
 pub mod machine;
 
 ghost use Rattle.std.specs.Prelude.{◌≡◌, ℕ, ◌+◌, ◌-◌, ◌*◌, ◌<◌, ◌≤◌, length, get_or, drop, set, replicate};
