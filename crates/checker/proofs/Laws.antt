@@ -25,8 +25,8 @@ use Rattle.rules.specs.Rules.Pairs.{PairAreas, pair_refused, pair_parsed, pair_c
 use Rattle.rules.specs.Rules.TestLoads.{TestLoadAreas, test_load_refused, test_load_parsed, test_load_call}
 use Rattle.rules.specs.Rules.Costs.{costs_fit, with_costs}
 use Rattle.rules.specs.Rules.Demands.{Exact}
-use Rattle.rules.specs.Theorems.Costs.{tabled-rejected, plain_any_table}
-use Rattle.rules.specs.Theorems.CallLaws.{call_runs}
+use Rattle.rules.proofs.Theorems.Costs.{tabled-rejected, plain_any_table}
+use Rattle.rules.proofs.Theorems.CallLaws.{call_runs}
 use Rattle.job.specs.Answers.{Accepts}
 use Rattle.firsts.specs.Reports.{reports_in}
 use Rattle.execution.specs.declared.Mode.TheVariants as modes

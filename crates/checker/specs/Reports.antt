@@ -15,7 +15,7 @@ use Rattle.rules.specs.Rules.Runs.{Result, Job, judge, verdict}
 use Rattle.rules.specs.Rules.JobFile.{accepted, rejected, parse}
 use Rattle.rules.specs.Rules.Calls.{Areas, long_enough, counts, run_report, run_refused, run_parsed, run_call, plain_report, plain_refused, plain_parsed, plain_call}
 use Rattle.rules.specs.Rules.Costs.{costs_fit, with_costs}
-use Rattle.rules.specs.Theorems.Costs.{tabled-accepted, tabled-refused, tabled-rejected}
+use Rattle.rules.proofs.Theorems.Costs.{tabled-accepted, tabled-refused, tabled-rejected}
 use Rattle.execution.specs.declared.Ran.{Ran}
 use Rattle.execution.specs.Running.{Reports}
 

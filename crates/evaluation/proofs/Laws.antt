@@ -22,7 +22,7 @@ use Rattle.rules.specs.Rules.Outside.{recall, remember, overfull}
 use Rattle.rules.specs.Rules.Plain.{State, put, with_outside, Code, joined, loaded_from, stored_to, store_overfull, chosen, at}
 use Rattle.token.specs.declared.Expression.{Expression}
 use Rattle.rules.specs.Theorems.Readers.{readable, value_or, unread}
-use Rattle.rules.specs.Theorems.SetsFirst.{tagged-equal}
+use Rattle.rules.proofs.Theorems.SetsFirst.{tagged-equal}
 use Rattle.token.specs.Meaning.{tokens_of}
 use Rattle.token.specs.Readable.{token-read, constant-read}
 use Rattle.descriptor.specs.Descriptors.{first_tokens, count_at, General}

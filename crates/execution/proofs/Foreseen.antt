@@ -20,8 +20,8 @@ use Rattle.rules.specs.Rules.Mispredicting.{Machine, Step}
 use Rattle.rules.specs.Rules.Plain.{Code}
 use Rattle.rules.specs.Rules.Limits.{max_instructions}
 use Rattle.rules.specs.Rules.Runs.{Gathered, Result, gather, observed_set, note, fits, over, run}
-use Rattle.rules.specs.Theorems.RunLaws.{run_step}
-use Rattle.rules.specs.Theorems.Undo.{PositiveCosts}
+use Rattle.rules.proofs.Theorems.RunLaws.{run_step}
+use Rattle.rules.proofs.Theorems.Undo.{PositiveCosts}
 use Rattle.program.specs.Programs.{Describes}
 use Rattle.work.specs.declared.machine.Control.{Control}
 use Rattle.work.specs.Layout.{labels}

@@ -12,7 +12,7 @@ use Rattle.rules.specs.Rules.Instructions.{Instr, skip, assign, load, store, jmp
 use Rattle.rules.specs.Rules.Plain.{Code, State, end_place, fetch, exec}
 use Rattle.rules.specs.Rules.Mispredicting.{Branch, Machine, Step, expired, rolling, opening, forward, ordinary, lower, step_on, step, plain_step}
 use Rattle.rules.specs.Rules.Runs.{over_on, over}
-use Rattle.rules.specs.Theorems.StepLaws.{branch-or_other, forward-other}
+use Rattle.rules.proofs.Theorems.StepLaws.{branch-or_other, forward-other}
 use Rattle.rules.specs.Rules.Changes.{Change}
 use Rattle.work.specs.declared.OpenBranch.{OpenBranch}
 use Rattle.work.specs.declared.machine.Control.{Control}

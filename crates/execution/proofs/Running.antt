@@ -24,9 +24,9 @@ use Rattle.rules.specs.Rules.Firsts.{cause_of, ObservedSet, firsts_of}
 use Rattle.rules.specs.Rules.Runs.{Gathered, Result, observed_set, note, note_unmade, fits, over, run}
 use Rattle.rules.specs.Rules.JobFile.{locations}
 use Rattle.rules.specs.Rules.Calls.{written, trace_words, working_words, counts}
-use Rattle.rules.specs.Theorems.RunLaws.{run-over, run_spent, run-full, run-outside, run_step}
-use Rattle.rules.specs.Theorems.JobLaws.{Limits}
-use Rattle.rules.specs.Theorems.Undo.{PositiveCosts}
+use Rattle.rules.proofs.Theorems.RunLaws.{run-over, run_spent, run-full, run-outside, run_step}
+use Rattle.rules.proofs.Theorems.JobLaws.{Limits}
+use Rattle.rules.proofs.Theorems.Undo.{PositiveCosts}
 use Rattle.descriptor.specs.declared.Descriptor.{Descriptor}
 use Rattle.descriptor.specs.Descriptors.{descriptor_in, instruction_in, Valid}
 use Rattle.program.specs.Programs.{Describes, program-length, program-at}

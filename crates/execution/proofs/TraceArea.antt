@@ -8,7 +8,7 @@ use lib.ListN.{length, drop, length-append, length-drop}
 use lib.Seq.{sets, sets-eq, take_at, drop_at, drop-drop}
 use Rattle.rules.specs.Rules.Instructions.{Observation}
 use Rattle.rules.specs.Rules.Calls.{written, trace_words}
-use Rattle.rules.specs.Theorems.CallLaws.{length-trace_words}
+use Rattle.rules.proofs.Theorems.CallLaws.{length-trace_words}
 
 -- more words after those written
 written-more : (ws vs a : List ℕ) → length ws + length vs ≤ length a → sets (written ws a) (length ws) vs ≡ written (ws ++ vs) a

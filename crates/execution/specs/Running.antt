@@ -17,8 +17,8 @@ use Rattle.rules.specs.Rules.Loop.{ended}
 use Rattle.rules.specs.Rules.Runs.{Result, over, run}
 use Rattle.rules.specs.Rules.JobFile.{postfix, locations}
 use Rattle.rules.specs.Rules.Calls.{written, trace_words, counts}
-use Rattle.rules.specs.Theorems.JobLaws.{Limits}
-use Rattle.rules.specs.Theorems.Undo.{PositiveCosts}
+use Rattle.rules.proofs.Theorems.JobLaws.{Limits}
+use Rattle.rules.proofs.Theorems.Undo.{PositiveCosts}
 use Rattle.instruction.specs.declared.Instruction.{Instruction}
 use Rattle.instruction.specs.Meaning.{meaning}
 use Rattle.instruction.specs.Registers.{RegistersBelow}

@@ -11,7 +11,7 @@ use Rattle.rules.specs.Rules.JobFile.{trailer, locations, state_of, job_of}
 use Rattle.rules.specs.Rules.Calls.{room}
 use Rattle.rules.specs.Rules.Pairs.{with_state}
 use Rattle.rules.specs.Rules.Costs.{with_costs}
-use Rattle.rules.specs.Theorems.JobLaws.{Passed, job-init, job-budget, job-cells}
+use Rattle.rules.proofs.Theorems.JobLaws.{Passed, job-init, job-budget, job-cells}
 use Rattle.program.specs.Programs.{program_in}
 use Rattle.work.specs.Layout.{labels}
 use Rattle.work.specs.Words.{costs_in}

@@ -16,7 +16,7 @@ use Rattle.rules.specs.Rules.Operators.{Op1, neg, Op2, add, apply1, apply2}
 use Rattle.rules.specs.Rules.Expressions.{Token, reg, const, op1, op2, Expr, takes, held, sound, tagged, pushed, eval_on, top, eval}
 use Rattle.rules.specs.Rules.JobFile.{Read, got, refused, and_then, little, unary, binary, token, tokens}
 use Rattle.rules.specs.Theorems.Readers.{readable, value_or}
-use Rattle.rules.specs.Theorems.Postfix.{after_holds}
+use Rattle.rules.proofs.Theorems.Postfix.{after_holds}
 use Rattle.token.specs.declared.Expression.{Expression}
 use Rattle.token.specs.Meaning.{tokens_of}
 use Rattle.token.specs.Readable.{register-read, constant-read, unary_read, operator-read}

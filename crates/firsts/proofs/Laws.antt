@@ -22,7 +22,7 @@ use Rattle.rules.specs.Rules.Calls.{working_words}
 use Rattle.rules.specs.Rules.Limits.{max_instructions}
 use Rattle.work.specs.Layout.{reports, report_base, labels}
 use Rattle.rules.specs.Rules.Firsts.{no_report, firsts_of}
-use Rattle.rules.specs.Theorems.Firsts.{firsts-none}
+use Rattle.rules.proofs.Theorems.Firsts.{firsts-none}
 use Rattle.location.proofs.Laws.{four}
 use Rattle.location.proofs.Filling.{Filled, filled_none, filled_next}
 use Rattle.work.proofs.Past.{SameMachine, machine-refl, machine_trans, past_same}

@@ -14,7 +14,7 @@ use Rattle.location.specs.SetLaws.{subset-within, member_union, member-empty}
 use Rattle.rules.specs.Rules.Calls.{working_words}
 use Rattle.rules.specs.Rules.Firsts.{ObservedSet, no_report, held, first_holding, firsts_of}
 use Rattle.rules.specs.Rules.Limits.{max_instructions}
-use Rattle.rules.specs.Theorems.Firsts.{held_one, first-kept, first-later, first-none, first_one, firsts_are}
+use Rattle.rules.proofs.Theorems.Firsts.{held_one, first-kept, first-later, first-none, first_one, firsts_are}
 use Rattle.work.specs.Layout.{reports, report_base}
 use Rattle.work.proofs.Ranges.{same-past, first-same}
 use Rattle.firsts.specs.Reports.{packed, unpacked, report_in, report_on, reports_in, Told}

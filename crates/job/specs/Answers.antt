@@ -7,7 +7,7 @@ use Rattle.rules.specs.declared.Trailer.{Trailer}
 use Rattle.rules.specs.declared.Refusal.{Refusal}
 use Rattle.rules.specs.Rules.Runs.{Job}
 use Rattle.rules.specs.Rules.JobFile.{Parsed, accepted, rejected, trailer, public_of, parse}
-use Rattle.rules.specs.Theorems.JobLaws.{passed, job-public}
+use Rattle.rules.proofs.Theorems.JobLaws.{passed, job-public}
 use Rattle.job.specs.declared.JobOutcome.TheVariants as outcomes
 use Rattle.job.specs.declared.JobRead.{JobRead}
 

@@ -20,9 +20,9 @@ use Rattle.rules.specs.Rules.Calls.{lent, table_size, end_words, written, workin
 use Rattle.rules.specs.Rules.Pairs.{with_state}
 use Rattle.rules.specs.Rules.Costs.{costs_fit, with_costs}
 use Rattle.rules.specs.Theorems.Readers.{readable}
-use Rattle.rules.specs.Theorems.Undo.{PositiveCosts}
-use Rattle.rules.specs.Theorems.Costs.{fit_length, fit-positive}
-use Rattle.rules.specs.Theorems.JobLaws.{passed}
+use Rattle.rules.proofs.Theorems.Undo.{PositiveCosts}
+use Rattle.rules.proofs.Theorems.Costs.{fit_length, fit-positive}
+use Rattle.rules.proofs.Theorems.JobLaws.{passed}
 use Rattle.descriptor.specs.Descriptors.{offsets}
 use Rattle.program.specs.Words.{words_from, length-words}
 use Rattle.program.specs.Programs.{program_in, Describes, table-written}

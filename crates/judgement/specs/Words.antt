@@ -9,8 +9,8 @@ use Rattle.rules.specs.declared.PairWord.{PairWord}
 use Rattle.rules.specs.Rules.Runs.{Job, mispredicting_run, plain_run, is_finished}
 use Rattle.rules.specs.Rules.Calls.{trace_words}
 use Rattle.rules.specs.Rules.Pairs.{with_state, alike_from, same_words, same_trace, first_that_fits, pair_word}
-use Rattle.rules.specs.Theorems.PlainRun.{demand2}
-use Rattle.rules.specs.Theorems.PairLaws.{finished-stop}
+use Rattle.rules.proofs.Theorems.PlainRun.{demand2}
+use Rattle.rules.proofs.Theorems.PairLaws.{finished-stop}
 use Rattle.trace.specs.Struck.{struck_words, struck-trace}
 
 abbrev pub pair_word_of : Bool → Stop → Stop → List ℕ → List ℕ → PairWord

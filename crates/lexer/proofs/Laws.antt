@@ -14,7 +14,7 @@ use lib.Seq.{drop-cons, get_or-drop, drop-drop}
 use Rattle.rules.specs.Rules.Parts.{in_name, Part, name, other, starts_name, extended, named, byte_parts, parts}
 use Rattle.lexer.specs.Places.{is_space, blanks, name_length, OtherFirst, PartTold}
 use Rattle.lexer.specs.Fronts.{front_met, front_not_met, front-nil, front-within, front_ends}
-use Rattle.rules.specs.Theorems.TextParts.{parts-byte, named-byte, starts_byte, nothing_ends, opening-parts, closing_parts}
+use Rattle.rules.proofs.Theorems.TextParts.{parts-byte, named-byte, starts_byte, nothing_ends, opening-parts, closing_parts}
 use Rattle.lexer.specs.Fronts.{parts-nil, parts-newline, parts-blanks}
 use Rattle.lexer.specs.declared.Part.TheVariants.{Name, Opening, Closing}
 

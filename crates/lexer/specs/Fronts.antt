@@ -5,7 +5,7 @@ use Rattle.std.specs.Prelude.{◌≡◌, Bool, true, false, List, [], ◌∷◌,
 use Rattle.std.proofs.Math.Path.{refl}
 use Rattle.std.proofs.Common.{ap, ◌∙◌, add-one, arith, eqb-true, drop_of_length-le, drop-cons}
 use Rattle.rules.specs.Rules.Parts.{newline, space, in_name, byte_parts, parts}
-use Rattle.rules.specs.Theorems.TextParts.{space-parts}
+use Rattle.rules.proofs.Theorems.TextParts.{space-parts}
 use Rattle.lexer.specs.Places.{front_length, is_space, blanks}
 
 module _ (test : ℕ → Bool) where

@@ -6,7 +6,7 @@ use Rattle.std.proofs.Common.{sym, ap, ◌∙◌, arith, eqb-true, length-drop, 
 use Rattle.rules.specs.Rules.Parts.{newline, space, in_name, into_first, lines_of, starts_name, byte_parts, parts}
 use Rattle.lexer.specs.declared.Place.{Place}
 use Rattle.lexer.specs.Places.{is_space, in_line, blanks, line_length, blanks_passed, line_passed, line_from, line_at}
-use Rattle.rules.specs.Theorems.TextParts.{parts-byte, starts_byte}
+use Rattle.rules.proofs.Theorems.TextParts.{parts-byte, starts_byte}
 use Rattle.lexer.specs.Fronts.{front_met, front_not_met, front-nil, front-within, parts-nil, parts-newline, parts-blanks}
 
 -- ---- a byte before other lines

@@ -13,7 +13,7 @@ use Rattle.rules.specs.Rules.Encoding.{op2_byte, token_bytes}
 use Rattle.rules.specs.Rules.Parts as rules
 use Rattle.rules.specs.Rules.Parts.{parts, segment}
 use Rattle.rules.specs.Rules.TextReading.{register_named, constant_named, operator_named, simple_named, took, nothing, taken, by_name, closed}
-use Rattle.rules.specs.Theorems.TextFits.{register-limit}
+use Rattle.rules.proofs.Theorems.TextFits.{register-limit}
 use Rattle.lexer.specs.declared.Part.{Part}
 use Rattle.lexer.specs.declared.Part.TheVariants.{End, Name, Opening, Closing, Other}
 use Rattle.lexer.specs.Places.{PartTold, told_of}

@@ -14,7 +14,7 @@ use Rattle.rules.specs.Rules.Limits.{max_entries}
 use Rattle.rules.specs.Rules.Outside.{remember, remembers, overfull}
 use Rattle.rules.specs.Rules.Plain.{Entry, with_outside}
 use Rattle.rules.specs.Rules.Changes.{position, reworded}
-use Rattle.rules.specs.Theorems.Outside.{remember-replaced, remember-added}
+use Rattle.rules.proofs.Theorems.Outside.{remember-replaced, remember-added}
 use Rattle.work.specs.declared.machine.Control.{Control}
 use Rattle.work.specs.Words.{count_in, entry_at}
 use Rattle.work.specs.Machines.{entries_from, table_in, machine_of, with_entry}

@@ -26,10 +26,10 @@ use Rattle.rules.specs.Rules.Pairs.{with_state, alike_from, pair_word, PairAreas
 use Rattle.rules.specs.Rules.Pairs.{pair_tabled, pair_parsed, pair_call}
 use Rattle.rules.specs.Rules.Costs.{costs_fit, with_costs}
 use Rattle.rules.specs.Rules.Demands.{Exact}
-use Rattle.rules.specs.Theorems.RunLaws.{mispredicting_trace}
-use Rattle.rules.specs.Theorems.Costs.{tabled-accepted, tabled-refused}
-use Rattle.rules.specs.Theorems.CallLaws.{length-trace_words}
-use Rattle.rules.specs.Theorems.PairLaws.{Pairs, pair_runs}
+use Rattle.rules.proofs.Theorems.RunLaws.{mispredicting_trace}
+use Rattle.rules.proofs.Theorems.Costs.{tabled-accepted, tabled-refused}
+use Rattle.rules.proofs.Theorems.CallLaws.{length-trace_words}
+use Rattle.rules.proofs.Theorems.PairLaws.{Pairs, pair_runs}
 use Rattle.job.specs.Answers.{Accepts}
 use Rattle.execution.specs.declared.Mode.TheVariants as modes
 use Rattle.execution.specs.declared.Ran.{Ran}

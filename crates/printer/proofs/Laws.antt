@@ -19,7 +19,7 @@ use Rattle.rules.specs.Rules.Calls.{Areas, Called, lent, room, table_size, worki
 use Rattle.rules.specs.Rules.Calls.{run_report, run_refused, run_parsed, fixed_run_call}
 use Rattle.rules.specs.Rules.Demands.{observation_count, Exact}
 use Rattle.rules.specs.Rules.Listing.{printed_room, listing_of, listing}
-use Rattle.rules.specs.Theorems.JobLaws.{passed, job-end, init-most}
+use Rattle.rules.proofs.Theorems.JobLaws.{passed, job-end, init-most}
 use Rattle.job.specs.declared.JobOutcome.TheVariants as outcomes
 use Rattle.job.specs.declared.JobRead.{JobRead}
 use Rattle.job.specs.Answers.{job_read_of, read-accepted, read-refused}

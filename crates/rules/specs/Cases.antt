@@ -10,5 +10,3 @@ pub mod Costs
 pub mod Operators
 pub mod Sets
 pub mod Texts
-pub mod Tables
-pub mod TextTables

@@ -15,7 +15,7 @@ use Rattle.rules.specs.Rules.JobFile.{Parsed, accepted, rejected, parse}
 use Rattle.rules.specs.Rules.TextPrinting.{program_text}
 use Rattle.rules.specs.Rules.TextCalls.{output, print_parsed, print_call}
 use Rattle.rules.specs.Rules.TextPromises.{PrintPromise}
-use Rattle.rules.specs.Theorems.TextPromises.{output_done, output_short}
+use Rattle.rules.proofs.Theorems.TextPromises.{output_done, output_short}
 
 refused-printed : {P : Type 0} {r : Refusal} {n : ℕ} → prints.Refused r ≡ prints.Printed n → P
 refused-printed {P} {r} {n} e = absurd (let z : ◌≡◌ {A = ℕ} 0 1 = cc in omega arith)

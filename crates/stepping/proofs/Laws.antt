@@ -13,7 +13,7 @@ use Rattle.rules.specs.Rules.Plain.{State, Code}
 use Rattle.rules.specs.Rules.Mispredicting.{Branch, remaining, lower, new_window}
 use Rattle.rules.specs.Rules.Runs.{gather}
 use Rattle.rules.specs.Rules.Changes.{Change}
-use Rattle.rules.specs.Theorems.Undo.{PositiveCosts, remaining-less}
+use Rattle.rules.proofs.Theorems.Undo.{PositiveCosts, remaining-less}
 use Rattle.instruction.specs.declared.Instruction.{Instruction}
 use Rattle.instruction.specs.Meaning.{meaning}
 use Rattle.work.specs.declared.OpenBranch.{OpenBranch}

@@ -14,7 +14,7 @@ use Rattle.rules.specs.Rules.Plain as plain
 use Rattle.rules.specs.Rules.Mispredicting.{Branch, Step, remaining, rolling, opening, step_with}
 use Rattle.rules.specs.Rules.Runs.{observed_set, note}
 use Rattle.rules.specs.Rules.Calls.{trace_words}
-use Rattle.rules.specs.Theorems.Undo.{PositiveCosts}
+use Rattle.rules.proofs.Theorems.Undo.{PositiveCosts}
 use Rattle.work.specs.declared.machine.Control.{Control}
 use Rattle.work.specs.Layout.{reports, labels}
 use Rattle.work.specs.Words.{window_at, costs_in}

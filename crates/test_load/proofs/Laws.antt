@@ -26,11 +26,11 @@ use Rattle.rules.specs.Rules.Pairs.{pair_lent, pair_after, pair_fits, pair_accep
 use Rattle.rules.specs.Rules.TestLoads.{next_word, new_words, new_state, TestLoadAreas, test_load_lent, own_run_alone, new_state_run, test_load_refused}
 use Rattle.rules.specs.Rules.TestLoads.{state_fits, test_load_parsed, test_load_call}
 use Rattle.rules.specs.Rules.Demands.{Exact}
-use Rattle.rules.specs.Theorems.JobLaws.{length-words_at}
-use Rattle.rules.specs.Theorems.Costs.{tabled-accepted, tabled-refused}
-use Rattle.rules.specs.Theorems.EncodedWords.{length-word_bytes}
-use Rattle.rules.specs.Theorems.NewStates.{length-new_words, read-new}
-use Rattle.rules.specs.Theorems.TestLoads.{TestLoads, test_load_unfinished, test_load_finished}
+use Rattle.rules.proofs.Theorems.JobLaws.{length-words_at}
+use Rattle.rules.proofs.Theorems.Costs.{tabled-accepted, tabled-refused}
+use Rattle.rules.proofs.Theorems.EncodedWords.{length-word_bytes}
+use Rattle.rules.proofs.Theorems.NewStates.{length-new_words, read-new}
+use Rattle.rules.proofs.Theorems.TestLoads.{TestLoads, test_load_unfinished, test_load_finished}
 use Rattle.job.specs.Answers.{Accepts}
 use Rattle.execution.specs.declared.Mode.TheVariants as modes
 use Rattle.execution.specs.declared.Ran.{Ran}

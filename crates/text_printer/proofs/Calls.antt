@@ -19,7 +19,7 @@ use Rattle.rules.specs.Rules.Calls.{Called, written}
 use Rattle.rules.specs.Rules.TextCalls.{output, print_parsed, print_call}
 use Rattle.rules.specs.Rules.Demands.{Exact}
 use Rattle.rules.specs.Theorems.Readers.{readable}
-use Rattle.rules.specs.Theorems.JobLaws.{Passed, passed, limits-hold, state_list, list_length}
+use Rattle.rules.proofs.Theorems.JobLaws.{Passed, passed, limits-hold, state_list, list_length}
 use Rattle.byte_writer.specs.Writing.{Put}
 use Rattle.byte_writer.specs.Areas.{put-fits}
 use Rattle.job.specs.Answers.{Accepts}

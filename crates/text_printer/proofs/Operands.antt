@@ -21,7 +21,7 @@ use Rattle.rules.specs.Theorems.Readers.{readable, value_or, unread}
 use Rattle.token.specs.declared.Expression.{Expression}
 use Rattle.token.specs.Meaning.{tokens_of}
 use Rattle.token.specs.Readable.{tokens-read}
-use Rattle.rules.specs.Theorems.Postfix.{after_holds}
+use Rattle.rules.proofs.Theorems.Postfix.{after_holds}
 use Rattle.text_printer.specs.Operands.{sign_part, operator_part, token_in, texts_at, below_after, Indexed, IndexedAll, Operand, Printable}
 
 -- ---- tokens that were read

@@ -17,7 +17,7 @@ use Rattle.rules.specs.Rules.Parts.{parts, lines_of}
 use Rattle.rules.specs.Rules.TextReading.{Line, blank, holds, unreadable, line_of, joined_line, instructions_of, read_text}
 use Rattle.rules.specs.Rules.TextCalls.{read_program, read_call}
 use Rattle.rules.specs.Rules.TextPromises.{ReadPromise}
-use Rattle.rules.specs.Theorems.TextPromises.{output_done, output_short, read-promise}
+use Rattle.rules.proofs.Theorems.TextPromises.{output_done, output_short, read-promise}
 use Rattle.byte_writer.specs.Areas.{put_next, put-fits}
 use Rattle.text_reader.specs.declared.Counted.{Counted}
 use Rattle.text_reader.specs.declared.Scanned.{Scanned}

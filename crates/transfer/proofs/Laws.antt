@@ -25,7 +25,7 @@ use Rattle.work.specs.Words.{tagged_at, stored, count_in, entry_at, tagged_words
 use Rattle.work.specs.Machines.{locations_from, entries_from, table_in, state_in}
 use Rattle.work.proofs.Ranges.{drop-sets}
 use Rattle.work.proofs.States.{locations-more, locations-before, entries_length}
-use Rattle.rules.specs.Theorems.Sizes.{values_length, table-length}
+use Rattle.rules.proofs.Theorems.Sizes.{values_length, table-length}
 use Rattle.transfer.specs.Loads.{StateLoaded}
 use Rattle.transfer.specs.Tables.{entry_words_at}
 

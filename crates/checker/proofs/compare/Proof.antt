@@ -1,6 +1,6 @@
 -- `compare` meets its contract: the answer and the areas are the rules', and such a call keeps its promise. Assumes nothing.
 use Rattle.rules.specs.Rules.Pairs.{pair_lent}
-use Rattle.rules.specs.Theorems.Promises.{pair-promise}
+use Rattle.rules.proofs.Theorems.Promises.{pair-promise}
 use Rattle.job.specs.Answers.{read-accepted, read-public, read-refused}
 use Rattle.checker.proofs.Laws.{pair-rejected}
 use borrow.Author.Rules.{rules}

@@ -1,6 +1,6 @@
 -- `run` meets its contract: the answer and the areas are the rules', and such a call keeps its promise. Assumes nothing.
 use Rattle.rules.specs.Rules.Calls.{lent}
-use Rattle.rules.specs.Theorems.Promises.{run-promise}
+use Rattle.rules.proofs.Theorems.Promises.{run-promise}
 use Rattle.job.specs.Answers.{read-accepted, read-public, read-refused}
 use Rattle.checker.proofs.Laws.{exact-rejected}
 use borrow.Author.Rules.{rules}

@@ -1,7 +1,7 @@
 -- `test_load` meets its contract: the answer and the areas are the rules', and such a call keeps its promise. Assumes nothing.
 use native.Mathlib.Omega.{arith}
 use Rattle.rules.specs.Rules.TestLoads.{test_load_lent}
-use Rattle.rules.specs.Theorems.TestLoads.{test_load_promise}
+use Rattle.rules.proofs.Theorems.TestLoads.{test_load_promise}
 use Rattle.job.specs.Answers.{read-accepted, read-public, read-refused}
 use Rattle.checker.proofs.Laws.{test_load_rejected}
 use borrow.Author.Rules.{rules}

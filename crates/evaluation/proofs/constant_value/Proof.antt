@@ -1,5 +1,5 @@
 -- `evaluation::constant_value` meets its contract. Assumes nothing.
-use Rattle.rules.specs.Theorems.SetsFirst.{tagged-equal}
+use Rattle.rules.proofs.Theorems.SetsFirst.{tagged-equal}
 use borrow.Author.Rules.{rules}
 use Rattle.evaluation.proofs.constant_value.Statement.{statement}
 use Rattle.evaluation.proofs.constant_value.Tie as tie

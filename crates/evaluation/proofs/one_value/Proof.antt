@@ -1,6 +1,6 @@
 -- `evaluation::one_value` meets its contract: the token is a register or a constant. Assumes nothing.
 use native.Mathlib.Omega.{arith}
-use Rattle.rules.specs.Theorems.SetsFirst.{tagged-equal}
+use Rattle.rules.proofs.Theorems.SetsFirst.{tagged-equal}
 use Rattle.evaluation.proofs.Laws.{value-register, value-constant, one-read, one-register, one-constant}
 use borrow.Author.Rules.{rules}
 use Rattle.evaluation.proofs.one_value.Statement.{statement}

@@ -1,7 +1,7 @@
 -- `evaluation::set_of_two` meets its contract. Assumes nothing.
 use mathlib.Core.Path.{refl, ◌∙◌}
 use native.Mathlib.Omega.{arith}
-use Rattle.rules.specs.Theorems.SetsFirst.{set-promise}
+use Rattle.rules.proofs.Theorems.SetsFirst.{set-promise}
 use Rattle.descriptor.specs.Shapes.{register-register_shaped}
 use Rattle.work.specs.Words.{set_at}
 use Rattle.evaluation.proofs.Laws.{two-gathered}

@@ -1,6 +1,6 @@
 -- `expression::evaluate` meets its contract: the set that was gathered is the value's, whatever the registers hold. Assumes nothing.
 use Prim.Native.Nat.{ℕ}
-use Rattle.rules.specs.Theorems.SetsFirst.{tagged-equal}
+use Rattle.rules.proofs.Theorems.SetsFirst.{tagged-equal}
 use Rattle.work.specs.Words.{tagged_at}
 use Rattle.expression.proofs.Gathering.{sound-readable}
 use borrow.Author.Rules.{rules}

@@ -4,7 +4,7 @@ use borrow.Author.Rules.{rules}
 use lib.ListN.{replicate}
 use Rattle.location.specs.Sets.{limit}
 use Rattle.rules.specs.declared.First.{First}
-use Rattle.rules.specs.Theorems.Firsts.{firsts-none}
+use Rattle.rules.proofs.Theorems.Firsts.{firsts-none}
 use Rattle.firsts.proofs.nothing.Statement.{statement}
 use Rattle.firsts.proofs.nothing.Tie as tie
 

@@ -5,7 +5,7 @@ use borrow.Author.Tests.{le-leb, lt-leb}
 use native.Mathlib.Omega.{arith}
 use Rattle.rules.specs.Rules.Limits.{max_bytes, trailer_size}
 use Rattle.rules.specs.Rules.JobFile.{parse, trailer, sized}
-use Rattle.rules.specs.Theorems.JobLaws.{limits-hold, offsets-state, offsets_list}
+use Rattle.rules.proofs.Theorems.JobLaws.{limits-hold, offsets-state, offsets_list}
 use Rattle.job.proofs.Laws.{sized_true}
 use borrow.Author.Rules.{rules}
 use lib.ListN.{length}

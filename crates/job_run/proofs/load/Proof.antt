@@ -1,6 +1,6 @@
 -- `load` meets its contract: a run from the words is that of the job with the table and the state. Assumes nothing.
 use native.Mathlib.Omega.{arith}
-use Rattle.rules.specs.Theorems.Costs.{fit_length}
+use Rattle.rules.proofs.Theorems.Costs.{fit_length}
 use Rattle.job_run.specs.Accepted.{accepted-limits, accepted_list, accepted-length}
 use Rattle.job_run.proofs.Laws.{same-part, program-accepted, prepared, loaded_for}
 use borrow.Author.Rules.{rules}

@@ -1,6 +1,6 @@
 -- `print_text` meets its contract: an accepted job is printed, any other refused, and such a call keeps its promise. Assumes nothing.
 use native.Mathlib.Omega.{arith}
-use Rattle.rules.specs.Theorems.TextPromises.{print_promise}
+use Rattle.rules.proofs.Theorems.TextPromises.{print_promise}
 use Rattle.job.specs.Answers.{read-accepted, read-refused}
 use Rattle.text_printer.proofs.Calls.{refused-call}
 use borrow.Author.Rules.{rules}

@@ -7,7 +7,7 @@ use native.Mathlib.Omega.{arith}
 use borrow.Author.Rules.{rules}
 use Rattle.location.specs.Sets.{union}
 use Rattle.rules.specs.Rules.Expressions.{expr_set}
-use Rattle.rules.specs.Theorems.SetsFirst.{set-promise}
+use Rattle.rules.proofs.Theorems.SetsFirst.{set-promise}
 use Rattle.token.specs.Meaning.{tokens_of}
 use Rattle.token.specs.Readable.{token-read, constant-read}
 use Rattle.work.specs.Words.{set_at}

@@ -1,0 +1,49 @@
+-- `assign` meets its contract: with nothing open a store, else a change, of the operand of the location's number. Assumes nothing.
+use mathlib.Core.Path.{◌≡◌}
+use native.Mathlib.Omega.{arith}
+use lib.ListN.{length}
+use Rattle.work.proofs.Moves.{fit-bound, moved_as, give_plain, give_open, location-moved}
+use borrow.Author.Rules.{rules}
+use Rattle.work.proofs.machine.assign.Goals as goal
+
+pub store-requires : goal.store-requires
+store-requires c =
+        let e = c.index-k.ensures in
+    let f = c.requires.0 in
+    omega (arith, f.room, c.requires.2)
+
+pub returns-then-depth-eq0 : goal.returns-then-depth-eq0
+returns-then-depth-eq0 c =
+                let a = c.args in
+    let p = c.requires in
+    let k = c.index-k.result in
+    let e = c.index-k.ensures in
+    let l = p.2 in
+    let of-set = c.well_formed.1.1.1.0.1.1.0 in
+    let h : length a.v.deps.words ≡ 4 = search (rules, of-set) in
+    location-moved k a.l.0 a.v e l
+    (moved_as c.store.ensures c.go.ensures
+    (give_plain a.work.now a.c k a.place a.remaining a.v p.0 p.1 (omega arith) h c.if-depth-eq0.true))
+
+pub change-requires : goal.change-requires
+change-requires c =
+        let e = c.index-k.ensures in
+    let f = c.requires.0 in
+    omega (arith, fit-bound f, f.room, c.requires.2)
+
+pub logged-requires : goal.logged-requires
+logged-requires c =
+    omega (arith, fit-bound c.requires.0)
+
+pub returns : goal.returns
+returns c =
+                let a = c.args in
+    let p = c.requires in
+    let k = c.index-k.result in
+    let e = c.index-k.ensures in
+    let l = p.2 in
+    let of-set = c.well_formed.1.1.1.0.1.1.0 in
+    let h : length a.v.deps.words ≡ 4 = search (rules, of-set) in
+    location-moved k a.l.0 a.v e l
+    (moved_as c.change.ensures c.logged.ensures
+    (give_open a.work.now a.c k a.place a.remaining a.v p.0 p.1 (omega arith) h c.if-depth-eq0.false))
