@@ -20,7 +20,7 @@ use token::Expression;
 // `at` is the instruction's offset, `shape` what the instruction reads first, `extra` the label of a branch, the place that a jump to a
 // constant names (FARTHEST for a larger one), or where the second expression of a conditional assignment stands. In the shapes that do not
 // name it, `first` means nothing; nor does `extra` of any other instruction, or `at` where nothing is read, or of a branch.
-#[derive(Drop)]
+#[derive(Clone, Copy)]
 pub struct Descriptor {
     pub at: usize,
     pub shape: u8,

@@ -18,7 +18,7 @@ use stepping::Progress;
 use work::machine::Control;
 
 // Which of the two runs.
-#[derive(Drop)]
+#[derive(Clone, Copy)]
 pub enum Mode {
     Plain,
     Mispredicting,

@@ -58,7 +58,7 @@ fn read_label(p: &[u8], at: usize) -> LabelRead
 }
 
 // The eight instructions, each with its own fields; a register is its number.
-#[derive(Drop)]
+#[derive(Clone, Copy)]
 pub enum Instruction {
     Skip,
     Assign(u8, Expression),

@@ -97,7 +97,7 @@ pub fn part_at(text: &[u8], at: usize) -> Part
 }
 
 // A reading place: an offset of a text, and the number of lines that end before it.
-#[derive(Drop)]
+#[derive(Clone, Copy)]
 pub struct Place {
     pub at: usize,
     pub line: usize,

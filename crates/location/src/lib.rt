@@ -6,15 +6,15 @@ ghost use Rattle.std.specs.Prelude.{◌≡◌, ◌+◌, ◌<◌, ◌^◌};
 ghost use Rattle.location.specs.Sets.{registers, limit, empty, single, union, subset, member, rest};
 
 // An instruction's number in the program; the number of instructions is the place END.
-#[derive(Drop)]
+#[derive(Clone, Copy)]
 pub struct Label(usize);
 
 // A memory address, of 64 bits; a cell has an address below the number of cells.
-#[derive(Drop)]
+#[derive(Clone, Copy)]
 pub struct Address(u64);
 
 // A register or a cell, by its number: register r is location r, cell a is location 16 + a.
-#[derive(Drop)]
+#[derive(Clone, Copy)]
 pub struct Location(usize);
 
 impl Label {
@@ -80,7 +80,7 @@ impl Location {
 }
 
 // A set of locations: location 64 i + k is bit k of word i. A number at or above the limit is in no set.
-#[derive(Drop)]
+#[derive(Clone, Copy)]
 pub struct LocationSet {
     pub words: [u64; 4],
 }

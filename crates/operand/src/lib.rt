@@ -22,7 +22,7 @@ const CONSTANT: u8 = 16;
 
 // How far a reading has come: the offset in the text, the place in the area, the tokens of the expression so far, and the values that
 // they hold (9 marks the postfix rule as broken, for good).
-#[derive(Drop)]
+#[derive(Clone, Copy)]
 struct Progress {
     at: usize,
     to: usize,

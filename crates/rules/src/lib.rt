@@ -12,14 +12,14 @@ pub mod observation;
 const REGISTERS: usize = Location::REGISTERS as usize;
 
 // A word with the set of locations that it rests on; the set first, as in an operand of the working words.
-#[derive(Drop)]
+#[derive(Clone, Copy)]
 pub struct Tagged {
     pub deps: LocationSet,
     pub value: u64,
 }
 
 // Why a run ended.
-#[derive(Drop)]
+#[derive(Clone, Copy)]
 pub enum Stop {
     Finished,
     Spent,
@@ -66,7 +66,7 @@ pub enum Refusal {
 
 // The numbers of a job file's trailer: the offsets of the state and of the public list, the counts of instructions and
 // cells, the window, the zero and the budget.
-#[derive(Drop)]
+#[derive(Clone, Copy)]
 pub struct Trailer {
     pub state: usize,
     pub list: usize,
@@ -88,7 +88,7 @@ impl Trailer {
 }
 
 // What a mispredicting run counts.
-#[derive(Drop)]
+#[derive(Clone, Copy)]
 pub struct Counts {
     pub stop: Stop,
     pub observations: usize,
@@ -111,7 +111,7 @@ pub enum RunOutcome {
 }
 
 // The rule by which an instruction observes a set: of a branch's register, of a jump's value, of a load's or a store's address.
-#[derive(Drop)]
+#[derive(Clone, Copy)]
 pub enum Cause {
     Branch,
     Jump,
@@ -121,7 +121,7 @@ pub enum Cause {
 
 // What is reported of a location of D: the index of the first observation whose set holds it, the rule concerned and the label of that
 // instruction. A location that is not in D has index 0, Branch and label 0.
-#[derive(Drop)]
+#[derive(Clone, Copy)]
 pub struct First {
     pub index: u32,
     pub label: u16,

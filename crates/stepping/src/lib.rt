@@ -22,7 +22,7 @@ use work::machine::Control;
 
 // Where a run stands: the machine's control, the counts, the full set and the plain set. The rollbacks are not counted: every branch
 // that was opened is open or rolled back.
-#[derive(Drop)]
+#[derive(Clone, Copy)]
 pub struct Progress {
     pub control: Control,
     pub observations: usize,

@@ -185,7 +185,7 @@ fn scan_tokens(p: &[u8], at: usize, count: usize) -> Scan
 }
 
 // An expression in the bytes: where its tokens start, and how many there are.
-#[derive(Drop)]
+#[derive(Clone, Copy)]
 pub struct Expression {
     pub at: usize,
     pub count: usize,

@@ -15,7 +15,7 @@ use rules::Tagged;
 
 // The place, how many branches are open, how many changes are logged, how many branches were opened in all, and the window of the
 // top one; with none open it is no window, and not 0.
-#[derive(Drop)]
+#[derive(Clone, Copy)]
 pub struct Control {
     pub place: usize,
     pub depth: usize,

@@ -7,18 +7,14 @@ use Rattle.byte_writer.proofs.Digits.{digits-part}
 use borrow.Author.Rules.{rules}
 use Rattle.byte_writer.proofs.put_decimal.Goals as goal
 
--- HAND: After-buffer.find-digits
 pub put_text-requires : goal.put_text-requires
 put_text-requires c =
-    let at-start = c.TOPLESS.before in
-    let f = c.find-digits in
-    let a = at-start.args in
+    let f = c.find_digits-first in
+    let a = c.args in
     omega (arith, ap length (digits-part f.new.0 (decimal a.n) f.result f.auto.0 f.ensures.1))
 
--- HAND: After-buffer.find-digits
 pub returns : goal.returns
 returns c =
-        let at-start = c.TOPLESS.before in
-    let f = c.find-digits in
-    let a = at-start.args in
+    let f = c.find_digits-first in
+    let a = c.args in
     rw (digits-part f.new.0 (decimal a.n) f.result f.auto.0 f.ensures.1) at c.put_text.ensures

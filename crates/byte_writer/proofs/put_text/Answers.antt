@@ -13,14 +13,14 @@ loop-i-init c = (omega arith, record { area = refl; place = refl })
 
 pub put_byte-next-requires : goal.put_byte-next-requires
 put_byte-next-requires c =
-        let v = c.loop-i in
+    let v = c.loop-i in
     let a = c.args in
     left-room (get_or a.bytes.now v.i 0 ∷ []) (drop (v.i + 1) a.bytes.now) v.invariant.1
     (byte_next a.bytes.now v.i (omega arith)) (2 ^ 64) (omega arith)
 
 pub loop-i-preserved : goal.loop-i-preserved
 loop-i-preserved c =
-            let v = c.loop-i in
+    let v = c.loop-i in
     let a = c.args in (
       omega arith,
       left-next (get_or a.bytes.now v.i 0 ∷ []) (drop (v.i + 1) a.bytes.now) v.invariant.1
@@ -32,7 +32,7 @@ shape_of-out c = left-length c.loop-i.invariant.1
 
 pub returns : goal.returns
 returns c =
-        let v = c.loop-i in
+    let v = c.loop-i in
     let a = c.args in
     let past : length a.bytes.now ≤ v.i = omega arith in
     left_done (rw (drop_of_length-le a.bytes.now) at v.invariant.1)

@@ -16,21 +16,21 @@ returns-then-text-start-ne114 c =
 
 pub returns-then-x-ge16 : goal.returns-then-x-ge16
 returns-then-x-ge16 c =
-            let a = c.args in
+    let a = c.args in
     let told = c.constant_named in
     register-above a.text.now a.start a.end c.requires.1 (omega arith) c.if-text-start-ne114.false told.result told.ensures _
     c.in-Found.is c.if-x-ge16.true
 
 pub returns-else-x-ge16 : goal.returns-else-x-ge16
 returns-else-x-ge16 c =
-            let a = c.args in
+    let a = c.args in
     let told = c.constant_named in
     register-found a.text.now a.start a.end c.requires.1 (omega arith) c.if-text-start-ne114.false told.result told.ensures _
     c.in-Found.is (omega arith)
 
 pub returns-in-Missing : goal.returns-in-Missing
 returns-in-Missing c =
-            let a = c.args in
+    let a = c.args in
     let told = c.constant_named in
     register_missing a.text.now a.start a.end c.requires.1 (omega arith) c.if-text-start-ne114.false told.result told.ensures
     c.in-Missing.is

@@ -10,14 +10,12 @@ pub returns-then-same_word : goal.returns-then-same_word
 unfolding sign_named called unary text
 returns-then-same_word c = rw (sym c.same_word.ensures ∙ c.if-same_word.true)
 
--- HAND: Else1.same_word.ensures; After-same_word-arg3.if1.false
 pub returns-then-same_word-2 : goal.returns-then-same_word-2
 unfolding sign_named called unary text
 returns-then-same_word-2 c =
-    rw (sym c.same_word.ensures ∙ c.if1.false, sym c.same_word-2.ensures ∙ c.if-same_word-2.true)
+    rw (sym c.same_word.ensures ∙ c.if-same_word.false, sym c.same_word-2.ensures ∙ c.if-same_word-2.true)
 
--- HAND: Else1.same_word.ensures; After-same_word-arg3.if1.false
 pub returns : goal.returns
 unfolding sign_named called unary text
 returns c =
-    rw (sym c.same_word.ensures ∙ c.if1.false, sym c.same_word-2.ensures ∙ c.if-same_word-2.false)
+    rw (sym c.same_word.ensures ∙ c.if-same_word.false, sym c.same_word-2.ensures ∙ c.if-same_word-2.false)

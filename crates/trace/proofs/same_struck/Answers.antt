@@ -22,7 +22,7 @@ loop-i-init c = let x = c.outside-i.ensures in let y = c.outside-j.ensures in
 
 pub returns-then-m-j : goal.returns-then-m-j
 returns-then-m-j c =
-        let a = c.args in
+    let a = c.args in
     let v = c.loop-i in
     sym (second_ended a.a.now a.b.now v.i v.j v.invariant.0 (omega arith) (omega arith)) ∙ v.invariant.2
 
@@ -31,7 +31,7 @@ same_observation-requires c = (omega arith, omega arith)
 
 pub returns-then-not-same_observation : goal.returns-then-not-same_observation
 returns-then-not-same_observation c =
-            let a = c.args in
+    let a = c.args in
     let v = c.loop-i in
     let e = struck-step a.a.now a.b.now v.i v.j v.invariant.0 v.invariant.1 (omega arith) (omega arith) in
     sym (rw (← c.same_observation.ensures, not-true c.same_observation.result c.if-not-same_observation.true) at e)
@@ -42,7 +42,7 @@ loop-i-smaller c = let l = c.outside-i-in-loop-i.ensures.later in omega arith
 
 pub loop-i-preserved : goal.loop-i-preserved
 loop-i-preserved c =
-                    let a = c.args in
+    let a = c.args in
     let v = c.loop-i in
     let e = struck-step a.a.now a.b.now v.i v.j v.invariant.0 v.invariant.1 (omega arith) (omega arith) in
     let x = c.outside-i-in-loop-i.ensures in
@@ -54,6 +54,6 @@ loop-i-preserved c =
 
 pub returns : goal.returns
 returns c =
-        let a = c.args in
+    let a = c.args in
     let v = c.loop-i in
     first_ended a.a.now a.b.now v.i v.j v.invariant.1 (omega arith) ∙ v.invariant.2

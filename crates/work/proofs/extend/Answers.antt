@@ -8,12 +8,12 @@ use borrow.Author.Rules.{rules}
 use Rattle.work.proofs.extend.Goals as goal
 
 pub append-requires : goal.append-requires
-append-requires c = (search rules, omega (arith, c.log_operand.auto.0))
+append-requires c = (search rules, omega (arith, c.log_operand.auto.work))
 
 pub shape_of-work : goal.shape_of-work
-shape_of-work c = omega (arith, c.append.auto.0, c.log_operand.auto.0)
+shape_of-work c = omega (arith, c.append.auto.work, c.log_operand.auto.work)
 
 pub returns : goal.returns
 returns c =
-        let a = c.args in
+    let a = c.args in
     c.append.ensures ∙ ap (λ (u : List ℕ). appended u a.i a.address a.v) c.log_operand.ensures

@@ -9,10 +9,10 @@ pub store_at-requires : goal.store_at-requires
 store_at-requires c = simp length-set (omega arith)
 
 pub shape_of-work : goal.shape_of-work
-shape_of-work c = omega (arith, simp length-set at c.store_at.auto.0)
+shape_of-work c = omega (arith, simp length-set at c.store_at.auto.work)
 
 pub returns : goal.returns
 returns c =
-        let a = c.TOPLESS.before.args in
+    let a = c.args in
     let x = c.load_at-old in
-    log_law a.work.now c.store_at.new.0 a.count a.k x.result x.ensures c.store_at.ensures
+    log_law a.work.now c.store_at.new.work a.count a.k x.result x.ensures c.store_at.ensures

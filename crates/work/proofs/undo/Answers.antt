@@ -23,19 +23,17 @@ pub store-requires : goal.store-requires
 store-requires c =
     let v = c.loop-k in
     let k = v.k - 1 in
-    let a = c.TOPLESS.before in
-    let n : number_at v.work k ≤ operands = number_still a.args.work.now v.work k v.invariant.3 (a.requires.1 k (omega arith) (omega arith)) in
-    omega (arith, a.requires.0)
+    let n : number_at v.work k ≤ operands = number_still c.args.work.now v.work k v.invariant.3 (c.requires.by_index k (omega arith) (omega arith)) in
+    omega (arith, c.requires.count_in_bounds)
 
 pub loop-k-preserved : goal.loop-k-preserved
 loop-k-preserved c =
-            let at-start = c.TOPLESS.before in
-    let a = at-start.args in
+    let a = c.args in
     let v = c.loop-k in
     let k = v.k - 1 in
     let s : k + 1 ≡ v.k = omega arith in
     let x = number_at v.work k in
-    let n : x ≤ operands = number_still a.work.now v.work k v.invariant.3 (at-start.requires.1 k (omega arith) (omega arith)) in
+    let n : x ≤ operands = number_still a.work.now v.work k v.invariant.3 (c.requires.by_index k (omega arith) (omega arith)) in
     let t = c.load_at-before in
     let g = c.store in
     let q = undo_law v.work g.new.0 k a.mark x t.result (omega arith) refl t.ensures g.ensures in (

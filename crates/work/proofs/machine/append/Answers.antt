@@ -10,7 +10,7 @@ use Rattle.work.proofs.machine.append.Goals as goal
 
 pub returns-then-depth-eq0 : goal.returns-then-depth-eq0
 returns-then-depth-eq0 c =
-                let a = c.args in
+    let a = c.args in
     let p = c.requires in
     let of-set = c.well_formed.1.1.1.1.0.1.1.0 in
     let h : length a.v.deps.words ≡ 4 = search (rules, of-set) in
@@ -28,7 +28,7 @@ logged-requires c =
 
 pub returns : goal.returns
 returns c =
-                let a = c.args in
+    let a = c.args in
     let p = c.requires in
     let of-set = c.well_formed.1.1.1.1.0.1.1.0 in
     let h : length a.v.deps.words ≡ 4 = search (rules, of-set) in

@@ -8,13 +8,13 @@ use Rattle.work.proofs.machine.assign.Goals as goal
 
 pub store-requires : goal.store-requires
 store-requires c =
-        let e = c.index-k.ensures in
+    let e = c.index-k.ensures in
     let f = c.requires.0 in
     omega (arith, f.room, c.requires.2)
 
 pub returns-then-depth-eq0 : goal.returns-then-depth-eq0
 returns-then-depth-eq0 c =
-                let a = c.args in
+    let a = c.args in
     let p = c.requires in
     let k = c.index-k.result in
     let e = c.index-k.ensures in
@@ -27,7 +27,7 @@ returns-then-depth-eq0 c =
 
 pub change-requires : goal.change-requires
 change-requires c =
-        let e = c.index-k.ensures in
+    let e = c.index-k.ensures in
     let f = c.requires.0 in
     omega (arith, fit-bound f, f.room, c.requires.2)
 
@@ -37,7 +37,7 @@ logged-requires c =
 
 pub returns : goal.returns
 returns c =
-                let a = c.args in
+    let a = c.args in
     let p = c.requires in
     let k = c.index-k.result in
     let e = c.index-k.ensures in

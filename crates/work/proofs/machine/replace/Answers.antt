@@ -15,7 +15,7 @@ store-requires c =
 
 pub returns-then-depth-eq0 : goal.returns-then-depth-eq0
 returns-then-depth-eq0 c =
-            let a = c.args in
+    let a = c.args in
     let p = c.requires in
     let i = p.2 in
     let of-set = c.well_formed.1.1.1.0.1.1.0 in
@@ -35,7 +35,7 @@ logged-requires c =
 
 pub returns : goal.returns
 returns c =
-            let a = c.args in
+    let a = c.args in
     let p = c.requires in
     let i = p.2 in
     let of-set = c.well_formed.1.1.1.0.1.1.0 in

@@ -8,22 +8,21 @@ use Rattle.work.proofs.machine.roll_back.Goals as goal
 
 pub load_branch-top-requires : goal.load_branch-top-requires
 load_branch-top-requires c =
-    let f = c.TOPLESS.before.requires.0 in
+    let f = c.requires.fit in
     omega (arith, fit-bound f, f.room)
 
 pub undo-requires : goal.undo-requires
 undo-requires c =
-    let at-start = c.TOPLESS.before in
-    let a = at-start.args in
-    let f = at-start.requires.0 in (
+    let a = c.args in
+    let f = c.requires.fit in (
       omega (arith, fit-bound f, f.room),
-      λ j m.. log_numbers (number_at a.work.now) (change_at a.work.now) a.c.log (count_in a.work.now) f.log j,
+      λ j m. log_numbers (number_at a.work.now) (change_at a.work.now) a.c.log (count_in a.work.now) f.log j,
     )
 
 pub returns : goal.returns
 returns c =
-    let a = c.TOPLESS.before.args in
-    let p = c.TOPLESS.before.requires in
+    let a = c.args in
+    let p = c.requires in
     let y = c.load_branch-top in
     let u = c.undo in
     roll_law a.work.now u.new.0 a.c y.result p.0 p.1 y.ensures u.ensures
