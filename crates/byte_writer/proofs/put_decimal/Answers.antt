@@ -11,10 +11,10 @@ pub put_text-requires : goal.put_text-requires
 put_text-requires c =
     let f = c.find_digits-first in
     let a = c.args in
-    omega (arith, ap length (digits-part f.new.0 (decimal a.n) f.result f.auto.0 f.ensures.1))
+    omega (arith, ap length (digits-part f.new.buffer (decimal a.n) f.result f.auto.buffer f.ensures.1))
 
 pub returns : goal.returns
 returns c =
     let f = c.find_digits-first in
     let a = c.args in
-    rw (digits-part f.new.0 (decimal a.n) f.result f.auto.0 f.ensures.1) at c.put_text.ensures
+    rw (digits-part f.new.buffer (decimal a.n) f.result f.auto.buffer f.ensures.1) at c.put_text.ensures

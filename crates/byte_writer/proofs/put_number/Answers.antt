@@ -4,7 +4,7 @@ use mathlib.Core.List.{[], ◌∷◌}
 use Prim.Native.Nat.{◌-◌, ◌/◌, ◌%◌, ◌^◌}
 use native.Mathlib.Omega.{arith}
 use Rattle.rules.specs.Rules.Encoding.{bytes_of}
-use Rattle.rules.specs.Theorems.EncodedFields.{length-bytes_of}
+use Rattle.rules.proofs.Theorems.EncodedFields.{length-bytes_of}
 use Rattle.byte_writer.specs.Texts.{Left, left_done, left-length, left-room, left-next}
 use Rattle.byte_writer.proofs.Laws.{number-next, number-over}
 use Rattle.byte_writer.proofs.put_number.Goals as goal

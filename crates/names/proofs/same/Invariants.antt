@@ -6,7 +6,7 @@ use native.Mathlib.Omega.{arith}
 use borrow.Author.Tests.{ne_eqb, eq-eqb}
 use lib.ListN.{length, drop}
 use Rattle.rules.specs.Rules.Pairs.{same_words}
-use Rattle.rules.specs.Theorems.SameWords.{same_step, other_length, both_done}
+use Rattle.rules.proofs.Theorems.SameWords.{same_step, other_length, both_done}
 use Rattle.names.proofs.same.Given as goal
 
 abbrev pub invariant-loop-i : goal.invariant-loop-i

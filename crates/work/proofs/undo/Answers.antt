@@ -36,9 +36,9 @@ loop-k-preserved c =
     let n : x ≤ operands = number_still a.work.now v.work k v.invariant.3 (c.requires.by_index k (omega arith) (omega arith)) in
     let t = c.load_at-before in
     let g = c.store in
-    let q = undo_law v.work g.new.0 k a.mark x t.result (omega arith) refl t.ensures g.ensures in (
+    let q = undo_law v.work g.new.work k a.mark x t.result (omega arith) refl t.ensures g.ensures in (
       omega arith,
-      omega (arith, g.auto.0),
+      omega (arith, g.auto.work),
       q ∙ ap (λ (j : ℕ). undone v.work j (j - a.mark)) s ∙ v.invariant.2,
       ap (drop log_base) g.ensures ∙ drop-given x t.result v.work n ∙ v.invariant.3,
     )

@@ -25,4 +25,4 @@ returns c =
     let p = c.requires in
     let y = c.load_branch-top in
     let u = c.undo in
-    roll_law a.work.now u.new.0 a.c y.result p.0 p.1 y.ensures u.ensures
+    roll_law a.work.now u.new.work a.c y.result p.0 p.1 y.ensures u.ensures

@@ -1,0 +1,29 @@
+-- `compare` meets its contract: the answer and the areas are the rules', and such a call keeps its promise. Assumes nothing.
+use Rattle.rules.specs.Rules.Pairs.{pair_lent}
+use Rattle.rules.proofs.Theorems.Promises.{pair-promise}
+use Rattle.job.specs.Answers.{read-accepted, read-public, read-refused}
+use Rattle.checker.proofs.Laws.{pair-rejected}
+use borrow.Author.Rules.{rules}
+use Rattle.checker.proofs.compare.Goals as goal
+
+pub compare_accepted-requires : goal.compare_accepted-requires
+compare_accepted-requires c =
+    let f = c.args.job.now in
+    let e = c.read_job-read.ensures in
+    let k = read-accepted f e c.in-Accepted.is in
+    (k, read-public f e k)
+
+pub returns-in-Accepted : goal.returns-in-Accepted
+returns-in-Accepted c =
+    let a = c.args in
+    let l = pair_lent a.first-trace.now a.second-trace.now a.work.now in
+    pair-promise a.job.now a.second.now a.costs.now l c.compare_accepted.ensures
+
+pub returns-in-Refused : goal.returns-in-Refused
+returns-in-Refused c =
+    let a = c.args in
+    let f = a.job.now in
+    let s = a.second.now in
+    let l = pair_lent a.first-trace.now a.second-trace.now a.work.now in
+    let p = read-refused f c.read_job-read.ensures c.in-Refused.is in
+    pair-promise f s a.costs.now l (pair-rejected f s a.costs.now _ p l)

@@ -1,0 +1,36 @@
+-- `plain_accepted` meets its contract: too short an area is refused before anything is written, else the run is made. Assumes nothing.
+use native.Mathlib.Omega.{arith}
+use borrow.Author.Tests.{not-true, not-false}
+use Rattle.rules.proofs.Theorems.Costs.{ones_fit}
+use Rattle.job_run.specs.Accepted.{accepted-limits}
+use Rattle.checker.proofs.Laws.{plain_short_areas, areas-fit, plain-ran}
+use borrow.Author.Rules.{rules}
+use Rattle.checker.proofs.plain_accepted.Goals as goal
+
+pub locations-n-requires : goal.locations-n-requires
+locations-n-requires c =
+    let l = (accepted-limits c.requires).cells in omega arith
+
+pub returns-then-not-areas_fit : goal.returns-then-not-areas_fit
+returns-then-not-areas_fit c =
+    let a = c.args in
+    plain_short_areas c.requires a.trace.now a.end.now a.work.now
+    (rw c.locations-n.ensures at c.areas_fit.ensures) (not-true _ c.if-not-areas_fit.true) c.plain_refused.ensures
+
+pub run_in_areas-r-requires : goal.run_in_areas-r-requires
+run_in_areas-r-requires c =
+    let a = c.args in
+    areas-fit c.requires a.trace.now a.end.now a.work.now
+    (rw c.locations-n.ensures at c.areas_fit.ensures) (not-false _ c.if-not-areas_fit.false)
+    (rw c.fixed-costs.ensures ones_fit)
+
+pub clear-requires : goal.clear-requires
+clear-requires c =
+    c.run_in_areas-r.ensures.work
+
+pub returns : goal.returns
+returns c =
+    let a = c.args in
+    plain-ran c.requires a.trace.now a.end.now a.work.now
+    (rw c.locations-n.ensures at c.areas_fit.ensures) (not-false _ c.if-not-areas_fit.false) _
+    c.run_in_areas-r.ensures c.plain_report.ensures c.clear.ensures

@@ -1,0 +1,12 @@
+-- `plain_refused` meets its contract. Assumes nothing.
+use mathlib.Core.Path.{ap}
+use Rattle.location.specs.declared.LocationSet.{LocationSet}
+use Rattle.rules.specs.declared.PlainOutcome.TheVariants as plains
+use Rattle.rules.specs.declared.PlainAnswer.{PlainAnswer}
+use Rattle.rules.specs.Rules.Calls.{plain_refused}
+use borrow.Author.Rules.{rules}
+use Rattle.checker.proofs.plain_refused.Goals as goal
+
+pub returns : goal.returns
+unfolding plain_refused
+returns c = ap {B = PlainAnswer} (λ (g : LocationSet). record { outcome = plains.Refused c.args.n; plain = g }) c.empty.ensures

@@ -1,0 +1,10 @@
+-- `evaluation::loaded_cell` meets its contract: it reads the cell's words. Assumes nothing.
+use Rattle.evaluation.proofs.Laws.{load_inside}
+use borrow.Author.Rules.{rules}
+use Rattle.evaluation.proofs.loaded_cell.Goals as goal
+
+pub returns : goal.returns
+returns c =
+    let a = c.args in
+    load_inside a.work.now cells a.a code e h c.new.ensures c.cell.ensures c.load.ensures
+    c.joined.ensures

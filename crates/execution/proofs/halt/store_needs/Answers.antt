@@ -1,0 +1,43 @@
+-- `store_needs` meets its contract, kind by kind: only a store needs an address. Assumes nothing.
+use native.Mathlib.Omega.{arith}
+use Rattle.execution.proofs.Overfull.{other_needs, store-inside_needs, store-outside_needs}
+use borrow.Author.Rules.{rules}
+use Rattle.execution.proofs.halt.store_needs.Goals as goal
+
+pub evaluate-a-requires : goal.evaluate-a-requires
+evaluate-a-requires c =
+    (rw c.in-Store.is at c.requires.0, omega arith)
+
+-- a store to a cell
+pub returns-then-value-cells : goal.returns-then-value-cells
+returns-then-value-cells c =
+    let a = c.args in
+    store-inside_needs a.p.now a.work.now a.cells code k ec c.in-Store.is c.evaluate-a.ensures c.if-value-cells.true
+
+-- and one outside
+pub returns-else-value-cells : goal.returns-else-value-cells
+returns-else-value-cells c =
+    let a = c.args in
+    store-outside_needs a.p.now a.work.now a.cells code k ec c.in-Store.is c.evaluate-a.ensures c.if-value-cells.false
+    c.new.ensures c.is_overfull.ensures
+
+pub returns-in-Skip : goal.returns-in-Skip
+returns-in-Skip c = other_needs c.in-Skip.is tt _ code _
+
+pub returns-in-Assign : goal.returns-in-Assign
+returns-in-Assign c = other_needs c.in-Assign.is tt _ code _
+
+pub returns-in-Load : goal.returns-in-Load
+returns-in-Load c = other_needs c.in-Load.is tt _ code _
+
+pub returns-in-Jump : goal.returns-in-Jump
+returns-in-Jump c = other_needs c.in-Jump.is tt _ code _
+
+pub returns-in-BranchZero : goal.returns-in-BranchZero
+returns-in-BranchZero c = other_needs c.in-BranchZero.is tt _ code _
+
+pub returns-in-AssignIf : goal.returns-in-AssignIf
+returns-in-AssignIf c = other_needs c.in-AssignIf.is tt _ code _
+
+pub returns-in-Barrier : goal.returns-in-Barrier
+returns-in-Barrier c = other_needs c.in-Barrier.is tt _ code _

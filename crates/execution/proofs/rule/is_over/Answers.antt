@@ -1,0 +1,10 @@
+-- `is_over` meets its contract. Assumes nothing.
+use Rattle.execution.proofs.Machine.{over_zero, over_open}
+use Rattle.execution.proofs.rule.is_over.Goals as goal
+
+pub returns-then-c-eq0 : goal.returns-then-c-eq0
+returns-then-c-eq0 c =
+    over_zero _ _ _ c.if-c-eq0.true
+
+pub returns : goal.returns
+returns c = over_open _ _ _ c.if-c-eq0.false

@@ -1,0 +1,16 @@
+-- `find` meets its contract. The invariant: the number is that among the entries that are left, after those passed. Assumes nothing.
+use mathlib.Core.Path.{◌≡◌, refl, sym, ap, ◌∙◌}
+use Prim.Native.Nat.{ℕ, ◌+◌, ◌-◌, ◌≤◌}
+use native.Mathlib.Nat.{add-zero}
+use native.Mathlib.Omega.{arith}
+use Rattle.rules.specs.Rules.Changes.{position}
+use Rattle.work.specs.Words.{entry_at}
+use Rattle.work.specs.Machines.{entries_from, table_in}
+use Rattle.outside.proofs.Laws.{found_here, found-later, found_none}
+use Rattle.outside.proofs.find.Given as goal
+
+abbrev pub invariant-loop-i : goal.invariant-loop-i
+invariant-loop-i l = (l.i ≤ l.count) × (l.i + position (entries_from l.work l.i (l.count - l.i)) l.a ≡ position (table_in l.work) l.a)
+
+abbrev pub decreases-loop-i : goal.decreases-loop-i
+decreases-loop-i l = l.count - l.i

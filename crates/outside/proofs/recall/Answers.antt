@@ -1,0 +1,39 @@
+-- `recall` meets its contract: the word of the entry that was found, if one was. Assumes nothing.
+use mathlib.Core.Path.{◌≡◌, sym, ap, ◌∙◌}
+use Prim.Native.Nat.{ℕ, ◌<◌, ◌+◌}
+use native.Mathlib.Nat.{zero-add}
+use native.Mathlib.Omega.{arith}
+use lib.ListN.{length}
+use Rattle.location.specs.declared.LocationSet.{LocationSet}
+use Rattle.rules.specs.Rules.Expressions.{tagged}
+use Rattle.rules.specs.Rules.Changes.{position}
+use Rattle.work.specs.Words.{count_in, entry_at}
+use Rattle.work.specs.Machines.{table_in}
+use Rattle.work.proofs.States.{entries_length}
+use Rattle.outside.specs.Positions.{recall-there, recall-nowhere}
+use Rattle.outside.proofs.Laws.{position-most}
+use borrow.Author.Rules.{rules}
+use Rattle.outside.proofs.recall.Goals as goal
+
+pub returns-then-i-count : goal.returns-then-i-count
+returns-then-i-count c =
+    let a = c.args in
+    let w = a.work.now in
+    let e = c.find-i.ensures ∙ ap (position (table_in w)) c.value.ensures in
+    let h = c.if-i-count.true in
+    let k = c.entry_count-count.ensures in
+    let l : position (table_in w) a.a.0 < count_in w = omega arith in
+    c.load_entry.ensures ∙ ap (λ (i : ℕ). (entry_at w i).word) (e ∙ sym (zero-add (position (table_in w) a.a.0)))
+    ∙ sym (recall-there w 0 (count_in w) a.a.0 l)
+
+pub returns : goal.returns
+returns c =
+    let a = c.args in
+    let w = a.work.now in
+    let e = c.find-i.ensures ∙ ap (position (table_in w)) c.value.ensures in
+    let h = c.if-i-count.false in
+    let k = c.entry_count-count.ensures in
+    let s = entries_length w 0 (count_in w) in
+    let m = position-most (table_in w) a.a.0 in
+    let l : position (table_in w) a.a.0 ≡ length (table_in w) = omega arith in
+    ap (λ (d : LocationSet). tagged 0 d) c.empty.ensures ∙ sym (recall-nowhere (table_in w) a.a.0 l)

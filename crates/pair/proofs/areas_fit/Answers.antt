@@ -1,0 +1,13 @@
+-- `pair::areas_fit` meets its contract: a working area that is long enough leaves the test to the trace areas. Assumes nothing.
+use Rattle.pair.proofs.Laws.{work_short, traces_decide}
+use Rattle.pair.proofs.areas_fit.Goals as goal
+
+pub returns-then-work-lt-WORDS : goal.returns-then-work-lt-WORDS
+returns-then-work-lt-WORDS c =
+    let a = c.args in
+    work_short a.first-trace.now a.second-trace.now a.work.now c.if-work-lt-WORDS.true
+
+pub returns : goal.returns
+returns c =
+    let a = c.args in
+    traces_decide a.first-trace.now a.second-trace.now a.work.now c.if-work-lt-WORDS.false

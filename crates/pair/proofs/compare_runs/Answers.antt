@@ -1,0 +1,19 @@
+-- `pair::compare_runs` meets its contract: two runs one after the other over the same working words. Assumes nothing.
+use Rattle.pair.proofs.Laws.{own-ran, ready_again, exact-compared}
+use borrow.Author.Rules.{rules}
+use Rattle.pair.proofs.compare_runs.Goals as goal
+
+pub run_own-r-requires : goal.run_own-r-requires
+run_own-r-requires c =
+    let k = c.requires.ready in
+    (k.accepts, k.fits, k.work)
+
+pub run_second-s-requires : goal.run_second-s-requires
+run_second-s-requires c =
+    let k = c.requires.ready in
+    let o = c.run_own-r.ensures in
+    (record { ready = ready_again k o; sized = c.requires.sized }, own-ran k.accepts o)
+
+pub returns : goal.returns
+returns c =
+    exact-compared c.requires c.run_own-r.ensures c.run_second-s.ensures

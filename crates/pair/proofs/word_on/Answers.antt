@@ -1,0 +1,40 @@
+-- `pair::word_on` meets its contract. Assumes nothing.
+use native.Mathlib.Omega.{arith}
+use Rattle.job_run.specs.Accepted.{accepted-limits, accepted_list, accepted-length}
+use Rattle.pair.proofs.Laws.{word-found}
+use borrow.Author.Rules.{rules}
+use Rattle.pair.proofs.word_on.Goals as goal
+
+pub locations-n-requires : goal.locations-n-requires
+locations-n-requires c =
+    let l = (accepted-limits c.requires.accepts).cells in omega arith
+
+pub alike_bytes-alike-requires : goal.alike_bytes-alike-requires
+alike_bytes-alike-requires c =
+    let k = c.requires in
+    let e = accepted_list k.accepts in
+    let f = accepted-length k.accepts in
+    let s = k.sized in
+    (omega arith, omega arith)
+
+pub overflow_mul-k : goal.overflow_mul-k
+overflow_mul-k c =
+    let f = c.requires.first_fits in omega (arith, f, c.well_formed)
+
+pub overflow_mul-l : goal.overflow_mul-l
+overflow_mul-l c =
+    let f = c.requires.second_fits in omega (arith, f, c.well_formed)
+
+pub slice_bounds-pair_word-end : goal.slice_bounds-pair_word-end
+slice_bounds-pair_word-end c =
+    let f = c.requires.first_fits in omega arith
+
+pub slice_bounds-pair_word-end-2 : goal.slice_bounds-pair_word-end-2
+slice_bounds-pair_word-end-2 c =
+    let f = c.requires.second_fits in omega arith
+
+pub returns : goal.returns
+returns c =
+    let a = c.args in
+    word-found a.job.now a.t a.public a.second.now a.first-trace.now a.second-trace.now a.c a.d
+    (rw c.locations-n.ensures at c.alike_bytes-alike.ensures) c.pair_word.ensures

@@ -1,0 +1,23 @@
+-- `program::write_words` meets its contract. The invariant: the instructions left can be read, and writing their words gives what writing all
+-- of them gives.
+-- Assumes nothing.
+use mathlib.Core.Path.{◌≡◌, refl}
+use mathlib.Core.Bool.{true}
+use Prim.Native.Nat.{suc, zero-le, ◌+◌, ◌-◌, ◌≤◌}
+use native.Mathlib.Nat.{sub-zero, add-zero}
+use native.Mathlib.Omega.{arith}
+use lib.ListN.{length, length-set}
+use lib.Seq.{sets}
+use Rattle.rules.specs.Rules.JobFile.{program}
+use Rattle.rules.specs.Theorems.Readers.{readable}
+use Rattle.program.specs.Words.{words_from}
+use Rattle.program.proofs.Laws.{program-read}
+use Rattle.program.proofs.write_words.Given as goal
+
+abbrev pub invariant-loop-i : goal.invariant-loop-i
+invariant-loop-i l =
+    (l.i ≤ l.n) × (length l.table ≡ length l.initial.table) × (sets l.table (l.base + l.i) (words_from (l.n - l.i) l.p l.at) ≡ sets l.initial.table l.base (words_from l.n l.p 0))
+    × (readable (program l.n (l.n - l.i) l.i l.p l.at) ≡ true)
+
+abbrev pub decreases-loop-i : goal.decreases-loop-i
+decreases-loop-i l = l.n - l.i

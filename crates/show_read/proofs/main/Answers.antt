@@ -1,0 +1,16 @@
+-- `main` is safe and ends: what was read is in the buffer. Assumes nothing.
+use mathlib.Core.Path.{sym}
+use native.Mathlib.Omega.{arith}
+use lib.Seq.{length-take-le}
+use borrow.Author.Rules.{rules}
+use Rattle.show_read.proofs.main.Goals as goal
+
+pub slice_bounds-buffer-end : goal.slice_bounds-buffer-end
+slice_bounds-buffer-end c =
+    let r = c.read_file in
+    let within = rw c.in-Bytes.is at r.ensures in
+    omega (arith, within, r.auto.buffer)
+
+-- HAND: place as argument: c.before
+pub slice_bounds-show-end : goal.slice_bounds-show-end
+slice_bounds-show-end c = sym (length-take-le _ _ (array-share-prefix-buffer PLACE-Else1))

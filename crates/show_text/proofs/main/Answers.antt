@@ -1,0 +1,12 @@
+-- `main` is safe and ends: what was read is in the buffer. Assumes nothing.
+use mathlib.Core.Path.{sym}
+use lib.Seq.{length-take-le}
+use borrow.Author.Rules.{rules}
+use Rattle.show_text.proofs.main.Goals as goal
+
+pub slice_bounds-buffer-end : goal.slice_bounds-buffer-end
+slice_bounds-buffer-end c = rw c.in-Bytes.is at c.read_job.ensures.within
+
+-- HAND: place as argument: c.before
+pub slice_bounds-show-end : goal.slice_bounds-show-end
+slice_bounds-show-end c = sym (length-take-le _ _ (array-share-prefix-buffer PLACE-After-known_told))

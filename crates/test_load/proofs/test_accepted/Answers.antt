@@ -1,0 +1,58 @@
+-- `test_accepted` meets its contract: the refusals in their order, before anything is written. Assumes nothing.
+use mathlib.Core.Path.{sym, ◌∙◌}
+use native.Mathlib.Omega.{arith}
+use borrow.Author.Tests.{not-true, not-false}
+use Rattle.job_run.specs.Accepted.{accepted-limits}
+use Rattle.pair.proofs.Laws.{ready_by}
+use Rattle.test_load.proofs.Laws.{no_table, unfit, no_seed, short_state}
+use borrow.Author.Rules.{rules}
+use Rattle.test_load.proofs.test_accepted.Goals as goal
+
+pub locations-n-requires : goal.locations-n-requires
+locations-n-requires c =
+    let l = (accepted-limits c.requires.0).cells in omega arith
+
+pub returns-then-not-costs_fit : goal.returns-then-not-costs_fit
+returns-then-not-costs_fit c =
+    let a = c.args in
+    no_table c.requires.0 a.seed a.costs.now a.first-trace.now a.second-trace.now a.work.now a.state.now
+    (sym c.costs_fit.ensures ∙ not-true _ c.if-not-costs_fit.true)
+
+pub returns-then-not-fit : goal.returns-then-not-fit
+returns-then-not-fit c =
+    let a = c.args in
+    unfit c.requires.0 a.seed a.costs.now a.first-trace.now a.second-trace.now a.work.now a.state.now
+    (sym c.costs_fit.ensures ∙ not-false _ c.if-not-costs_fit.false) (sym c.areas_fit-fit.ensures ∙ not-true _ c.if-not-fit.true)
+
+pub returns-then-seed-eq0 : goal.returns-then-seed-eq0
+returns-then-seed-eq0 c =
+    let a = c.args in
+    no_seed c.requires.0 a.seed a.costs.now a.first-trace.now a.second-trace.now a.work.now a.state.now
+    (sym c.costs_fit.ensures ∙ not-false _ c.if-not-costs_fit.false) (sym c.areas_fit-fit.ensures ∙ not-false _ c.if-not-fit.false)
+    c.if-seed-eq0.true
+
+pub overflow_mul-n : goal.overflow_mul-n
+overflow_mul-n c =
+    let n = c.locations-n.ensures in
+    let l = (accepted-limits c.requires.0).cells in omega arith
+
+pub returns-then-state-n : goal.returns-then-state-n
+returns-then-state-n c =
+    let a = c.args in
+    let n = c.locations-n.ensures in
+    short_state c.requires.0 a.seed a.costs.now a.first-trace.now a.second-trace.now a.work.now a.state.now
+    (sym c.costs_fit.ensures ∙ not-false _ c.if-not-costs_fit.false) (sym c.areas_fit-fit.ensures ∙ not-false _ c.if-not-fit.false)
+    c.if-seed-eq0.false (omega arith)
+
+pub run_load-requires : goal.run_load-requires
+run_load-requires c =
+    let a = c.args in
+    let n = c.locations-n.ensures in
+    let table = sym c.costs_fit.ensures ∙ not-false _ c.if-not-costs_fit.false in
+    let fit = sym c.areas_fit-fit.ensures ∙ not-false _ c.if-not-fit.false in (
+      record {
+        ready = ready_by c.requires.0 c.requires.1 table a.first-trace.now a.second-trace.now a.work.now fit;
+        state = omega arith;
+      },
+      omega (arith, c.if-seed-eq0.false),
+    )
