@@ -60,7 +60,7 @@ branches_of e g σ v k (suc d) =
 
 pub branches-length : (e : ℕ → OpenBranch) (g : ℕ → Change) (σ : State) (v k d : ℕ) → length (branches_of e g σ v k d) ≡ d
 branches-length e g σ v k zero = refl
-branches-length e g σ v k (suc d) = ap suc (branches-length e g _ _ _ d)
+branches-length e g σ v k (suc d) = ap suc (branches-length e g (saved_at g σ k (e d).mark) (e d).outer (e d).mark d)
 
 -- the machine with n locations
 abbrev pub machine_of : List ℕ → Control → ℕ → Machine

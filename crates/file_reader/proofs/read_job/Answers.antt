@@ -6,4 +6,4 @@ use Rattle.file_reader.proofs.read_job.Goals as goal
 pub returns : goal.returns
 returns c =
     let r = c.read_file in
-    (r.ensures, full-refused r.result r.new.buffer (search rules))
+    record { within = r.ensures; whole = full-refused r.result r.new.buffer (search rules); }

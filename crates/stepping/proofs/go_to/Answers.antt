@@ -11,4 +11,4 @@ returns c =
     let a = c.args in
     let k = kept c.lowered_window-remaining.ensures c.go-gone.ensures refl c.count_step.ensures in
     let e = c.observe.ensures in
-    ((k, e), λ v cells h live most. kept-shown live most a.place v (rw h k) e)
+    record { exact = (k, e); carried = λ v cells h live most. kept-shown live most a.place v (rw h k) e; }

@@ -6,4 +6,4 @@ use Rattle.stepping.proofs.skip.Goals as goal
 pub returns : goal.returns
 returns c =
     let k = kept c.lowered_window-remaining.ensures c.go-next.ensures c.empty.ensures c.count_step.ensures in
-    (k, λ t cells live most. kept_silently live most k)
+    record { exact = k; carried = λ t cells live most. kept_silently live most k; }

@@ -19,7 +19,7 @@ clear-requires c =
 
 pub returns-then-not-finished : goal.returns-then-not-finished
 returns-then-not-finished c =
-    exact-unfinished c.requires.0 c.requires.1 c.run_own-r.ensures c.finished.ensures (not-true _ c.if-not-finished.true)
+    exact-unfinished c.requires.0 c.requires.1 c.run_own-r.ensures c.finished.ensures (c.if-not-finished.true)
     c.clear.ensures
 
 pub run_new_state-s-requires : goal.run_new_state-s-requires
@@ -30,5 +30,5 @@ run_new_state-s-requires c =
 
 pub returns : goal.returns
 returns c =
-    exact-made c.requires.0 c.requires.1 c.run_own-r.ensures c.finished.ensures (not-false _ c.if-not-finished.false)
+    exact-made c.requires.0 c.requires.1 c.run_own-r.ensures c.finished.ensures (c.if-not-finished.false)
     c.run_new_state-s.ensures

@@ -34,7 +34,7 @@ returns-then-not-same_observation c =
     let a = c.args in
     let v = c.loop-i in
     let e = struck-step a.a.now a.b.now v.i v.j v.invariant.0 v.invariant.1 (omega arith) (omega arith) in
-    sym (rw (← c.same_observation.ensures, not-true c.same_observation.result c.if-not-same_observation.true) at e)
+    sym (rw (← c.same_observation.ensures, c.if-not-same_observation.true) at e)
     ∙ v.invariant.2
 
 pub loop-i-smaller : goal.loop-i-smaller
@@ -48,7 +48,7 @@ loop-i-preserved c =
     let x = c.outside-i-in-loop-i.ensures in
     let y = c.outside-j-in-loop-i.ensures in
     let g = sym
-    (rw (← c.same_observation.ensures, not-false c.same_observation.result c.if-not-same_observation.false) at e)
+    (rw (← c.same_observation.ensures, c.if-not-same_observation.false) at e)
     ∙ v.invariant.2 in
     (settled x, settled y, ap₂ same_words (sym x.same) (sym y.same) ∙ g)
 

@@ -19,14 +19,14 @@ returns-then-not-alike_at c =
     let a = c.args in
     let v = c.loop-l in
     let e = alike-step a.public a.first.now a.second.now a.at a.n v.l (omega arith) in
-    sym (rw (← c.alike_at.ensures, not-true c.alike_at.result c.if-not-alike_at.true) at e) ∙ v.invariant.1
+    sym (rw (← c.alike_at.ensures, c.if-not-alike_at.true) at e) ∙ v.invariant.1
 
 pub loop-l-preserved : goal.loop-l-preserved
 loop-l-preserved c =
     let a = c.args in
     let v = c.loop-l in
     let e = alike-step a.public a.first.now a.second.now a.at a.n v.l (omega arith) in
-    (omega arith, sym (rw (← c.alike_at.ensures, not-false c.alike_at.result c.if-not-alike_at.false) at e) ∙ v.invariant.1)
+    (omega arith, sym (rw (← c.alike_at.ensures, c.if-not-alike_at.false) at e) ∙ v.invariant.1)
 
 pub returns : goal.returns
 unfolding alike_from words_at

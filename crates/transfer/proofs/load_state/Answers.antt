@@ -11,7 +11,7 @@ loop-loaded-init c = let a = c.args in loading-none a.bytes.now a.at a.n a.work.
 pub store_own-requires : goal.store_own-requires
 store_own-requires c =
     let s = c.loop-loaded.invariant.size in
-    (omega arith, omega arith)
+    record { l_lt_limit = omega arith; l_in_bounds = omega arith; }
 
 pub loop-loaded-preserved : goal.loop-loaded-preserved
 loop-loaded-preserved c =

@@ -13,4 +13,4 @@ pub overflow_mul-x0-2 : goal.overflow_mul-x0-2
 overflow_mul-x0-2 c = product_fits (search rules) (search rules)
 
 pub returns : goal.returns
-returns c = let a = c.args in by_halves a.x a.y _ _ c.wrapping_add_u64-cross.ensures c.wrapping_add_u64.ensures
+returns c = let a = c.args in by_halves a.x a.y _ _ c.wrapping_add_u64-cross.ensures.value c.wrapping_add_u64.ensures.value

@@ -110,7 +110,7 @@ returns-then-not-subset c =
     let step = branch-step a.p.now a.t a.mode w k (still_going c.requires.0.inside c.requires.0.window) same o in
     let value = rw o.1 at c.source_value-a.ensures ∙ register-value _ _ in
     tried_as step (not_opened _ n _ _ _ _ c.source_value-a.result (in_state w n _ value (rw o.1 at v.below) (omega arith))
-    (sym c.subset.ensures ∙ not-true _ c.if-not-subset.true) refl)
+    (sym c.subset.ensures ∙ c.if-not-subset.true) refl)
 
 pub returns-else-not-subset : goal.returns-else-not-subset
 returns-else-not-subset c =
@@ -129,7 +129,7 @@ returns-else-not-subset c =
     let step = branch-step a.p.now a.t a.mode w k (still_going c.requires.0.inside c.requires.0.window) same o in
     let value = rw o.1 at c.source_value-a.ensures ∙ register-value _ _ in
     tried_as step (opened-tried _ n _ _ _ _ c.source_value-a.result (in_state w n _ value (rw o.1 at v.below) (omega arith))
-    (sym c.subset.ensures ∙ not-false _ c.if-not-subset.false)
+    (sym c.subset.ensures ∙ c.if-not-subset.false)
     (c.open_branch.ensures.made n _ (omega arith) most s.window s.costs))
 
 pub returns-in-Nothing : goal.returns-in-Nothing

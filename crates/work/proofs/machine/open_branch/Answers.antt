@@ -8,8 +8,8 @@ pub push_branch-requires : goal.push_branch-requires
 push_branch-requires c =
     let a = c.args in
     let p = c.requires in
-    let b = open_bound a.work.now a.c a.wrong a.target a.window a.remaining p.0 p.1.0 p.1.1.0 in
-    omega (arith, b, p.0.room)
+    let b = open_bound a.work.now a.c a.wrong a.target a.window a.remaining p.fit p.left p.window_le_max_window in
+    omega (arith, b, p.fit.room)
 
 pub overflow_add-result : goal.overflow_add-result
 overflow_add-result c = omega (arith, fit-bound c.requires.fit)
@@ -19,4 +19,4 @@ returns c =
     let a = c.args in
     let p = c.requires in
     moved_to c.push_branch.ensures
-    (open_law a.work.now a.c a.wrong a.target a.window a.remaining p.0 p.1.0 p.1.1.0 _ c.window_at.ensures)
+    (open_law a.work.now a.c a.wrong a.target a.window a.remaining p.fit p.left p.window_le_max_window _ c.window_at.ensures)

@@ -14,10 +14,10 @@ load_branch-top-requires c =
 pub undo-requires : goal.undo-requires
 undo-requires c =
     let a = c.args in
-    let f = c.requires.fit in (
-      omega (arith, fit-bound f, f.room),
-      λ j m. log_numbers (number_at a.work.now) (change_at a.work.now) a.c.log (count_in a.work.now) f.log j,
-    )
+    let f = c.requires.fit in record {
+      count_in_bounds = omega (arith, fit-bound f, f.room);
+      by_index = λ j m. log_numbers (number_at a.work.now) (change_at a.work.now) a.c.log (count_in a.work.now) f.log j;
+    }
 
 pub returns : goal.returns
 returns c =
@@ -25,4 +25,4 @@ returns c =
     let p = c.requires in
     let y = c.load_branch-top in
     let u = c.undo in
-    roll_law a.work.now u.new.work a.c y.result p.0 p.1 y.ensures u.ensures
+    roll_law a.work.now u.new.work a.c y.result p.fit p.depth_nonzero y.ensures u.ensures
