@@ -40,5 +40,5 @@ shape_of-answer c =
 pub returns : goal.returns
 returns c =
     let a = c.args in
-    let h : length a.t2 ≡ limit = search rules in
+    let h : length a.firsts ≡ limit = search rules in
     all-reported c.loop-l.invariant a.answer.now c.clear_reports.ensures h (omega arith)

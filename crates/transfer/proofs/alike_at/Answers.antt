@@ -1,6 +1,6 @@
 -- `transfer::alike_at` meets its contract: at a public location the two words decide. Assumes nothing.
 use mathlib.Core.Path.{sym, ap, ◌∙◌}
-use mathlib.Core.Bool.{Bool, ◌||◌}
+use mathlib.Core.Bool.{Bool, not, ◌||◌}
 use borrow.Author.Rules.{rules}
 use lib.Dec.{eqb}
 use Rattle.transfer.proofs.Laws.{alike-word}
@@ -13,7 +13,7 @@ returns-then-not-member c =
     let y = c.word_at-2 in
     let l = c.new in
     let m = c.member in
-    sym (ap (λ (t : Bool). t || eqb x.result y.result) c.if-not-member.true)
+    sym (ap (λ (t : Bool). not t || eqb x.result y.result) c.if-not-member.true)
     ∙ alike-word a.public a.first.now a.second.now a.at a.l l.result.0 x.result y.result m.result l.ensures
     m.ensures x.ensures y.ensures
 
@@ -24,6 +24,6 @@ returns c =
     let y = c.word_at-2 in
     let l = c.new in
     let m = c.member in
-    sym (ap (λ (t : Bool). t || eqb x.result y.result) c.if-not-member.false)
+    sym (ap (λ (t : Bool). not t || eqb x.result y.result) c.if-not-member.false)
     ∙ alike-word a.public a.first.now a.second.now a.at a.l l.result.0 x.result y.result m.result l.ensures
     m.ensures x.ensures y.ensures

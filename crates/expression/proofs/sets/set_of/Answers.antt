@@ -1,10 +1,12 @@
 -- `expression::sets::set_of` meets its contract. The invariant: the tokens left, over the set gathered before them, give the whole set.
 -- Assumes nothing.
 use mathlib.Core.Path.{◌≡◌, refl, ap, ◌∙◌}
-use Prim.Native.Nat.{suc, zero-le, ◌+◌, ◌-◌, ◌≤◌}
+use Prim.Native.Nat.{ℕ, suc, zero-le, ◌<◌, ◌+◌, ◌-◌, ◌≤◌}
 use native.Mathlib.Nat.{add-zero, sub-zero}
 use native.Mathlib.Omega.{arith}
 use borrow.Author.Rules.{rules}
+use mathlib.Core.List.{List}
+use Rattle.location.specs.declared.LocationSet.{LocationSet}
 use Rattle.location.specs.Sets.{union}
 use Rattle.rules.specs.Rules.Expressions.{expr_set}
 use Rattle.rules.proofs.Theorems.SetsFirst.{set-promise}
@@ -15,59 +17,45 @@ use Rattle.expression.proofs.Gathering.{SetLeft, set-start, token-readable, regi
 use Rattle.expression.proofs.sets.set_of.Goals as goal
 
 -- in a turn a token is left
--- HAND: a place as an argument
-left_in : (c : tie.In-loop invariant-loop decreases-loop)
-    → (let a = c.before.before.before.before.before.args in
-    let v = c.before.loop in
-    let f = set_at a.work.now in
-    SetLeft f a.p.now (expr_set f (tokens_of a.p.now a.e)) (suc (a.e.count - (v.i + 1))) (v.from + v.i) v.deps)
-left_in c =
-    let a = c.before.before.before.before.before.args in
-    let v = c.before.loop in
-    let e : a.e.count - v.i ≡ suc (a.e.count - (v.i + 1)) = omega arith in
-    rw e at v.invariant.1
+left_in : {f : ℕ → LocationSet} {p : List ℕ} {s : LocationSet} {k : ℕ} {d : LocationSet} (n i : ℕ) → i < n
+    → SetLeft f p s (n - i) k d → SetLeft f p s (suc (n - (i + 1))) k d
+left_in n i h x = let e : n - i ≡ suc (n - (i + 1)) = omega arith in rw e at x
 
 pub loop-i-init : goal.loop-i-init
 loop-i-init c =
     let a = c.args in
     (zero-le, rw (sub-zero, add-zero) (set-start (set_at a.work.now) a.p.now a.e c.empty-deps.result c.requires.0 c.empty-deps.ensures))
 
--- HAND: bare c
 pub overflow_add-byte : goal.overflow_add-byte
-overflow_add-byte c = let h = (token-read _ _ (token-readable (left_in c))).0 in search rules
+overflow_add-byte c = let h = (token-read _ _ (token-readable (left_in c.args.e.count c.loop-i.i (omega arith) c.loop-i.invariant.1))).0 in search rules
 
--- HAND: place as argument: c.before
 pub bounds-p-from : goal.bounds-p-from
-bounds-p-from c = (token-read _ _ (token-readable (left_in PLACE-In-loop))).0
+bounds-p-from c = (token-read _ _ (token-readable (left_in c.args.e.count c.loop-i.i (omega arith) c.loop-i.invariant.1))).0
 
 pub load_set-more-requires : goal.load_set-more-requires
 load_set-more-requires c = let h = c.if-byte-lt16.true in let e = c.register.ensures in omega arith
 
--- HAND: bare at-loop
 pub loop-i-preserved-then-byte-lt16 : goal.loop-i-preserved-then-byte-lt16
 loop-i-preserved-then-byte-lt16 c =
     let v = c.loop-i in
     let f = set_at c.args.work.now in (
       omega arith,
-      register-gathers (left_in at-loop) c.if-byte-lt16.true (v.from + (v.i + 1)) c.union-deps.result (omega arith)
+      register-gathers (left_in c.args.e.count c.loop-i.i (omega arith) c.loop-i.invariant.1) c.if-byte-lt16.true (v.from + (v.i + 1)) c.union-deps.result (omega arith)
           (c.union-deps.ensures ∙ ap (union v.deps) (c.load_set-more.ensures ∙ ap f c.register.ensures)),
     )
 
--- HAND: place as argument: c.before.before.before
 pub overflow_add-from : goal.overflow_add-from
-overflow_add-from c = let h = (constant-read _ _ (token-readable (left_in PLACE-In-loop)) c.if-byte-eq16.true).0 in search rules
+overflow_add-from c = let h = (constant-read _ _ (token-readable (left_in c.args.e.count c.loop-i.i (omega arith) c.loop-i.invariant.1)) c.if-byte-eq16.true).0 in search rules
 
--- HAND: bare at-loop
 pub loop-i-preserved-then-byte-eq16 : goal.loop-i-preserved-then-byte-eq16
 loop-i-preserved-then-byte-eq16 c =
     let v = c.loop-i in
-    (omega arith, constant-gathers (left_in at-loop) c.if-byte-eq16.true (v.from + 8 + (v.i + 1)) (omega arith))
+    (omega arith, constant-gathers (left_in c.args.e.count c.loop-i.i (omega arith) c.loop-i.invariant.1) c.if-byte-eq16.true (v.from + 8 + (v.i + 1)) (omega arith))
 
--- HAND: bare at-loop
 pub loop-i-preserved : goal.loop-i-preserved
 loop-i-preserved c =
     let v = c.loop-i in
-    (omega arith, operator-gathers (left_in at-loop) c.if-byte-lt16.false c.if-byte-eq16.false (v.from + (v.i + 1)) (omega arith))
+    (omega arith, operator-gathers (left_in c.args.e.count c.loop-i.i (omega arith) c.loop-i.invariant.1) c.if-byte-lt16.false c.if-byte-eq16.false (v.from + (v.i + 1)) (omega arith))
 
 pub returns : goal.returns
 returns c =

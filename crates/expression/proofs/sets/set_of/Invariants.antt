@@ -16,7 +16,7 @@ use Rattle.expression.proofs.sets.set_of.Given as goal
 
 abbrev pub invariant-loop-i : goal.invariant-loop-i
 invariant-loop-i l =
-    (l.i ≤ l.count) × SetLeft (set_at l.work) l.p (expr_set (set_at l.work) (tokens_of l.p (record { at = l.initial.from; l.count = l.count }))) (l.count - l.i) (l.from + l.i) l.deps
+    (l.i ≤ l.count) × SetLeft (set_at l.work) l.p (expr_set (set_at l.work) (tokens_of l.p (record { at = l.initial.from; count = l.count }))) (l.count - l.i) (l.from + l.i) l.deps
 
 abbrev pub decreases-loop-i : goal.decreases-loop-i
 decreases-loop-i l = l.count - l.i

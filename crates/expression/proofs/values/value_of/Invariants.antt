@@ -15,7 +15,7 @@ use Rattle.expression.proofs.values.value_of.Given as goal
 
 abbrev pub invariant-loop-i : goal.invariant-loop-i
 invariant-loop-i l =
-    (l.i ≤ l.count) × Left (tagged_at l.work) l.p (eval (tagged_at l.work) (tokens_of l.p (record { at = l.initial.from; l.count = l.count }))).value
+    (l.i ≤ l.count) × Left (tagged_at l.work) l.p (eval (tagged_at l.work) (tokens_of l.p (record { at = l.initial.from; count = l.count }))).value
     (l.count - l.i) (l.from + l.i) l.held l.top l.stack
 
 abbrev pub decreases-loop-i : goal.decreases-loop-i
