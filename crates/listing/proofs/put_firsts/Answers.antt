@@ -19,18 +19,18 @@ pub put_report-next-requires : goal.put_report-next-requires
 put_report-next-requires c =
     let a = c.args in
     let v = c.loop-left in
-    let x = report_text a.s (limit - v.left) (get_or a.t4 (limit - v.left) no_report) in
-    let later = first_lines a.s a.t4 (limit - (v.left - 1)) (v.left - 1) in
-    let split = reports-next a.s a.t4 v.left (omega arith) (omega arith) in
+    let x = report_text a.s (limit - v.left) (get_or a.firsts (limit - v.left) no_report) in
+    let later = first_lines a.s a.firsts (limit - (v.left - 1)) (v.left - 1) in
+    let split = reports-next a.s a.firsts v.left (omega arith) (omega arith) in
     left-room x later v.invariant.1 split (2 ^ 64) (omega arith)
 
 pub loop-left-preserved : goal.loop-left-preserved
 loop-left-preserved c =
     let a = c.args in
     let v = c.loop-left in
-    let x = report_text a.s (limit - v.left) (get_or a.t4 (limit - v.left) no_report) in
-    let later = first_lines a.s a.t4 (limit - (v.left - 1)) (v.left - 1) in
-    let split = reports-next a.s a.t4 v.left (omega arith) (omega arith) in
+    let x = report_text a.s (limit - v.left) (get_or a.firsts (limit - v.left) no_report) in
+    let later = first_lines a.s a.firsts (limit - (v.left - 1)) (v.left - 1) in
+    let split = reports-next a.s a.firsts v.left (omega arith) (omega arith) in
     (omega arith, left-next x later v.invariant.1 split c.put_report-next.ensures)
 
 pub shape_of-out : goal.shape_of-out

@@ -27,12 +27,12 @@ put_trace-after_trace-requires c =
 pub put_summary-after_summary-requires : goal.put_summary-after_summary-requires
 put_summary-after_summary-requires c =
     let a = c.args in
-    let o = c.outcome-in-Ran-1.given.0 in
+    let k = c.in-Ran.counts in
     omega (
       arith,
-      trace-length a.n (observations_in o.0.observations a.trace.now),
-      observations-length o.0.observations a.trace.now,
-      summary-bound o.0 a.answer.full a.answer.plain o.1.0,
+      trace-length a.n (observations_in k.observations a.trace.now),
+      observations-length k.observations a.trace.now,
+      summary-bound k a.answer.full a.answer.plain c.in-Ran.verdict,
       c.well_formed,
       c.put_trace-after_trace.ensures.place,
     )
@@ -40,12 +40,12 @@ put_summary-after_summary-requires c =
 pub put_firsts-requires : goal.put_firsts-requires
 put_firsts-requires c =
     let a = c.args in
-    let o = c.outcome-in-Ran-1.given.0 in
+    let k = c.in-Ran.counts in
     omega (
       arith,
-      trace-length a.n (observations_in o.0.observations a.trace.now),
-      observations-length o.0.observations a.trace.now,
-      summary-bound o.0 a.answer.full a.answer.plain o.1.0,
+      trace-length a.n (observations_in k.observations a.trace.now),
+      observations-length k.observations a.trace.now,
+      summary-bound k a.answer.full a.answer.plain c.in-Ran.verdict,
       first-lines_bound a.answer.full a.answer.firsts,
       c.well_formed,
       c.put_trace-after_trace.ensures.place,
@@ -56,15 +56,13 @@ pub returns-in-Refused : goal.returns-in-Refused
 unfolding text
 returns-in-Refused c =
     let a = c.args in
-    let o = c.outcome-1.given in
     let n = c.refusal_number-number in
-    rw (printed_refusal a.n a.answer a.trace.now o.0.0 o.1, ← n.ensures) c.put_number_line.ensures
+    rw (printed_refusal a.n a.answer a.trace.now c.in-Refused.cause c.in-Refused.is, ← n.ensures) c.put_number_line.ensures
 
 pub returns-in-Ran : goal.returns-in-Ran
 returns-in-Ran c =
     let a = c.args in
-    let o = c.outcome-in-Ran-1.given in
-    rw (printed-run a.n a.answer a.trace.now o.0.0 o.0.1.0 o.1)
+    rw (printed-run a.n a.answer a.trace.now c.in-Ran.counts c.in-Ran.verdict c.in-Ran.is)
     (put-append
     (put-append c.put_trace-after_trace.ensures c.put_summary-after_summary.ensures)
     c.put_firsts.ensures)
