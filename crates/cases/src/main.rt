@@ -1,6 +1,7 @@
 // The worked cases of document 01's section "A run printed whole", run on the bytes of job files. Each case prints a heading and
 // then the listing of its job; reference/ prints the same cases by the second implementation.
-// The contract of each job fixes its bytes, by the definitions of the rules' tables. Assumed of the system: what the toolchain's libraries say of write.
+// The contract of each job fixes its bytes, by the definitions of the rules' tables. Assumed of the system: what std's contracts say of its calls.
+// Where the output cannot be written, it says why on standard error and ends with status 1.
 #![tactic(auto)]
 
 ghost use Rattle.std.specs.Prelude.{◌≡◌, ◌+◌, ◌*◌, ◌≤◌, length};
@@ -10,8 +11,9 @@ ghost use Rattle.rules.specs.Cases.Document01.{barrier_program, public, state};
 ghost use Rattle.rules.specs.Cases.Document01.{job as printedJob};
 ghost use Rattle.cases.specs.Jobs.{laid_out, nested_with, many_cells};
 
-use libc::STDOUT_FILENO;
 use rules::{PairAnswer, PairWord};
+use std::io;
+use std::process::ExitCode;
 
 // 0 assign r2, r0 ult r1; 1 beqz r2, 4; 2 load r3, r0; 3 load r4, r3 add 2
 const PRINTED: [u8; 28] =
@@ -37,7 +39,8 @@ fn lay_out(
     requires cells_in_bounds { length program.now + 8 * cells + 176 ≤ length job.old }
     ensures { job.new ≡ laid_out program.now count cells r0 r1 window budget job.old }
 {
-    let s = bytes::copy(program, &mut job[..]);
+    let s = program.len();
+    job[..s].copy_from_slice(program);
     let q = s + 128 + 8 * (cells as usize);
     job[s] = r0;
     job[s + 8] = r1;
@@ -96,45 +99,35 @@ fn cells_241() -> [u8; 2132]
     job
 }
 
-fn write(text: &[u8]) {
-    if !io::write_all(STDOUT_FILENO, text) {
-        os::fail(b"standard output");
-    }
-}
-
 // The heading, and the lines of the run with so many observations lent: the rules', by the contract of `print_run`.
-fn show_case(name: &[u8], job: &[u8], observations: usize)
+fn show_case(rt: &impl Print, name: &str, job: &[u8], observations: usize) -> io::Result<()>
     requires { observations ≤ 512 }
 {
     let words = 2 * observations;
     let mut trace = [0u64; printer::TRACE];
     let mut lines = [0u8; printer::LINES];
     let n = printer::print_run(job, &mut trace[..words], &mut lines);
-    write(b"case ");
-    write(name);
-    write(b"\n");
-    write(&lines[..n]);
+    println!(rt; "case {name}")?;
+    rt.write_all(&lines[..n])
 }
 
-fn write_word(word: PairWord) {
+fn write_word(rt: &impl Print, word: PairWord) -> io::Result<()> {
     match word {
-        PairWord::NotComparable => write(b"not comparable\n"),
-        PairWord::Undecided => write(b"undecided\n"),
-        PairWord::PlainDiffers => write(b"plain differs\n"),
-        PairWord::LeakShown => write(b"leak shown\n"),
-        PairWord::Equal => write(b"equal\n"),
+        PairWord::NotComparable => println!(rt; "not comparable"),
+        PairWord::Undecided => println!(rt; "undecided"),
+        PairWord::PlainDiffers => println!(rt; "plain differs"),
+        PairWord::LeakShown => println!(rt; "leak shown"),
+        PairWord::Equal => println!(rt; "equal"),
     }
 }
 
 // The heading, and the word on the job's state and a second one.
-fn show_pair(name: &[u8], job: &[u8], second: &[u8]) {
+fn show_pair(rt: &impl Print, name: &str, job: &[u8], second: &[u8]) -> io::Result<()> {
     let mut first_trace = [0u64; printer::TRACE];
     let mut second_trace = [0u64; printer::TRACE];
     let mut work = [0u64; work::WORDS];
     let costs = window_costs::fixed();
-    write(b"case ");
-    write(name);
-    write(b"\n");
+    println!(rt; "case {name}")?;
     match checker::compare(
         job,
         second,
@@ -143,8 +136,8 @@ fn show_pair(name: &[u8], job: &[u8], second: &[u8]) {
         &mut second_trace,
         &mut work,
     ) {
-        PairAnswer::Refused(_) => write(b"refused\n"),
-        PairAnswer::Compared(word, _, _) => write_word(word),
+        PairAnswer::Refused(_) => println!(rt; "refused"),
+        PairAnswer::Compared(word, _, _) => write_word(rt, word),
     }
 }
 
@@ -158,24 +151,35 @@ fn second_state() -> [u8; 160]
     state
 }
 
-fn main() {
-    show_case(b"printed whole", &printed(1, 10, 100), 512);
-    show_case(b"w 0", &printed(1, 0, 100), 512);
-    show_case(b"w 1", &printed(1, 1, 100), 512);
-    show_case(b"w 2", &printed(1, 2, 100), 512);
-    show_case(b"b 0", &printed(1, 10, 0), 512);
-    show_case(b"b 4", &printed(1, 10, 4), 512);
-    show_case(b"b 5", &printed(1, 10, 5), 512);
-    show_case(b"five observations lent", &printed(1, 10, 100), 5);
-    show_case(b"r0 = 0", &printed(0, 10, 100), 512);
-    show_case(b"spbarr put in as 2", &barrier(), 512);
+fn show_all(rt: &impl Print) -> io::Result<()> {
+    show_case(rt, "printed whole", &printed(1, 10, 100), 512)?;
+    show_case(rt, "w 0", &printed(1, 0, 100), 512)?;
+    show_case(rt, "w 1", &printed(1, 1, 100), 512)?;
+    show_case(rt, "w 2", &printed(1, 2, 100), 512)?;
+    show_case(rt, "b 0", &printed(1, 10, 0), 512)?;
+    show_case(rt, "b 4", &printed(1, 10, 4), 512)?;
+    show_case(rt, "b 5", &printed(1, 10, 5), 512)?;
+    show_case(rt, "five observations lent", &printed(1, 10, 100), 5)?;
+    show_case(rt, "r0 = 0", &printed(0, 10, 100), 512)?;
+    show_case(rt, "spbarr put in as 2", &barrier(), 512)?;
     show_pair(
-        b"second state with cell 1 = 0",
+        rt,
+        "second state with cell 1 = 0",
         &printed(1, 10, 100),
         &second_state(),
-    );
-    show_case(b"nested", &nested(3), 512);
-    show_case(b"m 240", &cells_240(), 512);
-    show_case(b"m 241", &cells_241(), 512);
-    show_case(b"nested, first label 1", &nested(1), 512);
+    )?;
+    show_case(rt, "nested", &nested(3), 512)?;
+    show_case(rt, "m 240", &cells_240(), 512)?;
+    show_case(rt, "m 241", &cells_241(), 512)?;
+    show_case(rt, "nested, first label 1", &nested(1), 512)
+}
+
+fn main(rt: HostRuntime) -> ExitCode {
+    match show_all(&rt) {
+        Ok(()) => ExitCode::SUCCESS,
+        Err(error) => {
+            file_reader::tell_failure(&rt, "standard output", error);
+            ExitCode::FAILURE
+        }
+    }
 }

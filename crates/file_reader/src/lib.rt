@@ -1,10 +1,14 @@
-// Reading a file into a buffer. Assumed of the system: what the toolchain's libraries say of open and read.
+// Reading a file into a buffer, and telling a failure of the system. Assumed of the system: what std's contracts say of its calls.
 #![tactic(auto)]
 
 ghost use Rattle.std.specs.Prelude.{length};
 ghost use Rattle.file_reader.specs.Reading.{InBuffer, FullRefused};
 
 use rules::limits::MAX_BYTES;
+use std::fs::File;
+use std::io::{Cursor, ErrorKind, Read, Write};
+use std::rt::Files;
+use std::{io, str};
 
 // One byte more than a job may have: a longer file is seen to be too long, and is read no further.
 pub const JOB_BUFFER: usize = MAX_BYTES + 1;
@@ -16,18 +20,39 @@ pub enum Reading {
     Failed,
 }
 
-// Reads until the buffer is full or the file ends. A failure is told at once, while the system still knows its cause.
-fn read_all(fd: i32, path: &[u8], buffer: &mut [u8]) -> Reading
+// The system's words for a failure: the text of an error up to the error's number, or up to the zeros that follow it in a buffer.
+fn cause_of(text: &str) -> &str {
+    match text.split_once(" (os error ") {
+        Some((cause, _)) => cause,
+        None => text.trim_end_matches('\0'),
+    }
+}
+
+// Tells on standard error what failed, as the caller names it, and why. Where this fails too, nothing can be told.
+pub fn tell_failure(rt: &impl Eprint, what: &str, error: io::Error) {
+    let mut writer = Cursor::new([0u8; 256]);
+    let _ = write!(writer, "{error}");
+    let words = writer.into_inner();
+    let cause = match str::from_utf8(&words) {
+        Ok(text) => cause_of(text),
+        Err(_) => "",
+    };
+    let _ = eprintln!(rt; "{what}: {cause}");
+}
+
+// Reads until the buffer is full or the file ends. A failure is told.
+fn read_all<F: Read>(rt: &impl Eprint, file: &mut F, path: &str, buffer: &mut [u8]) -> Reading
     ensures { InBuffer result (length buffer.new) }
 {
     let mut done = 0;
     while done < buffer.len() {
-        let got = libc::read(fd, &mut buffer[done..]);
-        if got < 0 {
-            os::fail(path);
-            return Reading::Failed;
-        }
-        let count = io::count(got, &buffer[done..]);
+        let count = match file.read(&mut buffer[done..]) {
+            Ok(count) => count,
+            Err(error) => {
+                tell_failure(rt, path, error);
+                return Reading::Failed;
+            }
+        };
         if count == 0 {
             return Reading::Bytes(done);
         }
@@ -37,26 +62,26 @@ fn read_all(fd: i32, path: &[u8], buffer: &mut [u8]) -> Reading
 }
 
 // A name that no file has is read as no bytes; any other failure is told on standard error. A file that is longer than the buffer fills it.
-pub fn read_file(path: &[u8], buffer: &mut [u8]) -> Reading
+pub fn read_file(rt: &(impl Files + Eprint), path: &str, buffer: &mut [u8]) -> Reading
     ensures { InBuffer result (length buffer.new) }
 {
-    let fd = os::open_read(path);
-    if fd < 0 {
-        if os::errno() == libc::ENOENT {
-            return Reading::Bytes(0);
+    let mut file = match File::open(rt, path) {
+        Ok(file) => file,
+        Err(error) => {
+            if error.kind() == ErrorKind::NotFound {
+                return Reading::Bytes(0);
+            }
+            tell_failure(rt, path, error);
+            return Reading::Failed;
         }
-        os::fail(path);
-        return Reading::Failed;
-    }
-    let reading = read_all(fd, path, &mut buffer[..]);
-    libc::close(fd);
-    reading
+    };
+    read_all(rt, &mut file, path, buffer)
 }
 
 // The bytes of a job's file. One that fills the buffer is refused as a job, whatever follows.
-pub fn read_job(path: &[u8], buffer: &mut [u8; JOB_BUFFER]) -> Reading
+pub fn read_job(rt: &(impl Files + Eprint), path: &str, buffer: &mut [u8; JOB_BUFFER]) -> Reading
     ensures within { InBuffer result (length buffer.new) }
     ensures whole { FullRefused result buffer.new }
 {
-    read_file(path, buffer)
+    read_file(rt, path, buffer)
 }

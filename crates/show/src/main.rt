@@ -1,24 +1,28 @@
 // The program that prints one run: the listing of job.mua in its folder. A missing file is an empty job.
-// Where the file cannot be read, or the listing cannot be written, it says why on standard error: a program has no exit status.
-// Assumed of the system: what the toolchain's libraries say of write; of open and read see crates/file_reader.
+// Where the file cannot be read, or the listing cannot be written, it says why on standard error and ends with status 1.
+// Assumed of the system: what std's contracts say of its calls.
 #![tactic(auto)]
 
 use file_reader::Reading;
-use libc::STDOUT_FILENO;
+use std::process::ExitCode;
 
 // The lines are those of the rules' listing, by the contract of `print_listing`.
-fn show(job: &[u8]) {
+fn show(rt: &(impl Print + Eprint), job: &[u8]) -> ExitCode {
     let mut lines = [0u8; printer::LINES];
     let n = printer::print_listing(job, &mut lines);
-    if !io::write_all(STDOUT_FILENO, &lines[..n]) {
-        os::fail(b"standard output");
+    match rt.write_all(&lines[..n]) {
+        Ok(()) => ExitCode::SUCCESS,
+        Err(error) => {
+            file_reader::tell_failure(rt, "standard output", error);
+            ExitCode::FAILURE
+        }
     }
 }
 
-fn main() {
+fn main(rt: HostRuntime) -> ExitCode {
     let mut buffer = [0u8; file_reader::JOB_BUFFER];
-    match file_reader::read_job(b"job.mua", &mut buffer) {
-        Reading::Bytes(n) => show(&buffer[..n]),
-        Reading::Failed => {}
+    match file_reader::read_job(&rt, "job.mua", &mut buffer) {
+        Reading::Bytes(n) => show(&rt, &buffer[..n]),
+        Reading::Failed => ExitCode::FAILURE,
     }
 }

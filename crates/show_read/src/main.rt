@@ -1,11 +1,12 @@
 // The program that reads a routine as text: routine.txt in its folder. It prints how many bytes and instructions the program has, or, on
 // standard error, the line of the first fault and the refusal's number. A missing file is an empty text.
-// Assumed of the system: what the toolchain's libraries say of write; of open and read see crates/file_reader.
+// What fails is told on standard error and ends it with status 1; a refusal, and a text that is too long, with 0.
+// Assumed of the system: what std's contracts say of its calls.
 #![tactic(auto)]
 
 use file_reader::Reading;
-use libc::{STDERR_FILENO, STDOUT_FILENO};
 use rules::ReadAnswer;
+use std::process::ExitCode;
 
 // One byte more than the longest text that is read: a longer file is seen to be too long, and is read no further.
 const MOST: usize = 262145;
@@ -13,44 +14,46 @@ const MOST: usize = 262145;
 // Enough for every program that is accepted: 512 instructions of at most 292 bytes.
 const PROGRAM: usize = 149504;
 
-fn tell_counts(bytes: usize, instructions: usize) {
-    io::print_decimal(STDOUT_FILENO, bytes as u64);
-    io::write_all(STDOUT_FILENO, b" bytes, ");
-    io::print_decimal(STDOUT_FILENO, instructions as u64);
-    if !io::write_all(STDOUT_FILENO, b" instructions\n") {
-        os::fail(b"standard output");
+fn tell_counts(rt: &(impl Print + Eprint), bytes: usize, instructions: usize) -> ExitCode {
+    match println!(rt; "{bytes} bytes, {instructions} instructions") {
+        Ok(()) => ExitCode::SUCCESS,
+        Err(error) => {
+            file_reader::tell_failure(rt, "standard output", error);
+            ExitCode::FAILURE
+        }
     }
 }
 
-fn tell_fault(line: usize, number: u32) {
-    io::print_decimal(STDERR_FILENO, line as u64);
-    io::write_all(STDERR_FILENO, b": refused ");
-    io::print_decimal(STDERR_FILENO, number as u64);
-    io::write_all(STDERR_FILENO, b"\n");
+fn tell_fault(rt: &impl Eprint, line: usize, number: u32) {
+    let _ = eprintln!(rt; "{line}: refused {number}");
 }
 
 // The counts are those of the rules, by the contract of `read_text`, and the line is that of the first fault, by the contract of `fault_line`.
-fn show(text: &[u8]) {
+fn show(rt: &(impl Print + Eprint), text: &[u8]) -> ExitCode {
     let mut program = [0u8; PROGRAM];
     match text_reader::read_text(text, &mut program) {
-        ReadAnswer::Read(bytes, instructions) => tell_counts(bytes, instructions),
-        ReadAnswer::Refused(cause) => tell_fault(
-            text_reader::fault_line(text),
-            answer_words::refusal_number(cause),
-        ),
+        ReadAnswer::Read(bytes, instructions) => tell_counts(rt, bytes, instructions),
+        ReadAnswer::Refused(cause) => {
+            tell_fault(
+                rt,
+                text_reader::fault_line(text),
+                answer_words::refusal_number(cause),
+            );
+            ExitCode::SUCCESS
+        }
     }
 }
 
-fn main() {
+fn main(rt: HostRuntime) -> ExitCode {
     let mut buffer = [0u8; MOST];
-    match file_reader::read_file(b"routine.txt", &mut buffer) {
+    match file_reader::read_file(&rt, "routine.txt", &mut buffer) {
         Reading::Bytes(n) => {
             if n == MOST {
-                io::write_all(STDERR_FILENO, b"longer than 262144 bytes\n");
-                return;
+                let _ = eprintln!(rt; "longer than 262144 bytes");
+                return ExitCode::SUCCESS;
             }
-            show(&buffer[..n])
+            show(&rt, &buffer[..n])
         }
-        Reading::Failed => {}
+        Reading::Failed => ExitCode::FAILURE,
     }
 }

@@ -1,39 +1,43 @@
 // The program that prints a routine as text: the program of the job job.mua in its folder. A missing file is an empty job.
-// A refusal, and what fails, is told on standard error, where nothing stands otherwise: a program has no exit status.
-// Assumed of the system: what the toolchain's libraries say of write; of open and read see crates/file_reader.
+// A refusal, and what fails, is told on standard error, where nothing stands otherwise. What fails ends it with status 1, a refusal with 0.
+// Assumed of the system: what std's contracts say of its calls.
 #![tactic(auto)]
 
 use file_reader::Reading;
-use libc::{STDERR_FILENO, STDOUT_FILENO};
 use rules::limits::MAX_BYTES;
 use rules::{PrintAnswer, Refusal};
+use std::process::ExitCode;
 
 // Enough for the text of every job: no byte of a program is printed as more than seven.
 const TEXT: usize = 7 * MAX_BYTES;
 
-fn tell_refusal(cause: Refusal) {
-    io::write_all(STDERR_FILENO, b"refused ");
-    io::print_decimal(STDERR_FILENO, answer_words::refusal_number(cause) as u64);
-    io::write_all(STDERR_FILENO, b"\n");
+fn tell_refusal(rt: &impl Eprint, cause: Refusal) {
+    let number = answer_words::refusal_number(cause);
+    let _ = eprintln!(rt; "refused {number}");
 }
 
 // The text is that of the rules, by the contract of `print_text`.
-fn show(job: &[u8]) {
+fn show(rt: &(impl Print + Eprint), job: &[u8]) -> ExitCode {
     let mut text = [0u8; TEXT];
     match text_printer::print_text(job, &mut text) {
-        PrintAnswer::Refused(cause) => tell_refusal(cause),
-        PrintAnswer::Printed(n) => {
-            if !io::write_all(STDOUT_FILENO, &text[..n]) {
-                os::fail(b"standard output");
-            }
+        PrintAnswer::Refused(cause) => {
+            tell_refusal(rt, cause);
+            ExitCode::SUCCESS
         }
+        PrintAnswer::Printed(n) => match rt.write_all(&text[..n]) {
+            Ok(()) => ExitCode::SUCCESS,
+            Err(error) => {
+                file_reader::tell_failure(rt, "standard output", error);
+                ExitCode::FAILURE
+            }
+        },
     }
 }
 
-fn main() {
+fn main(rt: HostRuntime) -> ExitCode {
     let mut buffer = [0u8; file_reader::JOB_BUFFER];
-    match file_reader::read_job(b"job.mua", &mut buffer) {
-        Reading::Bytes(n) => show(&buffer[..n]),
-        Reading::Failed => {}
+    match file_reader::read_job(&rt, "job.mua", &mut buffer) {
+        Reading::Bytes(n) => show(&rt, &buffer[..n]),
+        Reading::Failed => ExitCode::FAILURE,
     }
 }
