@@ -1,7 +1,7 @@
 //! trace.rs: prints the whole trace of a job's mispredicting run, however long it is, and the stores outside memory that are
 //! remembered at its stop.
 //!
-//!   rustc -O examples/trace.rs -L target/staticlib -l static=checker_c -o trace
+//!   rustc -O examples/trace.rs -L crates/checker_c/out -l static=checker_c -o trace
 //!   ./trace JOB.mua
 //!
 //! The lines of the trace are those of "check JOB.mua", which shows 512 observations at most; then comes the stop, the number of

@@ -52,10 +52,10 @@
  * BUILDING, THREADS AND STACK
  *
  * The library is for x86-64 Linux, this header for C99 or C++. In the
- * repository, where "rt staticlib checker_c" has written the library, this
+ * repository, where "rt lib" in crates/checker_c has written the library, this
  * builds an example:
  *
- *   cc -Iinclude examples/release.c -Ltarget/staticlib -lchecker_c -o release
+ *   cc -Iinclude examples/release.c -Lcrates/checker_c/out -lchecker_c -o release
  *
  * Rust: examples/checker.rs declares the calls; examples/trace.rs uses them.
  *

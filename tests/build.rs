@@ -5,7 +5,7 @@
 use std::env;
 use std::path::PathBuf;
 
-const DEFAULT_FOLDER: &str = "../target/staticlib";
+const DEFAULT_FOLDER: &str = "../crates/checker_c/out";
 
 fn main() {
     let package = PathBuf::from(env::var_os("CARGO_MANIFEST_DIR").expect("set by cargo"));

@@ -1,5 +1,5 @@
-//! The wrong programs of the crates, `must-fail/*.edit`, still apply to the sources, and `docs/WRONG-PROGRAMS.md` names two of
-//! them for each public function. Those that the gate tries are meant, and those that are tried by hand.
+//! The wrong programs of the crates, `must-fail/*.edit` and `by-hand/*.edit`, still apply to the sources, and
+//! `docs/WRONG-PROGRAMS.md` names two of them for each public function. Those that the gate tries are meant, and those that are tried by hand.
 
 use std::collections::HashMap;
 use std::fs;
@@ -18,9 +18,8 @@ fn entries(folder: &Path) -> Vec<PathBuf> {
 }
 
 fn edits_of(krate: &Path) -> Vec<PathBuf> {
-    let folder = krate.join("must-fail");
-    let mut paths = entries(&folder);
-    paths.extend(entries(&folder.join("by-hand")));
+    let mut paths = entries(&krate.join("must-fail"));
+    paths.extend(entries(&krate.join("by-hand")));
     paths.retain(|path| path.extension().is_some_and(|end| end == "edit"));
     paths
 }
@@ -28,7 +27,9 @@ fn edits_of(krate: &Path) -> Vec<PathBuf> {
 /// Makes the replacements one after the other; what is wrong with the edit, if anything is. A `file:` line holds for the
 /// replacements after it.
 fn apply(krate: &Path, edit: &str) -> Result<(), String> {
-    let mut lines = edit.lines().skip(1).peekable();
+    let marks = ["file: ", "old: ", "new:"];
+    let said = |line: &&str| marks.iter().any(|mark| line.starts_with(mark));
+    let mut lines = edit.lines().filter(said).peekable();
     while let Some(line) = lines.next() {
         let file = line.strip_prefix("file: ").ok_or("no file")?;
         let source = fs::read_to_string(krate.join(file)).map_err(|error| error.to_string())?;
@@ -36,7 +37,8 @@ fn apply(krate: &Path, edit: &str) -> Result<(), String> {
         while let Some(old) = lines.next_if(|line| !line.starts_with("file: ")) {
             let old = old.strip_prefix("old: ").ok_or("no old line")?;
             let new =
-                lines.next().and_then(|line| line.strip_prefix("new: ")).ok_or("no new line")?;
+                lines.next().and_then(|line| line.strip_prefix("new:")).ok_or("no new line")?;
+            let new = new.strip_prefix(' ').unwrap_or(new);
             match text.matches(old).count() {
                 1 => text = text.replace(old, new),
                 count => return Err(format!("{count} places for {old}")),
@@ -77,11 +79,11 @@ fn named(table: &str) -> HashMap<String, usize> {
         let cells: Vec<&str> = row.split('|').collect();
         krate = quoted(cells[1]).first().copied().unwrap_or(krate);
         let Some(function) = quoted(cells[2]).first().copied() else { continue };
-        let folder = root().join("crates").join(krate).join("must-fail");
+        let folder = root().join("crates").join(krate);
         let edits = quoted(cells[3]);
         for edit in &edits {
             let file = format!("{edit}.edit");
-            let there = folder.join(&file).exists() || folder.join("by-hand").join(&file).exists();
+            let there = ["must-fail", "by-hand"].iter().any(|it| folder.join(it).join(&file).exists());
             assert!(there, "{krate}: no wrong program {edit}");
         }
         counts.insert(format!("{krate}/{function}"), edits.len());

@@ -177,9 +177,6 @@ fn show_all(rt: &impl Print) -> io::Result<()> {
 fn main(rt: HostRuntime) -> ExitCode {
     match show_all(&rt) {
         Ok(()) => ExitCode::SUCCESS,
-        Err(error) => {
-            file_reader::tell_failure(&rt, "standard output", error);
-            ExitCode::FAILURE
-        }
+        Err(error) => file_reader::tell_failure(&rt, "standard output", error),
     }
 }

@@ -1,12 +1,14 @@
 // Reading a file into a buffer, and telling a failure of the system. Assumed of the system: what std's contracts say of its calls.
 #![tactic(auto)]
 
-ghost use Rattle.std.specs.Prelude.{length};
+ghost use Rattle.std.specs.Prelude.{◌≡◌, length};
+ghost use Rattle.std.specs.Process.{exit_status};
 ghost use Rattle.file_reader.specs.Reading.{InBuffer, FullRefused};
 
 use rules::limits::MAX_BYTES;
 use std::fs::File;
 use std::io::{Cursor, ErrorKind, Read, Write};
+use std::process::ExitCode;
 use std::rt::Files;
 use std::{io, str};
 
@@ -28,8 +30,11 @@ fn cause_of(text: &str) -> &str {
     }
 }
 
-// Tells on standard error what failed, as the caller names it, and why. Where this fails too, nothing can be told.
-pub fn tell_failure(rt: &impl Eprint, what: &str, error: io::Error) {
+// Tells on standard error what failed, as the caller names it, and why, and answers the status of a program that fails. Where the telling
+// fails too, the status alone tells it.
+pub fn tell_failure(rt: &impl Eprint, what: &str, error: io::Error) -> ExitCode
+    ensures { exit_status result ≡ 1 }
+{
     let mut writer = Cursor::new([0u8; 256]);
     let _ = write!(writer, "{error}");
     let words = writer.into_inner();
@@ -38,6 +43,7 @@ pub fn tell_failure(rt: &impl Eprint, what: &str, error: io::Error) {
         Err(_) => "",
     };
     let _ = eprintln!(rt; "{what}: {cause}");
+    ExitCode::FAILURE
 }
 
 // Reads until the buffer is full or the file ends. A failure is told.

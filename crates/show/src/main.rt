@@ -12,10 +12,7 @@ fn show(rt: &(impl Print + Eprint), job: &[u8]) -> ExitCode {
     let n = printer::print_listing(job, &mut lines);
     match rt.write_all(&lines[..n]) {
         Ok(()) => ExitCode::SUCCESS,
-        Err(error) => {
-            file_reader::tell_failure(rt, "standard output", error);
-            ExitCode::FAILURE
-        }
+        Err(error) => file_reader::tell_failure(rt, "standard output", error),
     }
 }
 

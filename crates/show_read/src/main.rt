@@ -17,10 +17,7 @@ const PROGRAM: usize = 149504;
 fn tell_counts(rt: &(impl Print + Eprint), bytes: usize, instructions: usize) -> ExitCode {
     match println!(rt; "{bytes} bytes, {instructions} instructions") {
         Ok(()) => ExitCode::SUCCESS,
-        Err(error) => {
-            file_reader::tell_failure(rt, "standard output", error);
-            ExitCode::FAILURE
-        }
+        Err(error) => file_reader::tell_failure(rt, "standard output", error),
     }
 }
 

@@ -26,10 +26,7 @@ fn show(rt: &(impl Print + Eprint), job: &[u8]) -> ExitCode {
         }
         PrintAnswer::Printed(n) => match rt.write_all(&text[..n]) {
             Ok(()) => ExitCode::SUCCESS,
-            Err(error) => {
-                file_reader::tell_failure(rt, "standard output", error);
-                ExitCode::FAILURE
-            }
+            Err(error) => file_reader::tell_failure(rt, "standard output", error),
         },
     }
 }
