@@ -83,7 +83,8 @@ fn named(table: &str) -> HashMap<String, usize> {
         let edits = quoted(cells[3]);
         for edit in &edits {
             let file = format!("{edit}.edit");
-            let there = ["must-fail", "by-hand"].iter().any(|it| folder.join(it).join(&file).exists());
+            let there =
+                ["must-fail", "by-hand"].iter().any(|it| folder.join(it).join(&file).exists());
             assert!(there, "{krate}: no wrong program {edit}");
         }
         counts.insert(format!("{krate}/{function}"), edits.len());
