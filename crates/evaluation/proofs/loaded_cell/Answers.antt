@@ -4,7 +4,7 @@ use borrow.Author.Rules.{rules}
 use Rattle.evaluation.proofs.loaded_cell.Goals as goal
 
 pub returns : goal.returns
-returns c =
+returns c code cells e h =
     let a = c.args in
     load_inside a.work.now cells a.a code e h c.new.ensures c.cell.ensures c.load.ensures
     c.joined.ensures

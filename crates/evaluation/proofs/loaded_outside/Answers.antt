@@ -4,6 +4,6 @@ use borrow.Author.Rules.{rules}
 use Rattle.evaluation.proofs.loaded_outside.Goals as goal
 
 pub returns : goal.returns
-returns c =
+returns c code cells e h =
     let a = c.args in
     load-outside a.work.now cells a.a code e h c.new.ensures c.recall.ensures c.joined.ensures

@@ -14,7 +14,7 @@
 --   meaning    what each word on a pair says of the two traces and of the two plain runs.
 -- Assumes nothing.
 use Rattle.std.specs.Prelude.{◌≡◌, List, ℕ}
-use Rattle.std.specs.Borrow.{Bor}
+use Rattle.std.specs.Borrow.{MutBor}
 use denote.Triple.Both.{Both}
 use Rattle.rules.specs.declared.RunAnswer.{RunAnswer}
 use Rattle.rules.specs.declared.PlainAnswer.{PlainAnswer}
@@ -48,7 +48,7 @@ pub record PairPromise (f second costs : List ℕ) (before : PairAreas) (r : Pai
 -- ---- the lent areas in a contract
 -- a lent area of words as a contract names it: as it is when the call begins, and as it is when the call returns
 abbrev pub LentArea : Type 0
-LentArea = Both (Bor (List ℕ)) (Bor (List ℕ))
+LentArea = Both (MutBor (List ℕ)) (MutBor (List ℕ))
 
 abbrev pub areas_at_entry : LentArea → LentArea → LentArea → Areas
 areas_at_entry trace ends work = lent trace.entry.now ends.entry.now work.entry.now

@@ -61,7 +61,7 @@ record-requires c =
     (c.requires.1.room, c.requires.3, omega arith)
 
 pub returns-in-Over : goal.returns-in-Over
-returns-in-Over c =
+returns-in-Over c mode trace s =
     let a = c.args in
     let k = a.c.control in
     let o = over-named k a.t.count a.work.now (locations a.t)
@@ -69,7 +69,7 @@ returns-in-Over c =
     absurd (true≢false (sym o ∙ c.requires.2))
 
 pub returns-in-RollBack : goal.returns-in-RollBack
-returns-in-RollBack c =
+returns-in-RollBack c mode trace s =
     let a = c.args in
     let k = a.c.control in
     let g = back-named k a.t.count a.work.now (locations a.t)
@@ -80,7 +80,7 @@ returns-in-RollBack c =
 
 -- HAND: bare at-record
 pub returns-in-Advance : goal.returns-in-Advance
-returns-in-Advance c =
+returns-in-Advance c mode trace s =
     let a = c.args in
     let k = a.c.control in
     let w = a.work.now in

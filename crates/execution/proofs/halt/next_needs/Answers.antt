@@ -17,7 +17,7 @@ use borrow.Author.Rules.{rules}
 use Rattle.execution.proofs.halt.next_needs.Goals as goal
 
 pub returns-then-entry_count-lt-MAX_ENTRIES : goal.returns-then-entry_count-lt-MAX_ENTRIES
-returns-then-entry_count-lt-MAX_ENTRIES c =
+returns-then-entry_count-lt-MAX_ENTRIES c mode s =
     let a = c.args in
     let w = a.work.now in
     let n = entries_length w 0 (count_in w) in
@@ -59,21 +59,21 @@ store_needs-requires c =
     (rw c.instruction_of-i.ensures v.sound, omega arith)
 
 pub returns-in-Over : goal.returns-in-Over
-returns-in-Over c =
+returns-in-Over c mode s =
     let a = c.args in
     let o = over-named a.c a.t.count a.work.now (locations a.t)
     (sym c.in-Over.is ∙ c.rule_of.ensures a.work.now (locations a.t)) in
     absurd (true≢false (sym o ∙ c.requires.2))
 
 pub returns-in-RollBack : goal.returns-in-RollBack
-returns-in-RollBack c =
+returns-in-RollBack c mode s =
     let a = c.args in
     let g = back-named a.c a.t.count a.work.now (locations a.t)
     (sym c.in-RollBack.is ∙ c.rule_of.ensures a.work.now (locations a.t)) in
     sym (rolls_fitting a.p.now a.t mode a.work.now a.c s g)
 
 pub returns-in-Advance : goal.returns-in-Advance
-returns-in-Advance c =
+returns-in-Advance c mode s =
     let a = c.args in
     let p = a.p.now in
     let w = a.work.now in

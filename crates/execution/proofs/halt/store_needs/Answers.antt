@@ -10,34 +10,34 @@ evaluate-a-requires c =
 
 -- a store to a cell
 pub returns-then-value-cells : goal.returns-then-value-cells
-returns-then-value-cells c =
+returns-then-value-cells c code k ec =
     let a = c.args in
     store-inside_needs a.p.now a.work.now a.cells code k ec c.in-Store.is c.evaluate-a.ensures c.if-value-cells.true
 
 -- and one outside
 pub returns-else-value-cells : goal.returns-else-value-cells
-returns-else-value-cells c =
+returns-else-value-cells c code k ec =
     let a = c.args in
     store-outside_needs a.p.now a.work.now a.cells code k ec c.in-Store.is c.evaluate-a.ensures c.if-value-cells.false
     c.new.ensures c.is_overfull.ensures
 
 pub returns-in-Skip : goal.returns-in-Skip
-returns-in-Skip c = other_needs c.in-Skip.is tt _ code _
+returns-in-Skip c code k ec = other_needs c.in-Skip.is tt _ code _
 
 pub returns-in-Assign : goal.returns-in-Assign
-returns-in-Assign c = other_needs c.in-Assign.is tt _ code _
+returns-in-Assign c code k ec = other_needs c.in-Assign.is tt _ code _
 
 pub returns-in-Load : goal.returns-in-Load
-returns-in-Load c = other_needs c.in-Load.is tt _ code _
+returns-in-Load c code k ec = other_needs c.in-Load.is tt _ code _
 
 pub returns-in-Jump : goal.returns-in-Jump
-returns-in-Jump c = other_needs c.in-Jump.is tt _ code _
+returns-in-Jump c code k ec = other_needs c.in-Jump.is tt _ code _
 
 pub returns-in-BranchZero : goal.returns-in-BranchZero
-returns-in-BranchZero c = other_needs c.in-BranchZero.is tt _ code _
+returns-in-BranchZero c code k ec = other_needs c.in-BranchZero.is tt _ code _
 
 pub returns-in-AssignIf : goal.returns-in-AssignIf
-returns-in-AssignIf c = other_needs c.in-AssignIf.is tt _ code _
+returns-in-AssignIf c code k ec = other_needs c.in-AssignIf.is tt _ code _
 
 pub returns-in-Barrier : goal.returns-in-Barrier
-returns-in-Barrier c = other_needs c.in-Barrier.is tt _ code _
+returns-in-Barrier c code k ec = other_needs c.in-Barrier.is tt _ code _
