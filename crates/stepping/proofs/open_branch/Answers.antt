@@ -12,13 +12,12 @@ overflow_add-next c =
 
 pub open_branch-opened-requires : goal.open_branch-opened-requires
 open_branch-opened-requires c =
-    let q = c.requires.0 in (
-      q.unexpired.fits,
-      (
-        c.remaining_window-remaining.ensures.left q.unexpired.costs q.unexpired.window,
-        (c.requires.4, c.requires.1),
-      ),
-    )
+    let q = c.requires.0 in record {
+      fit = q.unexpired.fits;
+      left = c.remaining_window-remaining.ensures.left q.unexpired.costs q.unexpired.window;
+      window_le_max_window = c.requires.4;
+      opened_bound = c.requires.1;
+    }
 
 pub observe_branch-requires : goal.observe_branch-requires
 observe_branch-requires c =
