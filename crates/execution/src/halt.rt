@@ -116,7 +116,7 @@ fn next_needs(p: &[u8], t: Trailer, work: &[u64], c: Control) -> bool
 // What halts a run before its next step, if anything does: finished, spent, trace full, outside full.
 pub fn halt_of(p: &[u8], t: Trailer, mode: Mode, work: &[u64], trace: &[u64], c: Progress) -> Halt
     requires { Ready p.now t mode (standing work.now trace.now c) }
-    ensures { HaltOf p.now t mode (standing_before work trace c) result }
+    ensures { HaltOf p.now t mode (standing work.now trace.now c) result }
 {
     let control = c.control;
     if super::rule::is_over(control, t.count) {

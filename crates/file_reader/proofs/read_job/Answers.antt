@@ -1,9 +1,7 @@
--- `read_job` meets its contract: the buffer has a byte more than a job. Assumes nothing.
-use Rattle.file_reader.specs.Reading.{full-refused}
-use borrow.Author.Rules.{rules}
+-- `read_job` meets its contract: the buffer has a byte more than a job.
+use Rattle.std.proofs.Common.{rules, length, ◌≡◌}
+use Rattle.file_reader.specs.Reading.{InBuffer, FullRefused, full-refused}
 use Rattle.file_reader.proofs.read_job.Goals as goal
 
-pub returns : goal.returns
-returns c =
-    let r = c.read_file in
-    record { within = r.ensures; whole = full-refused r.result r.new.buffer (search rules); }
+pub returns-clause-whole : goal.returns-clause-whole
+returns-clause-whole g c = full-refused c.read_file.result c.read_file.new.buffer (search rules)
