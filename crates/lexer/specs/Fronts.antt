@@ -1,7 +1,7 @@
 -- The bytes at the front of a text that meet a test: how they are counted from one byte to the next, and what stands after them;
 -- and the parts of a text by its first byte, and past its first spaces.
 -- Assumes nothing.
-use Rattle.std.specs.Prelude.{◌≡◌, Bool, true, false, List, [], ◌∷◌, ℕ, suc, ◌+◌, ◌-◌, ◌<◌, ◌≤◌, length, get_or, drop}
+use Rattle.std.specs.Prelude.{◌≡◌, Bool, true, false, List, [], ◌∷◌, ℕ, suc, ◌+◌, ◌<◌, ◌≤◌, length, get_or, drop}
 use Rattle.std.proofs.Math.Path.{refl}
 use Rattle.std.proofs.Common.{ap, ◌∙◌, add-one, arith, eqb-true, drop_of_length-le, drop-cons}
 use Rattle.rules.specs.Rules.Parts.{newline, space, in_name, byte_parts, parts}

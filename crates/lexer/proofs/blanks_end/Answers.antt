@@ -1,11 +1,9 @@
 -- `lexer::blanks_end` meets its contract. The invariant: from here on the spaces end where they end from the first offset on.
 -- Assumes nothing.
-use mathlib.Core.Path.{◌≡◌, refl, sym, ◌∙◌}
-use Prim.Native.Nat.{◌+◌, ◌-◌}
+use mathlib.Core.Path.{refl, sym, ◌∙◌}
 use native.Mathlib.Omega.{arith}
 use borrow.Author.Tests.{eq-eqb, ne_eqb}
-use lib.ListN.{length, drop}
-use Rattle.lexer.specs.Places.{is_space, blanks}
+use Rattle.lexer.specs.Places.{is_space}
 use Rattle.lexer.specs.Fronts.{front-on, front-over, front_out}
 use Rattle.lexer.proofs.blanks_end.Goals as goal
 

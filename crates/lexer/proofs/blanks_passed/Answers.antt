@@ -1,5 +1,4 @@
 -- `lexer::blanks_passed` meets its contract. Assumes nothing.
-use borrow.Author.Rules.{rules}
 use Rattle.lexer.proofs.blanks_passed.Goals as goal
 
 pub returns : goal.returns

@@ -1,12 +1,10 @@
 -- `lexer::line_end` meets its contract. The invariant: from here on the line ends where it ends from the first offset on.
 -- Assumes nothing.
-use mathlib.Core.Path.{◌≡◌, refl, sym, ap, ◌∙◌}
+use mathlib.Core.Path.{refl, sym, ap, ◌∙◌}
 use mathlib.Core.Bool.{not}
-use Prim.Native.Nat.{◌+◌, ◌-◌}
 use native.Mathlib.Omega.{arith}
 use borrow.Author.Tests.{eq-eqb, ne_eqb}
-use lib.ListN.{length, drop}
-use Rattle.lexer.specs.Places.{in_line, line_length}
+use Rattle.lexer.specs.Places.{in_line}
 use Rattle.lexer.specs.Fronts.{front-on, front-over, front_out}
 use Rattle.lexer.proofs.line_end.Goals as goal
 

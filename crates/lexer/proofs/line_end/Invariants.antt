@@ -1,13 +1,9 @@
 -- `lexer::line_end` meets its contract. The invariant: from here on the line ends where it ends from the first offset on.
 -- Assumes nothing.
-use mathlib.Core.Path.{◌≡◌, refl, sym, ap, ◌∙◌}
-use mathlib.Core.Bool.{not}
+use mathlib.Core.Path.{◌≡◌}
 use Prim.Native.Nat.{◌+◌, ◌-◌}
-use native.Mathlib.Omega.{arith}
-use borrow.Author.Tests.{eq-eqb, ne_eqb}
 use lib.ListN.{length, drop}
-use Rattle.lexer.specs.Places.{in_line, line_length}
-use Rattle.lexer.specs.Fronts.{front-on, front-over, front_out}
+use Rattle.lexer.specs.Places.{line_length}
 use Rattle.lexer.proofs.line_end.Given as goal
 
 abbrev pub invariant-loop-i : goal.invariant-loop-i

@@ -4,7 +4,6 @@ use lib.ListN.{drop, length-drop}
 use Prim.Native.Nat.{◌+◌}
 use Rattle.lexer.specs.Places.{in_line}
 use Rattle.lexer.specs.Fronts.{front-within}
-use borrow.Author.Rules.{rules}
 use Rattle.lexer.proofs.line_passed.Goals as goal
 
 pub overflow_add-result : goal.overflow_add-result

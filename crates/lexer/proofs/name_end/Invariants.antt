@@ -1,14 +1,9 @@
 -- `lexer::name_end` meets its contract. The invariant: from here on the letters and digits end where they end from the first offset on.
 -- Assumes nothing.
-use mathlib.Core.Path.{◌≡◌, refl, sym, ◌∙◌}
+use mathlib.Core.Path.{◌≡◌}
 use Prim.Native.Nat.{◌+◌, ◌-◌}
-use native.Mathlib.Omega.{arith}
-use borrow.Author.Tests.{not-true, not-false}
-use borrow.Author.Rules.{rules}
 use lib.ListN.{length, drop}
-use Rattle.rules.specs.Rules.Parts.{in_name}
 use Rattle.lexer.specs.Places.{name_length}
-use Rattle.lexer.specs.Fronts.{front-on, front-over, front_out}
 use Rattle.lexer.proofs.name_end.Given as goal
 
 abbrev pub invariant-loop-i : goal.invariant-loop-i

@@ -2,7 +2,6 @@
 use mathlib.Core.Path.{sym, ◌∙◌}
 use native.Mathlib.Omega.{arith}
 use Rattle.lexer.proofs.Laws.{none_told, newline-told, remark-told, opening-told, closing_told, other-told, name-told}
-use borrow.Author.Rules.{rules}
 use Rattle.lexer.proofs.part_at.Goals as goal
 
 pub returns-then-text-start : goal.returns-then-text-start
@@ -38,6 +37,5 @@ returns-in-41 c =
 pub returns-in_default : goal.returns-in_default
 returns-in_default c =
     let a = c.args in
-    let m = c.in_default.in_default-own.rest in
     other-told a.text.now a.at _ c.blanks_end-start.ensures (omega arith) (sym c.in_name.ensures ∙ c.if-in_name.false)
-    m.0.0.0.1 m.0.0.1 m.0.1 m.1
+    (λ h. omega arith) (λ h. omega arith) (λ h. omega arith) (λ h. omega arith)
