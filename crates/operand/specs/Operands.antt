@@ -1,7 +1,6 @@
 -- What the readers of operands say of the rules' reading: what was read, and what was written of it.
 -- Assumes nothing.
 use Rattle.std.specs.Prelude.{◌≡◌, List, [], ◌∷◌, ℕ, ◌+◌, ◌-◌, ◌*◌, ◌^◌, ◌<◌, ◌≤◌, length, drop}
-use Rattle.std.proofs.Math.Option.{none, some}
 use Rattle.rules.specs.Rules.Limits.{max_tokens}
 use Rattle.rules.specs.Rules.Operators.{Op2}
 use Rattle.rules.specs.Rules.Expressions.{Expr, after, held, sound}

@@ -1,5 +1,4 @@
 -- `close` meets its contract, by the part that stands first. Assumes nothing.
-use borrow.Author.Rules.{rules}
 use Rattle.operand.proofs.Found.{end_unclosed, name_unclosed, opening_unclosed, other_unclosed, closing_closed}
 use Rattle.operand.proofs.close.Goals as goal
 

@@ -2,7 +2,6 @@
 use Rattle.operand.proofs.Found.{name-operator, end_no_operator, opening_no_operator, closing_no_operator, other_no_operator}
 use Rattle.lexer.specs.Places.{told_of}
 use native.Mathlib.Omega.{arith}
-use borrow.Author.Rules.{rules}
 use Rattle.operand.proofs.operator_at.Goals as goal
 
 pub operator_named-requires : goal.operator_named-requires

@@ -1,7 +1,6 @@
 -- `put_constant` meets its contract: the constant's byte, then its eight bytes. Assumes nothing.
 use mathlib.Core.Path.{refl}
 use native.Mathlib.Omega.{arith}
-use borrow.Author.Rules.{rules}
 use Rattle.byte_writer.specs.Texts.{put-append}
 use Rattle.operand.proofs.put_constant.Goals as goal
 

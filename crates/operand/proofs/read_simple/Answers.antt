@@ -1,6 +1,5 @@
 -- `read_simple` meets its contract: a register, else a constant, else nothing. Assumes nothing.
 use Rattle.operand.proofs.Found.{register-told, constant-told, simple_unread}
-use borrow.Author.Rules.{rules}
 use Rattle.operand.proofs.read_simple.Goals as goal
 
 pub returns-then-register-lt-REGISTERS : goal.returns-then-register-lt-REGISTERS

@@ -6,7 +6,6 @@ use Rattle.rules.specs.Rules.Parts.{parts}
 use Rattle.rules.specs.Rules.TextReading.{operand}
 use Rattle.operand.proofs.Cycle.{brought_of, unread_of}
 use Rattle.operand.proofs.Counted.{begun, whole-nothing, whole-brought}
-use borrow.Author.Rules.{rules}
 use Rattle.operand.proofs.read_whole.Goals as goal
 
 pub overflow_cast-p : goal.overflow_cast-p
