@@ -9,7 +9,7 @@ use borrow.Author.Tests.{lt-ltb, le-ltb}
 use lib.Dec.{ltb}
 use lib.ListN.{drop}
 use Rattle.rules.specs.Rules.Limits.{max_instructions}
-use Rattle.rules.specs.Rules.Instructions.{Instr, kind}
+use Rattle.rules.specs.Rules.Instructions.{Instr}
 use Rattle.rules.specs.Rules.Encoding.{field_bytes, instr_bytes}
 use Rattle.rules.specs.Rules.Parts.{Part, name, opening, closing, other, parts, segment}
 use Rattle.rules.specs.Rules.TextReading.{Taken, took, nothing, instruction_words, place_among, instr_named, Line, blank, holds, unreadable, whole_line, line_of}

@@ -1,9 +1,7 @@
 -- `count_lines` meets its contract. The invariant: what was counted, with the lines that go on from the place, is the whole. Assumes nothing.
 use Prim.Native.Nat.{◌+◌, ◌-◌}
-use native.Mathlib.Omega.{arith}
 use lib.ListN.{length}
-use Rattle.text_reader.proofs.Scan.{Counting, passable, line-less, count_starts, held_small, count_goes_on, count-ends}
-use borrow.Author.Rules.{rules}
+use Rattle.text_reader.proofs.Scan.{Counting}
 use Rattle.text_reader.proofs.count_lines.Given as goal
 
 abbrev pub invariant-loop-place : goal.invariant-loop-place

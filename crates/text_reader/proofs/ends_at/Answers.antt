@@ -1,6 +1,5 @@
 -- `ends_at` meets its contract, by the part that stands first. Assumes nothing.
 use Rattle.text_reader.proofs.Parts.{end-ends, name_goes_on, opening_goes_on, closing_goes_on, other_goes_on}
-use borrow.Author.Rules.{rules}
 use Rattle.text_reader.proofs.ends_at.Goals as goal
 
 pub returns-in-End : goal.returns-in-End

@@ -1,6 +1,5 @@
 -- `fault_line` meets its contract: the fault that reading finds, or the last line where there is no instruction. Assumes nothing.
 use Rattle.text_reader.proofs.Answers.{last-fault, line-fault}
-use borrow.Author.Rules.{rules}
 use Rattle.text_reader.proofs.fault_line.Goals as goal
 
 pub returns-then-n-eq0 : goal.returns-then-n-eq0

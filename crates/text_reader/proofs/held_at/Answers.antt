@@ -3,7 +3,6 @@ use mathlib.Core.Path.{sym, ◌∙◌}
 use lib.ListN.{drop}
 use Rattle.rules.specs.Rules.Parts.{parts}
 use Rattle.text_reader.proofs.Lines.{blank-held, filled-held}
-use borrow.Author.Rules.{rules}
 use Rattle.text_reader.proofs.held_at.Goals as goal
 
 pub returns-then-ends_at : goal.returns-then-ends_at

@@ -5,7 +5,6 @@ use Rattle.rules.specs.Rules.Parts.{parts}
 use Rattle.rules.specs.Rules.TextReading.{by_name, register_named, whole_operand}
 use Rattle.text_reader.specs.Fields.{register, expression}
 use Rattle.text_reader.proofs.Fields.{told-by, first-unread, both_told}
-use borrow.Author.Rules.{rules}
 use Rattle.text_reader.proofs.read_assignment.Goals as goal
 
 pub read_operand-requires : goal.read_operand-requires

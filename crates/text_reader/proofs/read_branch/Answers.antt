@@ -5,7 +5,6 @@ use Rattle.rules.specs.Rules.Parts.{parts}
 use Rattle.rules.specs.Rules.TextReading.{by_name, register_named, constant_named}
 use Rattle.text_reader.specs.Fields.{register, label}
 use Rattle.text_reader.proofs.Fields.{told-by, first-unread, both_told}
-use borrow.Author.Rules.{rules}
 use Rattle.text_reader.proofs.read_branch.Goals as goal
 
 pub read_label-requires : goal.read_label-requires

@@ -5,7 +5,6 @@ use Rattle.rules.specs.Rules.Parts.{parts}
 use Rattle.rules.specs.Rules.TextReading.{whole_operand}
 use Rattle.text_reader.specs.Fields.{both, register, expression, assignment_reader}
 use Rattle.text_reader.proofs.Fields.{told-by, first-unread, both_told}
-use borrow.Author.Rules.{rules}
 use Rattle.text_reader.proofs.read_conditional.Goals as goal
 
 pub read_operand-requires : goal.read_operand-requires

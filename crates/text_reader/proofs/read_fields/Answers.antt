@@ -1,6 +1,5 @@
 -- `read_fields` meets its contract, by the kind of instruction. Assumes nothing.
 use Rattle.text_reader.proofs.Fields.{skip-told, barrier_told, beyond, no_kind_told, assignment_told, jump-told, branch-told, conditional-told}
-use borrow.Author.Rules.{rules}
 use Rattle.text_reader.proofs.read_fields.Goals as goal
 
 pub returns-then-kind-lt-SET : goal.returns-then-kind-lt-SET

@@ -1,7 +1,6 @@
 -- `read_instruction` meets its contract: the kind, the fields, and then the line is over. Assumes nothing.
 use Rattle.text_reader.proofs.Fields.{fields-by}
 use Rattle.text_reader.proofs.Lines.{fields_told, refused-told}
-use borrow.Author.Rules.{rules}
 use Rattle.text_reader.proofs.read_instruction.Goals as goal
 
 pub returns-in-Read : goal.returns-in-Read

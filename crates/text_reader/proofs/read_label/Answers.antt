@@ -3,7 +3,6 @@ use Rattle.rules.specs.Rules.TextReading.{constant_named}
 use Rattle.text_reader.specs.Fields.{label}
 use Rattle.text_reader.proofs.Parts.{name-within, name-read, name-unread, end-unread, opening-unread, closing_unread, other-unread}
 use Rattle.text_reader.proofs.Parts.{unread-broken, number-some, number-none, label-over, label-next, label-read}
-use borrow.Author.Rules.{rules}
 use Rattle.text_reader.proofs.read_label.Goals as goal
 
 pub constant_named-requires : goal.constant_named-requires

@@ -1,7 +1,6 @@
 -- `read_line` meets its contract, by the part that stands first. Assumes nothing.
 use Rattle.text_reader.proofs.Parts.{name-within}
 use Rattle.text_reader.proofs.Lines.{full-told, name-told, end-told, opening-told, closing_told, other-told}
-use borrow.Author.Rules.{rules}
 use Rattle.text_reader.proofs.read_line.Goals as goal
 
 pub returns-then-i-ge-MAX_INSTRUCTIONS : goal.returns-then-i-ge-MAX_INSTRUCTIONS

@@ -1,10 +1,8 @@
 -- `read_lines` meets its contract. The invariant: what is left to do from the place on ends where the whole ends. Assumes nothing.
-use Prim.Native.Nat.{◌+◌, ◌-◌}
 use native.Mathlib.Omega.{arith}
-use lib.ListN.{length}
 use borrow.Author.Tests.{not-true, not-false}
 use Rattle.byte_writer.specs.Texts.{left-length}
-use Rattle.text_reader.proofs.Scan.{Scanning, passable, line-less, scan_starts, scan_goes_on, scan_faulty, scan_ends}
+use Rattle.text_reader.proofs.Scan.{passable, line-less, scan_starts, scan_goes_on, scan_faulty, scan_ends}
 use borrow.Author.Rules.{rules}
 use Rattle.text_reader.proofs.read_lines.Goals as goal
 

@@ -1,7 +1,6 @@
 -- `read_operand` meets its contract: an operand that keeps the postfix rule. Assumes nothing.
 use borrow.Author.Tests.{not-true, not-false}
 use Rattle.text_reader.proofs.Fields.{whole_by, whole-read, whole_unsound, whole-unread}
-use borrow.Author.Rules.{rules}
 use Rattle.text_reader.proofs.read_operand.Goals as goal
 
 pub returns-then-not-q : goal.returns-then-not-q

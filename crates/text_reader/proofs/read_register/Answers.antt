@@ -5,7 +5,6 @@ use Rattle.rules.specs.Rules.TextReading.{register_named}
 use Rattle.text_reader.specs.Fields.{register}
 use Rattle.text_reader.proofs.Parts.{name-within, name-read, name-unread, end-unread, opening-unread, closing_unread, other-unread}
 use Rattle.text_reader.proofs.Parts.{register-none, register-some}
-use borrow.Author.Rules.{rules}
 use Rattle.text_reader.proofs.read_register.Goals as goal
 
 pub register_named-register-requires : goal.register_named-register-requires

@@ -1,7 +1,6 @@
 -- `read_text` meets its contract: the first reading tests and counts, the second one writes. Assumes nothing.
 use mathlib.Core.Path.{refl}
 use Rattle.text_reader.proofs.Answers.{lent_nothing, empty-text, faulty-text, short_area, text-read}
-use borrow.Author.Rules.{rules}
 use Rattle.text_reader.proofs.read_text.Goals as goal
 
 pub returns-then-n-eq0 : goal.returns-then-n-eq0
