@@ -3,7 +3,7 @@
 use mathlib.Core.Path.{◌≡◌, refl, ap, ◌∙◌}
 use mathlib.Core.Bool.{Bool, true, false, ◌&&◌, cond, and-eq-true_iff}
 use mathlib.Core.List.{List, [], ◌∷◌, ◌++◌}
-use Prim.Native.Nat.{ℕ, zero, suc, ◌+◌, ◌*◌, ◌^◌, ◌<◌, ◌≤◌}
+use Prim.Native.Nat.{ℕ, zero, suc, ◌+◌, ◌-◌, ◌*◌, ◌^◌, ◌<◌, ◌≤◌}
 use native.Mathlib.Omega.{arith}
 use lib.Dec.{eqb, leb}
 use lib.ListN.{length, get_or, length-append}
@@ -261,6 +261,10 @@ module _ {n k i : ℕ} {p : List ℕ} {at : ℕ} (f : First n k i p at) where
 
     pub first-split : program_text (value_or [] (program n (suc k) i p at)) ≡ instr_text x ++ program_text (value_or [] (program n k (i + 1) p q))
     first-split = rw (same_first.0, same_first.1) f.split
+
+-- the text of the instructions that are left at an offset, after i of n
+abbrev pub text_left : ℕ → List ℕ → ℕ → ℕ → List ℕ
+text_left n p offset i = program_text (value_or [] (program n (n - i) i p offset))
 
 pub none_left : (n i : ℕ) (p : List ℕ) (at : ℕ) → program_text (value_or [] (program n 0 i p at)) ≡ []
 unfolding program nothing_left program_text

@@ -1,5 +1,4 @@
 -- `below_after` meets its contract, token by token. Assumes nothing.
-use borrow.Author.Rules.{rules}
 use Rattle.text_printer.proofs.below_after.Goals as goal
 
 pub returns-in-Unary : goal.returns-in-Unary

@@ -1,14 +1,12 @@
 -- `index_tokens` meets its contract. The invariant: the tokens left, over the texts of those indexed so far, leave the texts of all.
 -- Assumes nothing.
 use mathlib.Core.Path.{◌≡◌, refl, ◌∙◌}
-use mathlib.Core.List.{[]}
-use Prim.Native.Nat.{suc, zero-le, ◌+◌, ◌-◌, ◌≤◌}
+use Prim.Native.Nat.{suc, zero-le, ◌+◌, ◌-◌}
 use native.Mathlib.Nat.{sub-zero}
 use native.Mathlib.Omega.{arith}
-use lib.ListN.{length, length-set}
-use Rattle.rules.specs.Rules.TextPrinting.{text_on}
-use Rattle.token.specs.Meaning.{token_meaning, tokens_of}
-use Rattle.text_printer.proofs.Operands.{Left, left-start, left-readable, left-next, left_done}
+use lib.ListN.{length-set}
+use Rattle.token.specs.Meaning.{token_meaning}
+use Rattle.text_printer.proofs.Operands.{left-start, left-readable, left-next, left_done}
 use Rattle.text_printer.proofs.index_tokens.Goals as goal
 
 pub loop-i-init : goal.loop-i-init

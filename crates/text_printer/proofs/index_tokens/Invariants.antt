@@ -1,20 +1,18 @@
 -- `index_tokens` meets its contract. The invariant: the tokens left, over the texts of those indexed so far, leave the texts of all.
 -- Assumes nothing.
-use mathlib.Core.Path.{◌≡◌, refl, ◌∙◌}
+use mathlib.Core.Path.{◌≡◌}
 use mathlib.Core.List.{[]}
-use Prim.Native.Nat.{suc, zero-le, ◌+◌, ◌-◌, ◌≤◌}
-use native.Mathlib.Nat.{sub-zero}
-use native.Mathlib.Omega.{arith}
-use lib.ListN.{length, length-set}
+use Prim.Native.Nat.{◌-◌, ◌≤◌}
+use lib.ListN.{length}
 use Rattle.rules.specs.Rules.TextPrinting.{text_on}
-use Rattle.token.specs.Meaning.{token_meaning, tokens_of}
-use Rattle.text_printer.proofs.Operands.{Left, left-start, left-readable, left-next, left_done}
+use Rattle.token.specs.Meaning.{tokens_of}
+use Rattle.text_printer.proofs.Operands.{Left}
 use Rattle.text_printer.proofs.index_tokens.Given as goal
 
 abbrev pub invariant-loop-i : goal.invariant-loop-i
 invariant-loop-i l =
     (l.i ≤ l.count) × (length l.offsets ≡ length l.initial.offsets) × (length l.below ≡ length l.initial.below)
-    × Left l.p (text_on (tokens_of l.p (record { at = l.initial.offset; l.count = l.count })) []) (l.count - l.i) l.offset l.i l.offsets l.below
+    × Left l.p (text_on (tokens_of l.p (record { at = l.initial.offset; count = l.count })) []) (l.count - l.i) l.offset l.i l.offsets l.below
 
 abbrev pub decreases-loop-i : goal.decreases-loop-i
 decreases-loop-i l = l.count - l.i

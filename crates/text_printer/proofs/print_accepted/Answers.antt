@@ -1,7 +1,6 @@
 -- `print_accepted` meets its contract: printing an accepted job is printing its program. Assumes nothing.
 use native.Mathlib.Nat.{sub-zero}
 use Rattle.text_printer.proofs.Calls.{state-within, program-readable, count_most, accepted_call}
-use borrow.Author.Rules.{rules}
 use Rattle.text_printer.proofs.print_accepted.Goals as goal
 
 pub slice_bounds-print_program-end : goal.slice_bounds-print_program-end

@@ -2,7 +2,6 @@
 use Rattle.byte_writer.specs.Areas.{put_next}
 use Rattle.text_printer.specs.Programs.{program_printed}
 use Rattle.text_printer.proofs.Calls.{printed_short, printed-whole}
-use borrow.Author.Rules.{rules}
 use Rattle.text_printer.proofs.print_program.Goals as goal
 
 pub returns-then-out-length : goal.returns-then-out-length

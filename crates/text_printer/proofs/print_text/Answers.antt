@@ -3,7 +3,6 @@ use native.Mathlib.Omega.{arith}
 use Rattle.rules.proofs.Theorems.TextPromises.{print_promise}
 use Rattle.job.specs.Answers.{read-accepted, read-refused}
 use Rattle.text_printer.proofs.Calls.{refused-call}
-use borrow.Author.Rules.{rules}
 use Rattle.text_printer.proofs.print_text.Goals as goal
 
 pub print_accepted-requires : goal.print_accepted-requires
@@ -14,11 +13,11 @@ print_accepted-requires c =
 pub returns-in-Accepted : goal.returns-in-Accepted
 returns-in-Accepted c =
     let a = c.args in
-    print_promise a.job.now a.out.now (record { each = λ i. omega (arith, c.shared_slice_known-1.given i) }) c.print_accepted.ensures
+    print_promise a.job.now a.out.now (record { each = λ i. omega (arith, c.type_inv.job i) }) c.print_accepted.ensures
 
 pub returns-in-Refused : goal.returns-in-Refused
 returns-in-Refused c =
     let a = c.args in
     let f = a.job.now in
-    print_promise f a.out.now (record { each = λ i. omega (arith, c.shared_slice_known-1.given i) })
+    print_promise f a.out.now (record { each = λ i. omega (arith, c.type_inv.job i) })
     (refused-call f _ (read-refused f c.read_job-read.ensures c.in-Refused.is) a.out.now)

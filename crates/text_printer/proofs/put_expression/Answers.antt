@@ -1,7 +1,6 @@
 -- `put_expression` meets its contract: the whole expression is the operand that all its tokens end with. Assumes nothing.
 use native.Mathlib.Omega.{arith}
 use Rattle.text_printer.proofs.Operands.{printable_readable, printable_few, whole-text, whole-operand}
-use borrow.Author.Rules.{rules}
 use Rattle.text_printer.proofs.put_expression.Goals as goal
 
 pub index_tokens-requires : goal.index_tokens-requires

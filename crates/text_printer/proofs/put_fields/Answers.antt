@@ -1,6 +1,5 @@
 -- `put_fields` meets its contract, kind by kind. Assumes nothing.
 use Rattle.byte_writer.specs.Texts.{put-nothing}
-use borrow.Author.Rules.{rules}
 use Rattle.text_printer.proofs.put_fields.Goals as goal
 
 pub put_register_and_expression-requires : goal.put_register_and_expression-requires

@@ -5,7 +5,6 @@ use Rattle.text_printer.specs.Programs.{word_text}
 use Rattle.text_printer.proofs.Programs.{length-line}
 use native.Mathlib.Omega.{arith}
 use Rattle.byte_writer.specs.Texts.{put-append}
-use borrow.Author.Rules.{rules}
 use Rattle.text_printer.proofs.put_instruction.Goals as goal
 
 pub put_fields-after_fields-requires : goal.put_fields-after_fields-requires

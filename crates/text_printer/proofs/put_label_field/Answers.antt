@@ -2,7 +2,6 @@
 use mathlib.Core.Path.{◌≡◌}
 use native.Mathlib.Omega.{arith}
 use Rattle.byte_writer.specs.Texts.{put-append}
-use borrow.Author.Rules.{rules}
 use Rattle.text_printer.proofs.put_label_field.Goals as goal
 
 pub put_decimal-requires : goal.put_decimal-requires

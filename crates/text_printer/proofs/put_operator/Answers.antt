@@ -9,7 +9,6 @@ use Rattle.rules.specs.Rules.Answers.{text}
 use Rattle.rules.specs.Rules.JobFile.{binary}
 use Rattle.token.specs.Operators.{binary_default}
 use Rattle.text_printer.specs.Operands.{operator_part}
-use borrow.Author.Rules.{rules}
 use Rattle.text_printer.proofs.put_operator.Goals as goal
 
 -- the part of the operator at a place that an arm of the code names, and of any other
@@ -55,10 +54,9 @@ put_text-requires-in-9 c = omega (arith, ap (λ (i : ℕ). length (part_at i)) c
 pub put_text-requires-in_default : goal.put_text-requires-in_default
 unfolding operator_part binary text
 put_text-requires-in_default c =
-    let m = c.in_default.in_default-own.rest in
     let first =
-    binary_default _ m.0.0.0.0.0.0.0.0.1 m.0.0.0.0.0.0.0.1 m.0.0.0.0.0.0.1 m.0.0.0.0.0.1 m.0.0.0.0.1
-    m.0.0.0.1 m.0.0.1 m.0.1 m.1 in
+    binary_default c.args.i (λ h. omega arith) (λ h. omega arith) (λ h. omega arith) (λ h. omega arith) (λ h. omega arith)
+    (λ h. omega arith) (λ h. omega arith) (λ h. omega arith) (λ h. omega arith) in
     omega (arith, ap (λ (o : Op2). length (operator_part o)) first)
 
 pub returns-in-1 : goal.returns-in-1
@@ -109,8 +107,7 @@ returns-in-9 c =
 pub returns-in_default : goal.returns-in_default
 unfolding operator_part binary text
 returns-in_default c =
-    let m = c.in_default.in_default-own.rest in
     let first =
-    binary_default _ m.0.0.0.0.0.0.0.0.1 m.0.0.0.0.0.0.0.1 m.0.0.0.0.0.0.1 m.0.0.0.0.0.1 m.0.0.0.0.1
-    m.0.0.0.1 m.0.0.1 m.0.1 m.1 in
+    binary_default c.args.i (λ h. omega arith) (λ h. omega arith) (λ h. omega arith) (λ h. omega arith) (λ h. omega arith)
+    (λ h. omega arith) (λ h. omega arith) (λ h. omega arith) (λ h. omega arith) in
     rw first c.put_text-in_default.ensures

@@ -1,23 +1,16 @@
 -- `put_program` meets its contract. The invariant: the text of the instructions left ends where the whole text ends. Assumes nothing.
 use mathlib.Core.Path.{◌≡◌, refl}
-use mathlib.Core.Bool.{true}
-use mathlib.Core.List.{List, [], ◌++◌}
-use Prim.Native.Nat.{ℕ, suc, zero-le, ◌+◌, ◌-◌, ◌^◌, ◌≤◌}
+use mathlib.Core.List.{◌++◌}
+use Prim.Native.Nat.{suc, zero-le, ◌+◌, ◌-◌, ◌^◌}
 use native.Mathlib.Nat.{sub-zero}
 use native.Mathlib.Omega.{arith}
-use Rattle.rules.specs.Rules.JobFile.{got, instr, program}
-use Rattle.rules.specs.Rules.TextPrinting.{instr_text, program_text}
-use Rattle.rules.specs.Theorems.Readers.{readable, value_or}
+use Rattle.rules.specs.Rules.JobFile.{got, instr}
+use Rattle.rules.specs.Rules.TextPrinting.{instr_text}
 use Rattle.instruction.specs.Meaning.{meaning}
-use Rattle.byte_writer.specs.Texts.{Left, left_done, left-length, left-room, left-next}
+use Rattle.byte_writer.specs.Texts.{left_done, left-room, left-next}
 use Rattle.text_printer.specs.Programs.{program_printed}
-use Rattle.text_printer.proofs.Programs.{first_of, first_unrefused, first_printable, first-later, first-split, none_left, printed-length}
-use borrow.Author.Rules.{rules}
+use Rattle.text_printer.proofs.Programs.{first_of, first_unrefused, first_printable, first-later, first-split, none_left, printed-length, text_left}
 use Rattle.text_printer.proofs.put_program.Goals as goal
-
--- the text of the instructions that are left at an offset, after i of n
-abbrev text_left : ℕ → List ℕ → ℕ → ℕ → List ℕ
-text_left n p offset i = program_text (value_or [] (program n (n - i) i p offset))
 
 pub loop-i-init : goal.loop-i-init
 unfolding program_printed

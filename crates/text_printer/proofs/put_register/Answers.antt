@@ -2,7 +2,6 @@
 use native.Mathlib.Omega.{arith}
 use Rattle.rules.specs.Rules.TextPrinting.{register_text}
 use Rattle.byte_writer.specs.Texts.{put-append}
-use borrow.Author.Rules.{rules}
 use Rattle.text_printer.proofs.put_register.Goals as goal
 
 pub put_byte-digits-requires : goal.put_byte-digits-requires

@@ -4,7 +4,6 @@ use Rattle.rules.specs.Rules.TextPrinting.{register_text, expr_text, spaced}
 use Rattle.token.specs.Meaning.{tokens_of}
 use native.Mathlib.Omega.{arith}
 use Rattle.byte_writer.specs.Texts.{put-append}
-use borrow.Author.Rules.{rules}
 use Rattle.text_printer.proofs.put_register_and_expression.Goals as goal
 
 pub put_register_field-next-requires : goal.put_register_field-next-requires

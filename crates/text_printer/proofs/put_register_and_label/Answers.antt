@@ -4,7 +4,6 @@ use Rattle.rules.specs.Rules.Listing.{decimal}
 use Rattle.rules.specs.Rules.TextPrinting.{register_text, spaced}
 use native.Mathlib.Omega.{arith}
 use Rattle.byte_writer.specs.Texts.{put-append}
-use borrow.Author.Rules.{rules}
 use Rattle.text_printer.proofs.put_register_and_label.Goals as goal
 
 pub put_register_field-next-requires : goal.put_register_field-next-requires

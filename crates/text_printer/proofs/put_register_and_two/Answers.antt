@@ -4,7 +4,6 @@ use Rattle.token.specs.Meaning.{tokens_of}
 use Rattle.text_printer.proofs.Programs.{length_three}
 use native.Mathlib.Omega.{arith}
 use Rattle.byte_writer.specs.Texts.{put-append}
-use borrow.Author.Rules.{rules}
 use Rattle.text_printer.proofs.put_register_and_two.Goals as goal
 
 pub put_register_field-condition-requires : goal.put_register_field-condition-requires

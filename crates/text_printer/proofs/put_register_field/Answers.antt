@@ -1,6 +1,5 @@
 -- `put_register_field` meets its contract: a space, then the field. Assumes nothing.
 use Rattle.byte_writer.specs.Texts.{put-append}
-use borrow.Author.Rules.{rules}
 use Rattle.text_printer.proofs.put_register_field.Goals as goal
 
 pub returns : goal.returns

@@ -9,7 +9,6 @@ use Rattle.rules.specs.Rules.Answers.{text}
 use Rattle.rules.specs.Rules.JobFile.{unary}
 use Rattle.token.specs.Operators.{unary_default}
 use Rattle.text_printer.specs.Operands.{sign_part}
-use borrow.Author.Rules.{rules}
 use Rattle.text_printer.proofs.put_sign.Goals as goal
 
 -- the part of the operator at a place that an arm of the code names, and of any other
@@ -23,8 +22,7 @@ put_text-requires c = omega (arith, ap (λ (i : ℕ). length (part_at i)) c.in-1
 pub put_text-requires-in_default : goal.put_text-requires-in_default
 unfolding sign_part unary text
 put_text-requires-in_default c =
-    let m = c.in_default.in_default-own.rest in
-    omega (arith, ap (λ (o : Op1). length (sign_part o)) (unary_default _ m.1))
+    omega (arith, ap (λ (o : Op1). length (sign_part o)) (unary_default c.args.i (λ h. omega arith)))
 
 pub returns-in-1 : goal.returns-in-1
 unfolding sign_part unary text
@@ -34,5 +32,4 @@ returns-in-1 c =
 pub returns-in_default : goal.returns-in_default
 unfolding sign_part unary text
 returns-in_default c =
-    let m = c.in_default.in_default-own.rest in
-    rw (unary_default _ m.1) c.put_text-in_default.ensures
+    rw (unary_default c.args.i (λ h. omega arith)) c.put_text-in_default.ensures

@@ -2,7 +2,6 @@
 use Rattle.rules.specs.Rules.Answers.{text}
 use Rattle.rules.specs.Rules.TextReading.{instruction_words}
 use Rattle.text_printer.specs.Programs.{word_text}
-use borrow.Author.Rules.{rules}
 use Rattle.text_printer.proofs.put_word.Goals as goal
 
 pub returns-in-Skip : goal.returns-in-Skip
