@@ -191,7 +191,7 @@ step-expired code M = go M.branches refl
   where
     go : (bs : List Branch) → M.branches ≡ bs → expired_on (end_place code) M.place bs ≡ true → Top code M
     go [] e h = absurd (true≢false (sym h))
-    go (b ∷ bs) e h = record { top = b; others = bs; branches = e; rolls = unfold step step_on expired in rw (e, step_on, h) }
+    go (b ∷ bs) e h = record { top = b; others = bs; branches = e; rolls = ap (step_on code M) e ∙ (unfold step_on expired in rw h) }
 
 step-forward : (code : Code) (M : Machine) → expired_on (end_place code) M.place M.branches ≡ false
     → step code M ≡ forward code M (fetch code M.place)
@@ -200,8 +200,8 @@ step-forward code M = go M.branches refl
   where
     go : (bs : List Branch) → M.branches ≡ bs → expired_on (end_place code) M.place bs ≡ false
         → step_on code M M.branches ≡ forward code M (fetch code M.place)
-    go [] e h = unfold step_on in rw (e, step_on)
-    go (b ∷ bs) e h = unfold step_on expired in rw (e, step_on, h)
+    go [] e h = ap (step_on code M) e ∙ (unfold step_on in refl)
+    go (b ∷ bs) e h = ap (step_on code M) e ∙ (unfold step_on expired in rw h)
 
 -- where no branch has expired, the step is that of the instruction at the place
 pub forward-step : (mode : Mode) (code : Code) (M : Machine) → expired_on (end_place code) M.place M.branches ≡ false

@@ -78,7 +78,6 @@ returns-in-RollBack c mode trace s =
     foresees_nothing a.p.now a.t mode a.work.now trace a.c (search (rules, sets.0)) (search (rules, sets.1.0))
     (rolls_quiet a.p.now a.t mode a.work.now k s g)
 
--- HAND: bare at-record
 pub returns-in-Advance : goal.returns-in-Advance
 returns-in-Advance c mode trace s =
     let a = c.args in
@@ -93,4 +92,4 @@ returns-in-Advance c mode trace s =
     ∙ fetched_same p a.t mode w k s (place_inside g) c.new-place.ensures c.fetch-d.ensures in
     let o = c.sight_of-next.ensures in
     foresees p a.t mode w trace a.c c.sight_of-next.result.seen (o.rule ∙ step-cause p a.t mode w k g e)
-    (o.set _ k a.t.cells ∙ step-seen p a.t mode w k g e) o.size (omega arith) at-record.«record».ensures c.gather_unmade.ensures
+    (o.set _ k a.t.cells ∙ step-seen p a.t mode w k g e) o.size (omega arith) c.«record».ensures c.gather_unmade.ensures

@@ -63,7 +63,11 @@ pub chosen-v-requires : goal.chosen-v-requires
 chosen-v-requires c =
     let q = rw c.in-AssignIf.is at c.requires in
     let r = q.unexpired.fits.room in
-    (second-sound c.args.p.now c.in-AssignIf.is c.requires.sound, (omega arith, q.below))
+    record {
+      e_value = second-sound c.args.p.now c.in-AssignIf.is c.requires.sound;
+      registers_in_bounds = omega arith;
+      r_lt_registers = q.below;
+    }
 
 pub assign-requires-in-AssignIf : goal.assign-requires-in-AssignIf
 assign-requires-in-AssignIf c =
@@ -82,21 +86,21 @@ skip-requires-in-Barrier c =
 pub returns-then-not-subset : goal.returns-then-not-subset
 returns-then-not-subset c =
     let a = c.args in
-    not_carried a.i a.a.deps refl (sym c.subset.ensures ∙ left_false _ c.if-not-subset.true)
+    not_carried a.i a.a.deps refl (sym c.subset.ensures ∙ c.if-not-subset.true)
     (λ code. load-seen a.p.now a.t (standing a.work.now a.trace.now a.c) code c.in-Load.is
     (rw c.in-Load.is at c.requires.value))
 
 pub returns-then-not-subset-2 : goal.returns-then-not-subset-2
 returns-then-not-subset-2 c =
     let a = c.args in
-    not_carried a.i a.a.deps refl (sym c.subset-in-Store.ensures ∙ left_false _ c.if-not-subset-2.true)
+    not_carried a.i a.a.deps refl (sym c.subset-in-Store.ensures ∙ c.if-not-subset-2.true)
     (λ code. store-seen a.p.now a.t (standing a.work.now a.trace.now a.c) code c.in-Store.is
     (rw c.in-Store.is at c.requires.value))
 
 pub returns-then-not-subset-3 : goal.returns-then-not-subset-3
 returns-then-not-subset-3 c =
     let a = c.args in
-    not_carried a.i a.a.deps refl (sym c.subset-in-Jump.ensures ∙ left_false _ c.if-not-subset-3.true)
+    not_carried a.i a.a.deps refl (sym c.subset-in-Jump.ensures ∙ c.if-not-subset-3.true)
     (λ code. jump-seen a.p.now a.t (standing a.work.now a.trace.now a.c) code c.in-Jump.is
     (rw c.in-Jump.is at c.requires.value))
 
@@ -104,7 +108,7 @@ pub returns-then-not-subset-4 : goal.returns-then-not-subset-4
 returns-then-not-subset-4 c =
     let a = c.args in
     let q = rw c.in-BranchZero.is at c.requires in
-    not_carried a.i a.a.deps refl (sym c.subset-in-BranchZero.ensures ∙ left_false _ c.if-not-subset-4.true)
+    not_carried a.i a.a.deps refl (sym c.subset-in-BranchZero.ensures ∙ c.if-not-subset-4.true)
     (λ code. branch-seen a.p.now a.t (standing a.work.now a.trace.now a.c) code c.in-BranchZero.is q.below
     (rw c.in-BranchZero.is at c.requires.value ∙ register-value _ _))
 
@@ -125,18 +129,18 @@ returns-in-Assign c =
 pub returns-else-not-subset : goal.returns-else-not-subset
 returns-else-not-subset c =
     load-carried c.in-Load.is (rw c.in-Load.is at c.requires.value)
-    (sym c.subset.ensures ∙ kept-true _ c.if-not-subset.false) c.load.ensures
+    (sym c.subset.ensures ∙ c.if-not-subset.false) c.load.ensures
 
 pub returns-else-not-subset-2 : goal.returns-else-not-subset-2
 returns-else-not-subset-2 c =
     store-carried c.in-Store.is (rw c.in-Store.is at c.requires.value)
-    (sym c.subset-in-Store.ensures ∙ kept-true _ c.if-not-subset-2.false) c.store.ensures
+    (sym c.subset-in-Store.ensures ∙ c.if-not-subset-2.false) c.store.ensures
 
 pub returns-else-not-subset-3 : goal.returns-else-not-subset-3
 returns-else-not-subset-3 c =
     let l = c.requires.limits.cells in
     jump-carried c.in-Jump.is (rw c.in-Jump.is at c.requires.value)
-    (sym c.subset-in-Jump.ensures ∙ kept-true _ c.if-not-subset-3.false) c.jump_to-place.ensures
+    (sym c.subset-in-Jump.ensures ∙ c.if-not-subset-3.false) c.jump_to-place.ensures
     (c.go_to.ensures.carried c.args.a c.args.t.cells refl c.requires.unexpired (omega arith))
 
 pub returns-else-not-subset-4 : goal.returns-else-not-subset-4
@@ -144,7 +148,7 @@ returns-else-not-subset-4 c =
     let l = c.requires.limits.cells in
     let q = rw c.in-BranchZero.is at c.requires in
     branch-carried c.in-BranchZero.is q.below (rw c.in-BranchZero.is at c.requires.value ∙ register-value _ _)
-    (sym c.subset-in-BranchZero.ensures ∙ kept-true _ c.if-not-subset-4.false) c.branch_to-place.ensures
+    (sym c.subset-in-BranchZero.ensures ∙ c.if-not-subset-4.false) c.branch_to-place.ensures
     (c.go_to-in-BranchZero.ensures.carried c.args.a c.args.t.cells refl c.requires.unexpired (omega arith))
 
 pub returns-in-AssignIf : goal.returns-in-AssignIf
