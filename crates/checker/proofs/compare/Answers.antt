@@ -16,7 +16,7 @@ compare_accepted-requires c =
 pub returns-in-Accepted : goal.returns-in-Accepted
 returns-in-Accepted c =
     let a = c.args in
-    let l = pair_lent a.first-trace.now a.second-trace.now a.work.now in
+    let l = pair_lent a.first_trace.now a.second_trace.now a.work.now in
     pair-promise a.job.now a.second.now a.costs.now l c.compare_accepted.ensures
 
 pub returns-in-Refused : goal.returns-in-Refused
@@ -24,6 +24,6 @@ returns-in-Refused c =
     let a = c.args in
     let f = a.job.now in
     let s = a.second.now in
-    let l = pair_lent a.first-trace.now a.second-trace.now a.work.now in
+    let l = pair_lent a.first_trace.now a.second_trace.now a.work.now in
     let p = read-refused f c.read_job-read.ensures c.in-Refused.is in
     pair-promise f s a.costs.now l (pair-rejected f s a.costs.now _ p l)

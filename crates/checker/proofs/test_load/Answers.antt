@@ -18,7 +18,7 @@ test_accepted-requires c =
 pub returns-in-Accepted : goal.returns-in-Accepted
 returns-in-Accepted c =
     let a = c.args in
-    let l = test_load_lent a.first-trace.now a.second-trace.now a.work.now a.state.now in
+    let l = test_load_lent a.first_trace.now a.second_trace.now a.work.now a.state.now in
     test_load_promise a.job.now a.seed a.costs.now l (record { each = λ i. omega (arith, c.shared_slice_known-1.given i) })
     (omega (arith, c.ranges)) c.test_accepted.ensures
 
@@ -27,7 +27,7 @@ pub returns-in-Refused : goal.returns-in-Refused
 returns-in-Refused c =
     let a = c.args in
     let f = a.job.now in
-    let l = test_load_lent a.first-trace.now a.second-trace.now a.work.now a.state.now in
+    let l = test_load_lent a.first_trace.now a.second_trace.now a.work.now a.state.now in
     let p = read-refused f c.read_job-read.ensures c.in-Refused.is in
     test_load_promise f a.seed a.costs.now l (record { each = λ i. omega (arith, c.shared_slice_known-1.given i) })
     (omega (arith, c.ranges)) (test_load_rejected f a.seed a.costs.now _ p l)

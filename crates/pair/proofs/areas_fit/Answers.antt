@@ -5,9 +5,9 @@ use Rattle.pair.proofs.areas_fit.Goals as goal
 pub returns-then-work-lt-WORDS : goal.returns-then-work-lt-WORDS
 returns-then-work-lt-WORDS c =
     let a = c.args in
-    work_short a.first-trace.now a.second-trace.now a.work.now c.if-work-lt-WORDS.true
+    work_short a.first_trace.now a.second_trace.now a.work.now c.if-work-lt-WORDS.true
 
 pub returns : goal.returns
 returns c =
     let a = c.args in
-    traces_decide a.first-trace.now a.second-trace.now a.work.now c.if-work-lt-WORDS.false
+    traces_decide a.first_trace.now a.second_trace.now a.work.now c.if-work-lt-WORDS.false

@@ -18,19 +18,19 @@ overflow_mul-n c =
 pub returns-then-second-n : goal.returns-then-second-n
 returns-then-second-n c =
     let a = c.args in
-    other-size c.requires.0 a.second.now a.costs.now a.first-trace.now a.second-trace.now a.work.now
+    other-size c.requires.0 a.second.now a.costs.now a.first_trace.now a.second_trace.now a.work.now
     (rw c.locations-n.ensures at c.if-second-n.true)
 
 pub returns-then-not-costs_fit : goal.returns-then-not-costs_fit
 returns-then-not-costs_fit c =
     let a = c.args in
-    no_table c.requires.0 a.second.now a.costs.now a.first-trace.now a.second-trace.now a.work.now
+    no_table c.requires.0 a.second.now a.costs.now a.first_trace.now a.second_trace.now a.work.now
     (rw c.locations-n.ensures at c.if-second-n.false) (sym c.costs_fit.ensures ∙ c.if-not-costs_fit.true)
 
 pub returns-then-not-areas_fit : goal.returns-then-not-areas_fit
 returns-then-not-areas_fit c =
     let a = c.args in
-    unfit c.requires.0 a.second.now a.costs.now a.first-trace.now a.second-trace.now a.work.now
+    unfit c.requires.0 a.second.now a.costs.now a.first_trace.now a.second_trace.now a.work.now
     (rw c.locations-n.ensures at c.if-second-n.false) (sym c.costs_fit.ensures ∙ c.if-not-costs_fit.false)
     (sym c.areas_fit.ensures ∙ c.if-not-areas_fit.true)
 
@@ -40,6 +40,6 @@ compare_runs-requires c =
     let table = sym c.costs_fit.ensures ∙ c.if-not-costs_fit.false in
     let fit = sym c.areas_fit.ensures ∙ c.if-not-areas_fit.false in
     record {
-      ready = ready_by c.requires.0 c.requires.1 table a.first-trace.now a.second-trace.now a.work.now fit;
+      ready = ready_by c.requires.0 c.requires.1 table a.first_trace.now a.second_trace.now a.work.now fit;
       sized = rw c.locations-n.ensures at c.if-second-n.false;
     }

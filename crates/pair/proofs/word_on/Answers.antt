@@ -36,5 +36,5 @@ slice_bounds-pair_word-end-2 c =
 pub returns : goal.returns
 returns c =
     let a = c.args in
-    word-found a.job.now a.t a.public a.second.now a.first-trace.now a.second-trace.now a.c a.d
+    word-found a.job.now a.t a.public a.second.now a.first_trace.now a.second_trace.now a.c a.d
     (rw c.locations-n.ensures at c.alike_bytes-alike.ensures) c.pair_word.ensures

@@ -15,19 +15,19 @@ locations-n-requires c =
 pub returns-then-not-costs_fit : goal.returns-then-not-costs_fit
 returns-then-not-costs_fit c =
     let a = c.args in
-    no_table c.requires.0 a.seed a.costs.now a.first-trace.now a.second-trace.now a.work.now a.state.now
+    no_table c.requires.0 a.seed a.costs.now a.first_trace.now a.second_trace.now a.work.now a.state.now
     (sym c.costs_fit.ensures ∙ c.if-not-costs_fit.true)
 
 pub returns-then-not-fit : goal.returns-then-not-fit
 returns-then-not-fit c =
     let a = c.args in
-    unfit c.requires.0 a.seed a.costs.now a.first-trace.now a.second-trace.now a.work.now a.state.now
+    unfit c.requires.0 a.seed a.costs.now a.first_trace.now a.second_trace.now a.work.now a.state.now
     (sym c.costs_fit.ensures ∙ c.if-not-costs_fit.false) (sym c.areas_fit-fit.ensures ∙ c.if-not-fit.true)
 
 pub returns-then-seed-eq0 : goal.returns-then-seed-eq0
 returns-then-seed-eq0 c =
     let a = c.args in
-    no_seed c.requires.0 a.seed a.costs.now a.first-trace.now a.second-trace.now a.work.now a.state.now
+    no_seed c.requires.0 a.seed a.costs.now a.first_trace.now a.second_trace.now a.work.now a.state.now
     (sym c.costs_fit.ensures ∙ c.if-not-costs_fit.false) (sym c.areas_fit-fit.ensures ∙ c.if-not-fit.false)
     c.if-seed-eq0.true
 
@@ -40,7 +40,7 @@ pub returns-then-state-n : goal.returns-then-state-n
 returns-then-state-n c =
     let a = c.args in
     let n = c.locations-n.ensures in
-    short_state c.requires.0 a.seed a.costs.now a.first-trace.now a.second-trace.now a.work.now a.state.now
+    short_state c.requires.0 a.seed a.costs.now a.first_trace.now a.second_trace.now a.work.now a.state.now
     (sym c.costs_fit.ensures ∙ c.if-not-costs_fit.false) (sym c.areas_fit-fit.ensures ∙ c.if-not-fit.false)
     c.if-seed-eq0.false (omega arith)
 
@@ -51,7 +51,7 @@ run_load-requires c =
     let table = sym c.costs_fit.ensures ∙ c.if-not-costs_fit.false in
     let fit = sym c.areas_fit-fit.ensures ∙ c.if-not-fit.false in (
       record {
-        ready = ready_by c.requires.0 c.requires.1 table a.first-trace.now a.second-trace.now a.work.now fit;
+        ready = ready_by c.requires.0 c.requires.1 table a.first_trace.now a.second_trace.now a.work.now fit;
         state = omega arith;
       },
       omega (arith, c.if-seed-eq0.false),
