@@ -4,11 +4,10 @@ use Rattle.printer.proofs.Laws.{prints, printed-bound}
 use borrow.Author.Rules.{rules}
 use Rattle.printer.proofs.print_run.Goals as goal
 
--- HAND: bare c
 pub returns : goal.returns
 returns c =
     let a = c.args in
     let x = c.run-answer.ensures.fixed c.fixed-costs.ensures in record {
       exact = prints a.job.now a.trace.now _ _ x (search rules) (search rules) c.instruction_count-n.ensures c.write_answer.ensures;
-      bounded = omega (arith, printed-bound _ _ _ c.write_answer.ensures, same_length c);
+      bounded = omega (arith, printed-bound _ _ _ c.write_answer.ensures);
     }

@@ -10,7 +10,3 @@ slice_bounds-buffer-end c =
     let r = c.read_file in
     let within = rw c.in-Bytes.is at r.ensures in
     omega (arith, within, r.auto.buffer)
-
--- HAND: place as argument: c.before
-pub slice_bounds-show-end : goal.slice_bounds-show-end
-slice_bounds-show-end c = sym (length-take-le _ _ (array-share-prefix-buffer PLACE-Else1))

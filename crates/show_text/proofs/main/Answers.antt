@@ -6,7 +6,3 @@ use Rattle.show_text.proofs.main.Goals as goal
 
 pub slice_bounds-buffer-end : goal.slice_bounds-buffer-end
 slice_bounds-buffer-end c = rw c.in-Bytes.is at c.read_job.ensures.within
-
--- HAND: place as argument: c.before
-pub slice_bounds-show-end : goal.slice_bounds-show-end
-slice_bounds-show-end c = sym (length-take-le _ _ (array-share-prefix-buffer PLACE-After-known_told))
