@@ -1,6 +1,10 @@
 -- `lay_out` meets its contract: the copy, then each store. Assumes nothing.
+use mathlib.Core.Path.{refl, sym, ap, ◌∙◌}
+use mathlib.Core.List.{List, ◌++◌}
+use Prim.Native.Nat.{ℕ}
 use native.Mathlib.Omega.{arith}
-use lib.ListN.{length-set}
+use lib.ListN.{length, length-set, drop}
+use lib.Seq.{take-length}
 use Rattle.cases.specs.Jobs.{stores}
 use Rattle.cases.proofs.Laws.{laid_out_lem}
 use borrow.Author.Rules.{rules}
@@ -39,9 +43,9 @@ bounds-job-q-8 c = simp length-set (omega arith)
 pub shape_of-job : goal.shape_of-job
 shape_of-job c = simp length-set (search rules)
 
--- HAND: After-slice_known2..copy.ensures.0; After-slice_known2..copy.ensures.1
 pub returns : goal.returns
 unfolding stores
 returns c =
     let a = c.args in
-    laid_out_lem a.program.now a.job.now a.count a.cells a.r0 a.r1 a.window a.budget c.copy.ensures.0 c.copy.ensures.1
+    laid_out_lem a.program.now a.job.now a.count a.cells a.r0 a.r1 a.window a.budget refl
+    (ap (λ (p : List ℕ). p ++ drop (length a.program.now) a.job.now) (c.copy_from_slice.ensures.after ∙ sym (take-length a.program.now)))
