@@ -31,6 +31,7 @@
 #include "checker.h"
 
 enum {
+    OBSERVATIONS_LENT = 65536,
     SEEDS = 1000,
     NO_LOCATION = -1,
     EXIT_NO_LEAK = 0,
@@ -42,10 +43,9 @@ enum {
 static uint8_t job[CHECKER_JOB_BYTES_MAX + 1];
 static size_t job_len;
 static const uint8_t costs[CHECKER_KINDS] = CHECKER_UNIT_COSTS;
-/* The run and each load have trace areas of the same length, which suffices for
- * every job. */
-static uint64_t trace1[CHECKER_TRACE_WORDS_MAX];
-static uint64_t trace2[CHECKER_TRACE_WORDS_MAX];
+/* The run and each load have trace areas of the same length. */
+static uint64_t trace1[2 * OBSERVATIONS_LENT];
+static uint64_t trace2[2 * OBSERVATIONS_LENT];
 static uint64_t end[CHECKER_END_WORDS_MAX];
 static uint64_t work[CHECKER_WORK_WORDS];
 static uint8_t state[CHECKER_STATE_BYTES_MAX];

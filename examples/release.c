@@ -3,75 +3,50 @@
  *
  *   release JOB.mua [COSTS]
  *
- * Prints the verdict, the stop, the counts, the registers and cells that the
- * observations depended on, with and without misprediction, and for each of them
- * the first observation that did: its index, the rule and the label of its
- * instruction. The trace is not printed; the area that is lent for it suffices
- * for every job, so that no run stops as "trace full".
+ * Prints the verdict, the counts, for each register and cell that an observation
+ * depended on which one that was first, the first observations of the
+ * mispredicting run, and the first of the stores outside memory that it remembers
+ * at its stop, each with address and value.
  *
  * COSTS says how much of a branch's window an instruction of each kind takes:
  * eight numbers, such as 1,1,4,1,1,2,1,1, in the order skip, set, load, store,
  * jmp, beqz, cset, spbarr. Without it every instruction takes 1.
  *
- * The exit status is 0 for the verdict clean alone, so that a script can release
- * on it:
- *
- *   0  clean            1  the file cannot be read, or the output not written
- *   3  speculative      2  a wrong call
- *   4  plain
- *   5  undecided
- *   6  refused
+ * The exit status is 0 if the verdict is clean, 1 if it is another one, and 2 if
+ * the job or the table is refused, the file cannot be read or COSTS is not eight
+ * numbers.
  *
  * It takes no memory at run time: everything that the checker needs is lent to
- * it from the static areas below. "check --verdict" is this program.
+ * it from the static areas below.
  */
-#include <errno.h>
 #include <inttypes.h>
 #include <stdio.h>
 #include <stdlib.h>
-#include <string.h>
 
 #include "checker.h"
 
 enum {
+    OBSERVATIONS_LENT = 65536,
+    OBSERVATIONS_SHOWN = 20,
+    STORES_SHOWN = 4,
     EXIT_CLEAN = 0,
-    EXIT_NO_ANSWER = 1,
-    EXIT_WRONG_CALL = 2,
-    EXIT_SPECULATIVE = 3,
-    EXIT_PLAIN = 4,
-    EXIT_UNDECIDED = 5,
-    EXIT_REFUSED = 6
+    EXIT_NOT_CLEAN = 1,
+    EXIT_NO_ANSWER = 2
 };
 
 /* One byte more than the longest job, so that a longer file is seen as such. */
 static uint8_t job[CHECKER_JOB_BYTES_MAX + 1];
 static size_t job_len;
 static uint8_t costs[CHECKER_KINDS] = CHECKER_UNIT_COSTS;
-static uint64_t trace[CHECKER_TRACE_WORDS_MAX];
+static uint64_t trace[2 * OBSERVATIONS_LENT];
 static uint64_t end[CHECKER_END_WORDS_MAX];
 static uint64_t work[CHECKER_WORK_WORDS];
 static struct checker_run_answer answer;
 
 static const char *const stops[] = {"finished", "spent", "trace full", "outside full"};
+static const char *const verdicts[] = {"undecided", "clean", "speculative", "plain"};
 static const char *const causes[] = {"branch", "jump", "load", "store"};
-
-/* By enum checker_verdict. */
-static const struct {
-    const char *name;
-    int status;
-} verdicts[] = {
-    {"undecided", EXIT_UNDECIDED},
-    {"clean", EXIT_CLEAN},
-    {"speculative", EXIT_SPECULATIVE},
-    {"plain", EXIT_PLAIN},
-};
-
-/* Says what failed and why, as the system knows it. */
-static int fail(const char *what)
-{
-    fprintf(stderr, "%s: %s\n", what, strerror(errno));
-    return EXIT_NO_ANSWER;
-}
+static const char *const kinds[] = {"start", "rollback", "pc", "load", "store"};
 
 /* Reads the file into the job area; 1 if it could be read. */
 static int read_job(const char *path)
@@ -82,9 +57,7 @@ static int read_job(const char *path)
     }
     job_len = fread(job, 1, sizeof job, file);
     int readable = ferror(file) == 0;
-    int cause = errno;
     fclose(file);
-    errno = cause;
     return readable;
 }
 
@@ -139,44 +112,70 @@ static void print_firsts(void)
     }
 }
 
+static void print_observations(uint64_t count)
+{
+    uint64_t shown = count < OBSERVATIONS_SHOWN ? count : OBSERVATIONS_SHOWN;
+    for (uint64_t i = 0; i < shown; i++) {
+        printf("  %s %" PRIu64 "\n", kinds[trace[2 * i]], trace[2 * i + 1]);
+    }
+    if (shown < count) {
+        printf("  and %" PRIu64 " more\n", count - shown);
+    }
+}
+
+/* The stores outside memory, which stand in the end area behind the 16 registers
+ * and the m cells. The job was not refused, so m stands 10 bytes before its end. */
+static void print_stores(void)
+{
+    size_t cells = job[job_len - 10] + 256u * job[job_len - 9];
+    const uint64_t *table = end + 16 + cells;
+    uint64_t shown = table[0] < STORES_SHOWN ? table[0] : STORES_SHOWN;
+    printf("outside %" PRIu64 "\n", table[0]);
+    for (uint64_t i = 0; i < shown; i++) {
+        printf("  %" PRIu64 " holds %" PRIu64 "\n", table[1 + 2 * i], table[2 + 2 * i]);
+    }
+    if (shown < table[0]) {
+        printf("  and %" PRIu64 " more\n", table[0] - shown);
+    }
+}
+
 static void print_answer(void)
 {
-    printf("verdict %s\n", verdicts[answer.verdict].name);
+    printf("verdict %s\n", verdicts[answer.verdict]);
     printf("stop %s\n", stops[answer.stop]);
-    printf("observations %" PRIu64 "\n", answer.observations);
     printf("steps %" PRIu64 "\n", answer.steps);
     printf("rollbacks %" PRIu64 "\n", answer.rollbacks);
     print_set("depends", answer.depends);
     print_set("plain", answer.plain);
     print_firsts();
+    printf("observations %" PRIu64 "\n", answer.observations);
+    print_observations(answer.observations);
+    print_stores();
 }
 
 int main(int argc, char **argv)
 {
     if (argc < 2 || argc > 3) {
         fprintf(stderr, "usage: release JOB.mua [COSTS]\n");
-        return EXIT_WRONG_CALL;
+        return EXIT_NO_ANSWER;
     }
     if (argc > 2 && !read_costs(argv[2])) {
         fprintf(stderr, "%s: not eight numbers with commas between them\n", argv[2]);
-        return EXIT_WRONG_CALL;
+        return EXIT_NO_ANSWER;
     }
     if (!read_job(argv[1])) {
-        return fail(argv[1]);
+        fprintf(stderr, "cannot read %s\n", argv[1]);
+        return EXIT_NO_ANSWER;
     }
-    int status;
     uint32_t refused = checker_run(job, job_len, costs, sizeof costs,
                                    trace, sizeof trace / sizeof trace[0],
                                    end, sizeof end / sizeof end[0],
                                    work, sizeof work / sizeof work[0],
                                    &answer);
-    if (refused == CHECKER_DONE) {
-        print_answer();
-        status = verdicts[answer.verdict].status;
-    } else {
+    if (refused != CHECKER_DONE) {
         printf("refused %" PRIu32 "\n", refused);
-        status = EXIT_REFUSED;
+        return EXIT_NO_ANSWER;
     }
-    /* Only now is it known that everything was written. */
-    return fflush(stdout) == 0 && !ferror(stdout) ? status : fail("standard output");
+    print_answer();
+    return answer.verdict == CHECKER_VERDICT_CLEAN ? EXIT_CLEAN : EXIT_NOT_CLEAN;
 }
