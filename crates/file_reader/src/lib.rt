@@ -67,8 +67,8 @@ fn read_all<F: Read>(rt: &impl Eprint, file: &mut F, path: &str, buffer: &mut [u
     Reading::Bytes(done)
 }
 
-// A name that no file has is read as no bytes; any other failure is told on standard error. A file that is longer than the buffer fills it.
-pub fn read_file(rt: &(impl Files + Eprint), path: &str, buffer: &mut [u8]) -> Reading
+// Reads the file of that name, as `read_file` does.
+fn read_named(rt: &(impl Files + Eprint), path: &str, buffer: &mut [u8]) -> Reading
     ensures { InBuffer result (length buffer.new) }
 {
     let mut file = match File::open(rt, path) {
@@ -84,8 +84,22 @@ pub fn read_file(rt: &(impl Files + Eprint), path: &str, buffer: &mut [u8]) -> R
     read_all(rt, &mut file, path, buffer)
 }
 
+// A name that no file has is read as no bytes; any other failure is told on standard error, as that of a name that is no text, which std cannot
+// open. A file that is longer than the buffer fills it.
+pub fn read_file(rt: &(impl Files + Eprint), path: &[u8], buffer: &mut [u8]) -> Reading
+    ensures { InBuffer result (length buffer.new) }
+{
+    match str::from_utf8(path) {
+        Ok(name) => read_named(rt, name, buffer),
+        Err(_) => {
+            let _ = eprintln!(rt; "a file's name is not UTF-8");
+            Reading::Failed
+        }
+    }
+}
+
 // The bytes of a job's file. One that fills the buffer is refused as a job, whatever follows.
-pub fn read_job(rt: &(impl Files + Eprint), path: &str, buffer: &mut [u8; JOB_BUFFER]) -> Reading
+pub fn read_job(rt: &(impl Files + Eprint), path: &[u8], buffer: &mut [u8; JOB_BUFFER]) -> Reading
     ensures within { InBuffer result (length buffer.new) }
     ensures whole { FullRefused result buffer.new }
 {

@@ -18,7 +18,7 @@ fn show(rt: &(impl Print + Eprint), job: &[u8]) -> ExitCode {
 
 fn main(rt: HostRuntime) -> ExitCode {
     let mut buffer = [0u8; file_reader::JOB_BUFFER];
-    match file_reader::read_job(&rt, "job.mua", &mut buffer) {
+    match file_reader::read_job(&rt, b"job.mua", &mut buffer) {
         Reading::Bytes(n) => show(&rt, &buffer[..n]),
         Reading::Failed => ExitCode::FAILURE,
     }

@@ -43,7 +43,7 @@ fn show(rt: &(impl Print + Eprint), text: &[u8]) -> ExitCode {
 
 fn main(rt: HostRuntime) -> ExitCode {
     let mut buffer = [0u8; MOST];
-    match file_reader::read_file(&rt, "routine.txt", &mut buffer) {
+    match file_reader::read_file(&rt, b"routine.txt", &mut buffer) {
         Reading::Bytes(n) => {
             if n == MOST {
                 let _ = eprintln!(rt; "longer than 262144 bytes");

@@ -1,6 +1,6 @@
 -- What the answers of this crate's code mean in the rules: a token, the tokens of an expression, and what a reader found.
 -- Assumes nothing.
-use Rattle.std.specs.Prelude.{◌≡◌, Bool, List, [], ℕ, get_or}
+use Rattle.std.specs.Prelude.{◌≡◌, List, [], ℕ, get_or}
 use Rattle.rules.specs.Rules.Operators.{neg, add}
 use Rattle.rules.specs.Rules.Expressions.{Token, reg, const, op1, op2, Expr, held, sound}
 use Rattle.rules.specs.Rules.JobFile.{Read, got, refused, unary, binary, tokens}

@@ -1,10 +1,9 @@
 -- `clear_reports` meets its contract. The invariant: the words passed are 0, the others as they were. Assumes nothing.
 use mathlib.Core.Path.{◌≡◌, refl, ap, ◌∙◌}
 use mathlib.Core.List.{List}
-use Prim.Native.Nat.{ℕ, ◌+◌, ◌-◌, ◌≤◌}
+use Prim.Native.Nat.{ℕ, ◌+◌}
 use native.Mathlib.Omega.{arith}
-use borrow.Author.Rules.{rules}
-use lib.ListN.{length, set, replicate, length-set}
+use lib.ListN.{set, replicate, length-set}
 use lib.Seq.{sets}
 use Rattle.answer_words.proofs.Laws.{cleared-next}
 use Rattle.answer_words.proofs.clear_reports.Goals as goal

@@ -1,12 +1,8 @@
 -- `clear_reports` meets its contract. The invariant: the words passed are 0, the others as they were. Assumes nothing.
-use mathlib.Core.Path.{◌≡◌, refl, ap, ◌∙◌}
-use mathlib.Core.List.{List}
-use Prim.Native.Nat.{ℕ, ◌+◌, ◌-◌, ◌≤◌}
-use native.Mathlib.Omega.{arith}
-use borrow.Author.Rules.{rules}
-use lib.ListN.{length, set, replicate, length-set}
+use mathlib.Core.Path.{◌≡◌}
+use Prim.Native.Nat.{◌-◌, ◌≤◌}
+use lib.ListN.{length, replicate}
 use lib.Seq.{sets}
-use Rattle.answer_words.proofs.Laws.{cleared-next}
 use Rattle.answer_words.proofs.clear_reports.Given as goal
 
 abbrev pub invariant-loop-i : goal.invariant-loop-i

@@ -1,6 +1,5 @@
 -- `write_pair` meets its contract. Assumes nothing.
 use Rattle.answer_words.proofs.Laws.{pair-written}
-use borrow.Author.Rules.{rules}
 use Rattle.answer_words.proofs.write_pair.Goals as goal
 
 pub returns : goal.returns

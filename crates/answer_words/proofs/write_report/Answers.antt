@@ -2,7 +2,6 @@
 use native.Mathlib.Omega.{arith}
 use lib.ListN.{length-set}
 use Rattle.answer_words.proofs.Laws.{report-written}
-use borrow.Author.Rules.{rules}
 use Rattle.answer_words.proofs.write_report.Goals as goal
 
 pub bounds-answer-at-2 : goal.bounds-answer-at-2

@@ -1,11 +1,7 @@
 -- `write_reports` meets its contract. The invariant: the locations passed have their words, and those of all others are 0. Assumes nothing.
-use mathlib.Core.Path.{◌≡◌}
 use Prim.Native.Nat.{◌-◌}
-use native.Mathlib.Omega.{arith}
-use lib.ListN.{length}
 use Rattle.location.specs.Sets.{limit}
-use Rattle.answer_words.proofs.Laws.{Reported, none-reported, reported-length, reported-word, reported-other, reported-next, all-reported}
-use borrow.Author.Rules.{rules}
+use Rattle.answer_words.proofs.Laws.{Reported}
 use Rattle.answer_words.proofs.write_reports.Given as goal
 
 abbrev pub invariant-loop-l : goal.invariant-loop-l

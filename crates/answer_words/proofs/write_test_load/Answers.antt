@@ -1,6 +1,5 @@
 -- `write_test_load` meets its contract. Assumes nothing.
 use Rattle.answer_words.proofs.Laws.{test_load_written}
-use borrow.Author.Rules.{rules}
 use Rattle.answer_words.proofs.write_test_load.Goals as goal
 
 pub returns : goal.returns

@@ -1,6 +1,5 @@
 -- `write_unfinished` meets its contract. Assumes nothing.
 use Rattle.answer_words.proofs.Laws.{unfinished-written}
-use borrow.Author.Rules.{rules}
 use Rattle.answer_words.proofs.write_unfinished.Goals as goal
 
 pub returns : goal.returns

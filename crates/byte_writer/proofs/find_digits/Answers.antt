@@ -1,10 +1,10 @@
 -- `find_digits` meets its contract. The invariant: the number's digits are those of what is left of it and then those written.
 -- Assumes nothing.
-use mathlib.Core.Path.{◌≡◌, sym, ◌∙◌}
+use mathlib.Core.Path.{sym, ◌∙◌}
 use native.Mathlib.Omega.{arith}
-use lib.ListN.{length, length-set}
+use lib.ListN.{length-set}
 use Rattle.rules.specs.Rules.Listing.{decimal}
-use Rattle.byte_writer.proofs.Digits.{Found, found_none, found-positive, found-more, found_all}
+use Rattle.byte_writer.proofs.Digits.{found_none, found-positive, found-more, found_all}
 use Rattle.byte_writer.proofs.find_digits.Goals as goal
 
 pub loop-rest-init : goal.loop-rest-init

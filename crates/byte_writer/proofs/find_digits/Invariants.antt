@@ -1,10 +1,8 @@
 -- `find_digits` meets its contract. The invariant: the number's digits are those of what is left of it and then those written.
 -- Assumes nothing.
-use mathlib.Core.Path.{◌≡◌, sym, ◌∙◌}
-use native.Mathlib.Omega.{arith}
-use lib.ListN.{length, length-set}
-use Rattle.rules.specs.Rules.Listing.{decimal}
-use Rattle.byte_writer.proofs.Digits.{Found, found_none, found-positive, found-more, found_all}
+use mathlib.Core.Path.{◌≡◌}
+use lib.ListN.{length}
+use Rattle.byte_writer.proofs.Digits.{Found}
 use Rattle.byte_writer.proofs.find_digits.Given as goal
 
 abbrev pub invariant-loop-rest : goal.invariant-loop-rest

@@ -4,7 +4,6 @@ use native.Mathlib.Omega.{arith}
 use lib.ListN.{length}
 use Rattle.rules.specs.Rules.Listing.{decimal}
 use Rattle.byte_writer.proofs.Digits.{digits-part}
-use borrow.Author.Rules.{rules}
 use Rattle.byte_writer.proofs.put_decimal.Goals as goal
 
 pub put_text-requires : goal.put_text-requires

@@ -5,7 +5,7 @@ use Prim.Native.Nat.{◌-◌, ◌/◌, ◌%◌, ◌^◌}
 use native.Mathlib.Omega.{arith}
 use Rattle.rules.specs.Rules.Encoding.{bytes_of}
 use Rattle.rules.proofs.Theorems.EncodedFields.{length-bytes_of}
-use Rattle.byte_writer.specs.Texts.{Left, left_done, left-length, left-room, left-next}
+use Rattle.byte_writer.specs.Texts.{left_done, left-length, left-room, left-next}
 use Rattle.byte_writer.proofs.Laws.{number-next, number-over}
 use Rattle.byte_writer.proofs.put_number.Goals as goal
 

@@ -1,10 +1,10 @@
 -- `put_text` meets its contract. The invariant: what is left of the bytes ends where all of them end. Assumes nothing.
 use mathlib.Core.Path.{refl}
 use mathlib.Core.List.{[], ◌∷◌}
-use Prim.Native.Nat.{◌+◌, ◌-◌, ◌^◌, ◌≤◌}
+use Prim.Native.Nat.{◌+◌, ◌^◌, ◌≤◌}
 use native.Mathlib.Omega.{arith}
 use lib.ListN.{length, get_or, drop, drop_of_length-le}
-use Rattle.byte_writer.specs.Texts.{Left, left_done, left-length, left-room, left-next}
+use Rattle.byte_writer.specs.Texts.{left_done, left-length, left-room, left-next}
 use Rattle.byte_writer.proofs.Laws.{byte_next}
 use Rattle.byte_writer.proofs.put_text.Goals as goal
 

@@ -2,7 +2,6 @@
 use mathlib.Core.Path.{ap, ◌∙◌}
 use Prim.Native.Nat.{ℕ, ◌+◌}
 use Rattle.rules.specs.Rules.JobFile.{little}
-use borrow.Author.Rules.{rules}
 use Rattle.descriptor.proofs.constant_of.Goals as goal
 
 pub returns : goal.returns

@@ -1,7 +1,6 @@
 -- `descriptor::count_at` meets its contract. Assumes nothing.
 use borrow.Author.Tests.{ne_eqb}
 use Rattle.descriptor.specs.Descriptors.{count_at}
-use borrow.Author.Rules.{rules}
 use Rattle.descriptor.proofs.count_at.Goals as goal
 
 pub returns-then-p-at-eq4 : goal.returns-then-p-at-eq4

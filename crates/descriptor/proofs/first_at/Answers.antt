@@ -1,7 +1,6 @@
 -- `descriptor::first_at` meets its contract, by the kind byte. Assumes nothing.
 use borrow.Author.Tests.{ne_eqb}
 use Rattle.descriptor.specs.Descriptors.{first_at}
-use borrow.Author.Rules.{rules}
 use Rattle.descriptor.proofs.first_at.Goals as goal
 
 pub returns-in-0 : goal.returns-in-0

@@ -1,6 +1,5 @@
 -- `descriptor::is_skip` meets its contract. Assumes nothing.
 use Rattle.descriptor.proofs.Laws.{skip_tested}
-use borrow.Author.Rules.{rules}
 use Rattle.descriptor.proofs.is_skip.Goals as goal
 
 pub returns : goal.returns

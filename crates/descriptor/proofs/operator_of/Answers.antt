@@ -2,7 +2,6 @@
 use mathlib.Core.Path.{ap}
 use Prim.Native.Nat.{ℕ, ◌+◌, ◌-◌}
 use lib.ListN.{get_or}
-use borrow.Author.Rules.{rules}
 use Rattle.descriptor.proofs.operator_of.Goals as goal
 
 pub overflow_sub-result : goal.overflow_sub-result

@@ -2,7 +2,6 @@
 use mathlib.Core.Path.{◌∙◌}
 use Rattle.descriptor.specs.Descriptors.{kind_shapes, shape_at}
 use Rattle.descriptor.proofs.Laws.{shape-nothing}
-use borrow.Author.Rules.{rules}
 use Rattle.descriptor.proofs.shape_at.Goals as goal
 
 pub returns-in-1 : goal.returns-in-1

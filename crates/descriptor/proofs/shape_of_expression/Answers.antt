@@ -1,6 +1,5 @@
 -- `descriptor::shape_of_expression` meets its contract, by the token count. Assumes nothing.
 use borrow.Author.Tests.{ne_eqb}
-use borrow.Author.Rules.{rules}
 use Rattle.descriptor.proofs.shape_of_expression.Goals as goal
 
 pub returns-then-count-eq1 : goal.returns-then-count-eq1

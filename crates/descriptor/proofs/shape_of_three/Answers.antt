@@ -1,6 +1,5 @@
 -- `descriptor::shape_of_three` meets its contract, by the bytes of the tokens. Assumes nothing.
 use borrow.Author.Tests.{lt-ltb, le-ltb, ne_eqb}
-use borrow.Author.Rules.{rules}
 use Rattle.descriptor.proofs.shape_of_three.Goals as goal
 
 pub returns-then-byte_at-gt15 : goal.returns-then-byte_at-gt15

@@ -3,7 +3,6 @@ use Prim.Native.Nat.{ℕ}
 use Rattle.rules.proofs.Theorems.SetsFirst.{tagged-equal}
 use Rattle.work.specs.Words.{tagged_at}
 use Rattle.expression.proofs.Gathering.{sound-readable}
-use borrow.Author.Rules.{rules}
 use Rattle.expression.proofs.evaluate.Goals as goal
 
 pub set_of-deps-requires : goal.set_of-deps-requires

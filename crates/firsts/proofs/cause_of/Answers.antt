@@ -1,5 +1,4 @@
 -- `cause_of` meets its contract. Assumes nothing.
-use borrow.Author.Rules.{rules}
 use Rattle.firsts.proofs.Laws.{default_cause}
 use Rattle.firsts.proofs.cause_of.Goals as goal
 

@@ -1,6 +1,5 @@
 -- `nothing` meets its contract: no set is observed, so that there is no report. Assumes nothing.
 use mathlib.Core.Path.{ap, sym, ◌∙◌}
-use borrow.Author.Rules.{rules}
 use lib.ListN.{replicate}
 use Rattle.location.specs.Sets.{limit}
 use Rattle.rules.specs.declared.First.{First}

@@ -1,6 +1,5 @@
 -- `pack` meets its contract: the parts fit a word. Assumes nothing.
 use native.Mathlib.Omega.{arith}
-use borrow.Author.Rules.{rules}
 use Rattle.firsts.proofs.Laws.{cause-bound}
 use Rattle.firsts.proofs.pack.Goals as goal
 

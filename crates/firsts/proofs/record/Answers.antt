@@ -1,7 +1,6 @@
 -- `record` meets its contract: of a set that lies within D there is nothing to record. Assumes nothing.
 use mathlib.Core.Path.{sym, ap, ◌∙◌}
 use Prim.Native.Nat.{ℕ}
-use borrow.Author.Rules.{rules}
 use Rattle.firsts.specs.Recording.{recorded}
 use Rattle.firsts.proofs.Laws.{recorded-within}
 use Rattle.firsts.proofs.record.Goals as goal

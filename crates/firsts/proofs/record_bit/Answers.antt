@@ -1,5 +1,4 @@
 -- `record_bit` meets its contract, by the outcomes of its two tests. Assumes nothing.
-use borrow.Author.Rules.{rules}
 use borrow.Author.Tests.{eq-eqb, ne_eqb}
 use Rattle.firsts.proofs.record_bit.Goals as goal
 

@@ -1,12 +1,9 @@
 -- `record_bits` meets its contract. The invariant: what is left to record gives the words that are wanted, and the observed set has no bit
 -- past those that are left. Assumes nothing.
-use mathlib.Core.Path.{◌≡◌, refl, sym, ap, ◌∙◌}
-use Prim.Native.Nat.{ℕ, ◌+◌, ◌-◌, ◌^◌, ◌<◌, ◌≤◌}
-use native.Mathlib.Omega.{arith}
-use borrow.Author.Rules.{rules}
+use mathlib.Core.Path.{◌≡◌}
+use Prim.Native.Nat.{◌+◌, ◌-◌, ◌^◌, ◌<◌, ◌≤◌}
 use lib.ListN.{length}
 use Rattle.firsts.specs.Recording.{recorded_bits}
-use Rattle.firsts.proofs.Laws.{bits_none, length-bit, bits_step, some_left, half_below}
 use Rattle.firsts.proofs.record_bits.Given as goal
 
 abbrev pub invariant-loop-s : goal.invariant-loop-s

@@ -1,12 +1,9 @@
 -- `reports` meets its contract. The invariant: the locations passed have their reports, and nothing is reported of the others yet. Assumes nothing.
 use Prim.Native.Nat.{◌-◌}
-use native.Mathlib.Omega.{arith}
-use borrow.Author.Rules.{rules}
 use Rattle.location.specs.Sets.{limit}
-use Rattle.location.proofs.Filling.{Filled, filled-word, filled-other}
+use Rattle.location.proofs.Filling.{Filled}
 use Rattle.rules.specs.Rules.Firsts.{no_report}
 use Rattle.firsts.specs.Reports.{report_on}
-use Rattle.firsts.proofs.Laws.{reports-none, reports-next, reports-all}
 use Rattle.firsts.proofs.reports.Given as goal
 
 abbrev pub invariant-loop-l : goal.invariant-loop-l

@@ -1,7 +1,6 @@
 -- `unpack` meets its contract. Assumes nothing.
 use mathlib.Core.Path.{ap}
 use Prim.Native.Nat.{◌/◌, ◌%◌}
-use borrow.Author.Rules.{rules}
 use Rattle.rules.specs.declared.Cause.{Cause}
 use Rattle.firsts.proofs.unpack.Goals as goal
 

@@ -4,7 +4,6 @@ use Rattle.instruction.specs.Fields.{instr-kind, instr_unknown}
 use Rattle.instruction.proofs.Laws.{beyond}
 use Rattle.rules.specs.Rules.JobFile.{instr, fields}
 use Rattle.token.specs.Bytes.{byte_past}
-use borrow.Author.Rules.{rules}
 use Rattle.instruction.proofs.decode.Goals as goal
 
 pub returns-then-p-at : goal.returns-then-p-at

@@ -2,7 +2,6 @@
 use mathlib.Core.Path.{sym, ◌∙◌}
 use native.Mathlib.Nat.{sub-eq-zero_of_le}
 use Rattle.instruction.proofs.Laws.{remaining_barrier, remaining-other}
-use borrow.Author.Rules.{rules}
 use Rattle.instruction.proofs.lowered.Goals as goal
 
 pub returns-then-kind-eq-BARRIER : goal.returns-then-kind-eq-BARRIER

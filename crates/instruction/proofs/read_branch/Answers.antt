@@ -1,7 +1,6 @@
 -- `instruction::read_branch` meets its contract: each answer of the two readers, in the order of the rules. Assumes nothing.
 use mathlib.Core.Path.{refl}
 use Rattle.rules.specs.Rules.JobFile.{branch}
-use borrow.Author.Rules.{rules}
 use Rattle.instruction.proofs.read_branch.Goals as goal
 
 pub returns-in-Found-read_label : goal.returns-in-Found-read_label

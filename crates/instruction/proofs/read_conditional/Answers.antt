@@ -2,7 +2,6 @@
 use mathlib.Core.Path.{ap₂}
 use mathlib.Core.Bool.{Bool, ◌&&◌}
 use Rattle.rules.specs.Rules.JobFile.{conditional}
-use borrow.Author.Rules.{rules}
 use Rattle.instruction.proofs.read_conditional.Goals as goal
 
 pub returns-in-Found-read_expression-2 : goal.returns-in-Found-read_expression-2

@@ -1,6 +1,5 @@
 -- `instruction::read_jump` meets its contract, by the two answers of the reader of expressions. Assumes nothing.
 use Rattle.rules.specs.Rules.JobFile.{jump}
-use borrow.Author.Rules.{rules}
 use Rattle.instruction.proofs.read_jump.Goals as goal
 
 pub returns-in-Found : goal.returns-in-Found

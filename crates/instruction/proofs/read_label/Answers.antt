@@ -4,7 +4,6 @@ use native.Mathlib.Omega.{arith}
 use Rattle.rules.specs.Rules.JobFile.{word_of}
 use Prim.Native.Nat.{◌+◌}
 use lib.ListN.{length}
-use borrow.Author.Rules.{rules}
 use Rattle.instruction.proofs.read_label.Goals as goal
 
 pub returns-then-p-at : goal.returns-then-p-at

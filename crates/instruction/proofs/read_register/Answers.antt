@@ -2,7 +2,6 @@
 use borrow.Author.Tests.{lt-ltb, le-ltb}
 use Rattle.rules.specs.Rules.JobFile.{register}
 use Rattle.token.specs.Bytes.{byte-got, byte_past}
-use borrow.Author.Rules.{rules}
 use Rattle.instruction.proofs.read_register.Goals as goal
 
 pub returns-then-p-at : goal.returns-then-p-at

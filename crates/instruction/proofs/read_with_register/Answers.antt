@@ -1,7 +1,6 @@
 -- `instruction::read_with_register` meets its contract: each answer of the two readers, in the order of the rules. Assumes nothing.
 use Rattle.rules.specs.Rules.JobFile.{with_register}
 use Rattle.instruction.proofs.Laws.{postfix_with}
-use borrow.Author.Rules.{rules}
 use Rattle.instruction.proofs.read_with_register.Goals as goal
 
 pub returns-in-Found-read_expression : goal.returns-in-Found-read_expression

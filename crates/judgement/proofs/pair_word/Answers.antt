@@ -1,8 +1,6 @@
 -- `judgement::pair_word` meets its contract: the tests in their order. Assumes nothing.
 use mathlib.Core.Path.{sym, ◌∙◌}
-use borrow.Author.Tests.{not-true, not-false}
 use Rattle.judgement.proofs.Laws.{word_not_alike, word-first_open, word-second_open, word-plain, word_leak, word-equal}
-use borrow.Author.Rules.{rules}
 use Rattle.judgement.proofs.pair_word.Goals as goal
 
 pub returns-then-not-alike : goal.returns-then-not-alike

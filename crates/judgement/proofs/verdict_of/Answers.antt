@@ -1,7 +1,5 @@
 -- `verdict_of` meets its contract: undecided unless finished, else by the two inclusions. Assumes nothing.
 use mathlib.Core.Path.{sym, ◌∙◌}
-use borrow.Author.Tests.{not-true, not-false}
-use borrow.Author.Rules.{rules}
 use Rattle.judgement.proofs.Laws.{judged_undecided, judged_clean, judged_plain, judged_speculative}
 use Rattle.judgement.proofs.verdict_of.Goals as goal
 

@@ -2,7 +2,6 @@
 use mathlib.Core.Path.{◌∙◌}
 use native.Mathlib.Omega.{arith}
 use Rattle.names.proofs.Numbers.{constant-empty, constant-one, constant-zero_led, constant-more}
-use borrow.Author.Rules.{rules}
 use Rattle.names.proofs.constant.Goals as goal
 
 pub returns-then-name-eq0 : goal.returns-then-name-eq0

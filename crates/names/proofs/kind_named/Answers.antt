@@ -2,7 +2,6 @@
 use mathlib.Core.Path.{sym, ◌∙◌}
 use Rattle.rules.specs.Rules.Answers.{text}
 use Rattle.rules.specs.Rules.TextReading.{instruction_words, place_among}
-use borrow.Author.Rules.{rules}
 use Rattle.names.proofs.kind_named.Goals as goal
 
 pub returns-then-same_word : goal.returns-then-same_word

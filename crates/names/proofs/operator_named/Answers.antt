@@ -3,7 +3,6 @@ use mathlib.Core.Path.{sym, ◌∙◌}
 use Rattle.rules.specs.Rules.Answers.{text}
 use Rattle.rules.specs.Rules.JobFile.{binary}
 use Rattle.rules.specs.Rules.TextReading.{called, operator_named}
-use borrow.Author.Rules.{rules}
 use Rattle.names.proofs.operator_named.Goals as goal
 
 pub returns-then-same_word : goal.returns-then-same_word

@@ -1,7 +1,6 @@
 -- `register_named` meets its contract. Assumes nothing.
 use native.Mathlib.Omega.{arith}
 use Rattle.names.proofs.Numbers.{register-empty, register-other, register-found, register-above, register_missing}
-use borrow.Author.Rules.{rules}
 use Rattle.names.proofs.register_named.Goals as goal
 
 pub returns-then-start-end : goal.returns-then-start-end

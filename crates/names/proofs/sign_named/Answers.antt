@@ -3,7 +3,6 @@ use mathlib.Core.Path.{sym, ◌∙◌}
 use Rattle.rules.specs.Rules.Answers.{text}
 use Rattle.rules.specs.Rules.JobFile.{unary}
 use Rattle.rules.specs.Rules.TextReading.{called, sign_named}
-use borrow.Author.Rules.{rules}
 use Rattle.names.proofs.sign_named.Goals as goal
 
 pub returns-then-same_word : goal.returns-then-same_word

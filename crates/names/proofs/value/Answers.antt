@@ -1,11 +1,9 @@
 -- `value` meets its contract. The invariant: the digits passed have the value x, so the answer is that of the bytes left after it.
 -- Assumes nothing.
-use mathlib.Core.Path.{◌≡◌, refl, ◌∙◌}
-use Prim.Native.Nat.{zero-le, ◌-◌, ◌^◌, ◌<◌, ◌≤◌}
+use mathlib.Core.Path.{refl, ◌∙◌}
+use Prim.Native.Nat.{zero-le}
 use native.Mathlib.Omega.{arith}
 use lib.Dec.{lit<}
-use lib.ListN.{length, drop}
-use Rattle.names.specs.Meaning.{digits_number}
 use Rattle.names.proofs.Numbers.{number-below, number-above, number_large, number-next, number_done}
 use Rattle.names.proofs.value.Goals as goal
 

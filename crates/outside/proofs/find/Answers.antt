@@ -1,11 +1,10 @@
 -- `find` meets its contract. The invariant: the number is that among the entries that are left, after those passed. Assumes nothing.
-use mathlib.Core.Path.{◌≡◌, refl, sym, ap, ◌∙◌}
-use Prim.Native.Nat.{ℕ, ◌+◌, ◌-◌, ◌≤◌}
+use mathlib.Core.Path.{◌≡◌, sym, ap, ◌∙◌}
+use Prim.Native.Nat.{ℕ, ◌+◌, ◌-◌}
 use native.Mathlib.Nat.{add-zero}
 use native.Mathlib.Omega.{arith}
 use Rattle.rules.specs.Rules.Changes.{position}
-use Rattle.work.specs.Words.{entry_at}
-use Rattle.work.specs.Machines.{entries_from, table_in}
+use Rattle.work.specs.Machines.{entries_from}
 use Rattle.outside.proofs.Laws.{found_here, found-later, found_none}
 use Rattle.outside.proofs.find.Goals as goal
 

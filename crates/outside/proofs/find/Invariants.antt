@@ -1,12 +1,8 @@
 -- `find` meets its contract. The invariant: the number is that among the entries that are left, after those passed. Assumes nothing.
-use mathlib.Core.Path.{◌≡◌, refl, sym, ap, ◌∙◌}
-use Prim.Native.Nat.{ℕ, ◌+◌, ◌-◌, ◌≤◌}
-use native.Mathlib.Nat.{add-zero}
-use native.Mathlib.Omega.{arith}
+use mathlib.Core.Path.{◌≡◌}
+use Prim.Native.Nat.{◌+◌, ◌-◌, ◌≤◌}
 use Rattle.rules.specs.Rules.Changes.{position}
-use Rattle.work.specs.Words.{entry_at}
 use Rattle.work.specs.Machines.{entries_from, table_in}
-use Rattle.outside.proofs.Laws.{found_here, found-later, found_none}
 use Rattle.outside.proofs.find.Given as goal
 
 abbrev pub invariant-loop-i : goal.invariant-loop-i

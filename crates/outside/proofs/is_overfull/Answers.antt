@@ -4,7 +4,6 @@ use native.Mathlib.Omega.{arith}
 use Rattle.rules.specs.Rules.Changes.{position}
 use Rattle.work.specs.Machines.{table_in}
 use Rattle.outside.proofs.Laws.{room-left, overfull-by}
-use borrow.Author.Rules.{rules}
 use Rattle.outside.proofs.is_overfull.Goals as goal
 
 pub returns-then-count-lt-MAX_ENTRIES : goal.returns-then-count-lt-MAX_ENTRIES

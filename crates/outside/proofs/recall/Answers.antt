@@ -1,6 +1,6 @@
 -- `recall` meets its contract: the word of the entry that was found, if one was. Assumes nothing.
 use mathlib.Core.Path.{◌≡◌, sym, ap, ◌∙◌}
-use Prim.Native.Nat.{ℕ, ◌<◌, ◌+◌}
+use Prim.Native.Nat.{ℕ, ◌<◌}
 use native.Mathlib.Nat.{zero-add}
 use native.Mathlib.Omega.{arith}
 use lib.ListN.{length}
@@ -12,7 +12,6 @@ use Rattle.work.specs.Machines.{table_in}
 use Rattle.work.proofs.States.{entries_length}
 use Rattle.outside.specs.Positions.{recall-there, recall-nowhere}
 use Rattle.outside.proofs.Laws.{position-most}
-use borrow.Author.Rules.{rules}
 use Rattle.outside.proofs.recall.Goals as goal
 
 pub returns-then-i-count : goal.returns-then-i-count

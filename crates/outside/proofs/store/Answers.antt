@@ -1,6 +1,5 @@
 -- `store` meets its contract: the entry that was found is replaced, one is added, or there is no room. Assumes nothing.
 use Rattle.outside.proofs.Laws.{tried-replaced, tried-added, tried-full}
-use borrow.Author.Rules.{rules}
 use Rattle.outside.proofs.store.Goals as goal
 
 pub returns-then-i-count : goal.returns-then-i-count

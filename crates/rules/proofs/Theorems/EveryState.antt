@@ -1,7 +1,7 @@
 -- What holds of a run's first state, and is kept by each instruction that is carried out, holds of every state of the run: of the one at its
 -- end, and of those that the open branches saved. So a run keeps its number of locations, and remembers at most 64 addresses at a time.
 -- Assumes nothing.
-use Rattle.std.specs.Prelude.{◌≡◌, refl, Bool, true, false, cond, List, [], ◌∷◌, ℕ, ◌≤◌, ltb, length}
+use Rattle.std.specs.Prelude.{◌≡◌, Bool, true, false, cond, List, [], ◌∷◌, ℕ, ◌≤◌, ltb, length}
 use Rattle.std.proofs.Common.{◌∙◌, arith}
 use Rattle.location.specs.Sets.{register_location, cell_location}
 use Rattle.rules.specs.declared.Tagged.{Tagged}

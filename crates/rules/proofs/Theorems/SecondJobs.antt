@@ -1,7 +1,7 @@
 -- What demand 3 and the words on a pair speak of is there: for every accepted job and every second state of its size, the file with
 -- that state's bytes in place of its own is a job with that state. And any two states are alike in the empty set.
 -- Assumes nothing.
-use Rattle.std.specs.Prelude.{◌≡◌, refl, true, false, List, ◌∷◌, ◌++◌, ℕ, zero, suc, ◌+◌, ◌*◌, ◌≤◌, take}
+use Rattle.std.specs.Prelude.{◌≡◌, refl, List, ◌∷◌, ◌++◌, ℕ, zero, suc, ◌+◌, ◌*◌, ◌≤◌, take}
 use Rattle.std.proofs.Math.Path.{sym, ap}
 use Rattle.std.proofs.Common.{ap₂, ◌∙◌, true≢false, append_assoc, take_at, length-take-le, get_or-append-add}
 use native.Mathlib.Omega.{arith}

@@ -1,7 +1,7 @@
 -- The bounds of a wrong path: "At most w + 1 branches are open, and a live wrong path holds at most w changes of a place." The changes
 -- that are live are an undo log, which takes the state back to each open branch's saved one in turn.
 -- Assumes nothing.
-use Rattle.std.specs.Prelude.{◌≡◌, refl, Bool, true, false, cond, List, [], ◌∷◌, ◌++◌, ◌≢◌, ℕ, suc, ◌+◌, ◌-◌, ◌≤◌, ltb, length, get_or, take}
+use Rattle.std.specs.Prelude.{◌≡◌, refl, Bool, true, false, cond, List, [], ◌∷◌, ◌++◌, ◌≢◌, ℕ, suc, ◌+◌, ◌-◌, ◌≤◌, ltb, length, get_or}
 use Rattle.std.proofs.Common.{ap, arith, set-set}
 use Rattle.std.proofs.Math.ListN.{length-append}
 use Rattle.std.proofs.lemmas.List.{set-get_or}
@@ -9,7 +9,7 @@ use Rattle.location.specs.Sets.{register_location, cell_location, empty}
 use Rattle.rules.specs.declared.Tagged.{Tagged}
 use Rattle.rules.specs.Rules.Expressions.{tagged, eval}
 use Rattle.rules.specs.Rules.Instructions.{Instr, skip, assign, load, store, jmp, beqz, cassign, spbarr, kind, is_barrier, other, branch_view}
-use Rattle.rules.specs.Rules.Plain.{State, Entry, at, put, with_outside, Code, fetch, joined, stored_to, branch_to, exec}
+use Rattle.rules.specs.Rules.Plain.{State, at, put, with_outside, Code, fetch, joined, stored_to, branch_to, exec}
 use Rattle.rules.specs.Rules.Mispredicting.{Branch, Machine, Step, remaining, lowered, lower, ordinary, new_window, opening, forward, rolling, step}
 use Rattle.rules.specs.Rules.Outside.{recall, remember, remembers}
 use Rattle.rules.specs.Rules.Changes.{Change, replaced, added, change_of, position, table_change, changes, revert, restore}

@@ -1,6 +1,6 @@
 -- Which observation brought a location into D, after document 02, F-6: rows of reports. Tables.antt proves them.
 -- Assumes nothing.
-use Rattle.std.specs.Prelude.{List, [], ◌∷◌, ◌++◌, ℕ, suc, zero, ◌+◌, ◌*◌, set}
+use Rattle.std.specs.Prelude.{List, [], ◌∷◌, ◌++◌, ℕ, suc, zero, ◌*◌, set}
 use Rattle.rules.specs.declared.Cause.TheVariants.{Branch, Jump, Load, Store}
 use Rattle.rules.specs.Cases.Files.{zeros, file, Report, report, Row, brings}
 use Rattle.rules.specs.Cases.Document01.{job, state, nested_program, public}

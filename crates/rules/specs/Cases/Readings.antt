@@ -8,7 +8,7 @@ use Rattle.rules.specs.declared.PairWord.TheVariants as pairs
 use Rattle.rules.specs.declared.PairAnswer.TheVariants as answers
 use Rattle.rules.specs.declared.Refusal.TheVariants as refusals
 use Rattle.rules.specs.Rules.Expressions.{tagged}
-use Rattle.rules.specs.Rules.Calls.{Areas, lent, run_refused, plain_refused}
+use Rattle.rules.specs.Rules.Calls.{lent, run_refused, plain_refused}
 use Rattle.rules.specs.Rules.Pairs.{pair_lent}
 use Rattle.rules.specs.Rules.Encoding.{word_bytes}
 use Rattle.rules.specs.Cases.Files.{zeros, file, set_of, counted, ran, plain_ran, Row, run, pair, prints, plain, leaves, plain_leaves, pair_leaves}

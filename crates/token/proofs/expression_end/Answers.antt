@@ -1,7 +1,6 @@
 -- `token::expression_end` meets its contract. Assumes nothing.
 use mathlib.Core.Path.{ap, ◌∙◌}
 use Rattle.rules.specs.Theorems.Readers.{next_offset}
-use borrow.Author.Rules.{rules}
 use Rattle.token.proofs.expression_end.Goals as goal
 
 pub tokens_end-requires : goal.tokens_end-requires

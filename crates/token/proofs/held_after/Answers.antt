@@ -1,7 +1,6 @@
 -- `token::held_after` meets its contract, by its three tests. Assumes nothing.
 use borrow.Author.Tests.{le-leb, lt-leb}
 use Rattle.rules.specs.Rules.Expressions.{after}
-use borrow.Author.Rules.{rules}
 use Rattle.token.proofs.held_after.Goals as goal
 
 pub returns-then-held-gt8 : goal.returns-then-held-gt8

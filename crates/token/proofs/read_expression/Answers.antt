@@ -8,7 +8,6 @@ use Rattle.rules.specs.Rules.JobFile.{tokens, expr}
 use Rattle.token.specs.Bytes.{byte-got, byte_past}
 use Rattle.token.proofs.Laws.{expr-tokens, scan_got, scan_held, scan_refused}
 use Rattle.token.specs.Meaning.{tokens_of}
-use borrow.Author.Rules.{rules}
 use Rattle.token.proofs.read_expression.Goals as goal
 
 pub returns-then-p-at : goal.returns-then-p-at
@@ -18,7 +17,7 @@ returns-then-p-at c = let a = c.args in (simp (byte_past a.p.now a.at c.if-p-at.
 pub returns-then-count-lt1 : goal.returns-then-count-lt1
 unfolding expr
 returns-then-count-lt1 c =
-            let a = c.args in
+    let a = c.args in
     (rw (byte-got a.p.now a.at c.if-p-at.false, ← c.wide-count.ensures.0, lt-leb 1 _ c.if-count-lt1.true), tt)
 
 pub returns-then-count-gt16 : goal.returns-then-count-gt16

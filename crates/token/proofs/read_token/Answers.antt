@@ -1,7 +1,6 @@
 -- `token::read_token` meets its contract: the token that stands there, or refusal 4. Assumes nothing.
 use mathlib.Core.Path.{sym, ◌∙◌}
 use Rattle.token.specs.Readable.{unreadable-refused}
-use borrow.Author.Rules.{rules}
 use Rattle.token.proofs.read_token.Goals as goal
 
 pub token_at-read-requires : goal.token_at-read-requires
@@ -9,4 +8,4 @@ token_at-read-requires c = sym c.stands.ensures ∙ c.if-stands.true
 
 pub returns : goal.returns
 returns c =
-        sym (unreadable-refused c.args.p.now c.args.at (sym c.stands.ensures ∙ c.if-stands.false))
+    sym (unreadable-refused c.args.p.now c.args.at (sym c.stands.ensures ∙ c.if-stands.false))

@@ -1,13 +1,11 @@
 -- `token::scan_tokens` meets its contract. The invariant: scanning the tokens left, from the values held now, is the whole scan.
 -- Assumes nothing.
 use mathlib.Core.Path.{◌≡◌, sym, ◌∙◌}
-use Prim.Native.Nat.{suc, zero-le, ◌+◌, ◌-◌, ◌≤◌}
+use Prim.Native.Nat.{suc, zero-le, ◌+◌, ◌-◌}
 use native.Mathlib.Nat.{sub-zero}
 use native.Mathlib.Omega.{arith}
-use borrow.Author.Rules.{rules}
 use Rattle.rules.specs.Rules.JobFile.{tokens}
 use Rattle.rules.specs.Rules.Expressions.{held}
-use Rattle.token.specs.Meaning.{scan_of}
 use Rattle.token.proofs.Laws.{tokens-got, tokens-refused}
 use Rattle.token.proofs.scan_tokens.Goals as goal
 
@@ -25,7 +23,7 @@ held_after-held-requires c = tt
 
 pub loop-i-preserved : goal.loop-i-preserved
 loop-i-preserved c =
-                    let a = c.args in
+    let a = c.args in
     let v = c.loop-i in
     let e : a.count - v.i ≡ suc (a.count - (v.i + 1)) = omega arith in
     let t = (rw c.in-Found.is at c.read_token.ensures) in (
@@ -36,7 +34,7 @@ loop-i-preserved c =
 
 pub returns-in-Refused : goal.returns-in-Refused
 returns-in-Refused c =
-                let a = c.args in
+    let a = c.args in
     let v = c.loop-i in
     let e : a.count - v.i ≡ suc (a.count - (v.i + 1)) = omega arith in
     let t = (rw c.in-Refused.is at c.read_token.ensures) in
@@ -45,4 +43,4 @@ returns-in-Refused c =
 pub returns : goal.returns
 unfolding tokens held
 returns c =
-        let v = c.loop-i in let a = c.args in let e : a.count - v.i ≡ 0 = omega arith in rw e at v.invariant.1
+    let v = c.loop-i in let a = c.args in let e : a.count - v.i ≡ 0 = omega arith in rw e at v.invariant.1

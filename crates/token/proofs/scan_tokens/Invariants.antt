@@ -1,14 +1,9 @@
 -- `token::scan_tokens` meets its contract. The invariant: scanning the tokens left, from the values held now, is the whole scan.
 -- Assumes nothing.
-use mathlib.Core.Path.{◌≡◌, sym, ◌∙◌}
-use Prim.Native.Nat.{suc, zero-le, ◌+◌, ◌-◌, ◌≤◌}
-use native.Mathlib.Nat.{sub-zero}
-use native.Mathlib.Omega.{arith}
-use borrow.Author.Rules.{rules}
+use mathlib.Core.Path.{◌≡◌}
+use Prim.Native.Nat.{◌-◌, ◌≤◌}
 use Rattle.rules.specs.Rules.JobFile.{tokens}
-use Rattle.rules.specs.Rules.Expressions.{held}
 use Rattle.token.specs.Meaning.{scan_of}
-use Rattle.token.proofs.Laws.{tokens-got, tokens-refused}
 use Rattle.token.proofs.scan_tokens.Given as goal
 
 abbrev pub invariant-loop-i : goal.invariant-loop-i

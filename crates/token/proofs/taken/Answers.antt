@@ -1,5 +1,4 @@
 -- `token::taken` meets its contract, by the four kinds of token. Assumes nothing.
-use borrow.Author.Rules.{rules}
 use Rattle.token.proofs.taken.Goals as goal
 
 pub returns-in-Register : goal.returns-in-Register

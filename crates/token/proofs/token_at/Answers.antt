@@ -20,15 +20,15 @@ word-constant-requires c =
 
 pub overflow_add-result : goal.overflow_add-result
 overflow_add-result c =
-        let h = (constant-read c.args.p.now c.args.at c.requires c.if-byte-eq16.true).0 in search rules
+    let h = (constant-read c.args.p.now c.args.at c.requires c.if-byte-eq16.true).0 in search rules
 
 pub returns-then-byte-eq16 : goal.returns-then-byte-eq16
 returns-then-byte-eq16 c =
-        rw c.word-constant.ensures (sym (constant-read c.args.p.now c.args.at c.requires c.if-byte-eq16.true).1)
+    rw c.word-constant.ensures (sym (constant-read c.args.p.now c.args.at c.requires c.if-byte-eq16.true).1)
 
 pub returns-then-byte-lt19 : goal.returns-then-byte-lt19
 returns-then-byte-lt19 c =
-            sym (unary_read c.args.p.now c.args.at c.requires c.if-byte-lt16.false c.if-byte-eq16.false c.if-byte-lt19.true)
+    sym (unary_read c.args.p.now c.args.at c.requires c.if-byte-lt16.false c.if-byte-eq16.false c.if-byte-lt19.true)
 
 pub returns : goal.returns
 returns c =

@@ -1,13 +1,10 @@
 -- `token::tokens_end` meets its contract. The invariant: the tokens left can be read, and end where all of them do.
 -- Assumes nothing.
-use mathlib.Core.Path.{◌≡◌, sym, ◌∙◌}
+use mathlib.Core.Path.{◌≡◌}
 use mathlib.Core.Bool.{true}
-use Prim.Native.Nat.{suc, zero-le, ◌+◌, ◌-◌, ◌≤◌}
-use native.Mathlib.Nat.{sub-zero}
-use native.Mathlib.Omega.{arith}
+use Prim.Native.Nat.{◌-◌, ◌≤◌}
 use Rattle.rules.specs.Rules.JobFile.{tokens}
 use Rattle.rules.specs.Theorems.Readers.{readable, next_offset}
-use Rattle.token.specs.Readable.{tokens-read, tokens-next}
 use Rattle.token.proofs.tokens_end.Given as goal
 
 abbrev pub invariant-loop-i : goal.invariant-loop-i

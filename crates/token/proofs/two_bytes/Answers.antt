@@ -1,6 +1,5 @@
 -- `token::two_bytes` meets its contract: the sum is the number in the two bytes. Assumes nothing.
 use native.Mathlib.Omega.{arith}
-use borrow.Author.Rules.{rules}
 use Rattle.rules.specs.Rules.JobFile.{little}
 use Rattle.token.proofs.two_bytes.Goals as goal
 

@@ -1,6 +1,5 @@
 -- `token::word` meets its contract: the sum is the number in the bytes of both reads. Assumes nothing.
 use native.Mathlib.Omega.{arith}
-use borrow.Author.Rules.{rules}
 use Rattle.token.proofs.Laws.{little_join}
 use Rattle.token.proofs.word.Goals as goal
 

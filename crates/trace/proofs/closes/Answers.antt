@@ -1,5 +1,4 @@
 -- `trace::closes` meets its contract. Assumes nothing.
-use borrow.Author.Rules.{rules}
 use borrow.Author.Tests.{ne_eqb, eq-eqb}
 use Rattle.trace.proofs.closes.Goals as goal
 

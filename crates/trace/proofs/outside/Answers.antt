@@ -1,11 +1,8 @@
 -- `trace::outside` meets its contract. The invariant: all that was passed is struck out. Assumes nothing.
-use mathlib.Core.Path.{◌≡◌, refl, ◌∙◌}
-use Prim.Native.Nat.{◌*◌, ◌-◌, ◌≤◌}
+use mathlib.Core.Path.{refl, ◌∙◌}
 use native.Mathlib.Nat.{le_refl}
 use native.Mathlib.Omega.{arith}
 use borrow.Author.Tests.{ne_eqb, eq-eqb}
-use lib.ListN.{length}
-use Rattle.trace.specs.Struck.{struck_words, from}
 use Rattle.trace.proofs.Laws.{start-step}
 use Rattle.trace.proofs.outside.Goals as goal
 

@@ -1,11 +1,10 @@
 -- `trace::past_rollback` meets its contract. The invariant: none of the observations passed closes the branch, so what is struck
 -- out from here on is what is struck out from the first on. Assumes nothing.
-use mathlib.Core.Path.{◌≡◌, refl, sym, ◌∙◌}
-use Prim.Native.Nat.{◌+◌, ◌*◌, ◌-◌, ◌<◌, ◌≤◌}
+use mathlib.Core.Path.{refl, sym, ◌∙◌}
+use Prim.Native.Nat.{◌+◌, ◌*◌, ◌<◌}
 use native.Mathlib.Nat.{le_refl}
 use native.Mathlib.Omega.{arith}
 use lib.ListN.{length}
-use Rattle.trace.specs.Struck.{struck_to, from}
 use Rattle.trace.proofs.Laws.{closes-step, done, done_to}
 use Rattle.trace.proofs.past_rollback.Goals as goal
 

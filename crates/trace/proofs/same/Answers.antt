@@ -1,11 +1,9 @@
 -- `trace::same` meets its contract. The invariant: the words passed are equal, so the answer is that of the words left.
 -- Assumes nothing.
-use mathlib.Core.Path.{◌≡◌, refl, sym, ◌∙◌}
-use Prim.Native.Nat.{zero-le, ◌-◌, ◌≤◌}
+use mathlib.Core.Path.{refl, sym, ◌∙◌}
+use Prim.Native.Nat.{zero-le}
 use native.Mathlib.Omega.{arith}
 use borrow.Author.Tests.{ne_eqb, eq-eqb}
-use lib.ListN.{length, drop}
-use Rattle.rules.specs.Rules.Pairs.{same_words}
 use Rattle.rules.proofs.Theorems.SameWords.{same_step, other_length, both_done}
 use Rattle.trace.proofs.same.Goals as goal
 

@@ -1,6 +1,5 @@
 -- `trace::same_observation` meets its contract. Assumes nothing.
 use borrow.Author.Tests.{ne_eqb, eq-eqb}
-use borrow.Author.Rules.{rules}
 use Rattle.trace.proofs.same_observation.Goals as goal
 
 pub returns-then-a-i : goal.returns-then-a-i

@@ -1,13 +1,10 @@
 -- `trace::same_struck` meets its contract. The invariant: both traces stand at an observation that is not struck out, and those
 -- passed are equal, so the answer is that of the observations left. Assumes nothing.
-use mathlib.Core.Path.{◌≡◌, sym, ap₂, ◌∙◌}
-use Prim.Native.Nat.{zero-le, ◌-◌}
-use native.Mathlib.Omega.{arith}
-use borrow.Author.Tests.{not-true, not-false}
+use mathlib.Core.Path.{◌≡◌}
+use Prim.Native.Nat.{◌-◌}
 use lib.ListN.{length}
 use Rattle.rules.specs.Rules.Pairs.{same_words}
 use Rattle.trace.specs.Struck.{struck_words, from, Outside}
-use Rattle.trace.proofs.Laws.{settled, struck-step, second_ended, first_ended}
 use Rattle.trace.proofs.same_struck.Given as goal
 
 abbrev pub invariant-loop-i : goal.invariant-loop-i

@@ -4,7 +4,6 @@ use native.Mathlib.Omega.{arith}
 use Prim.Native.Nat.{◌+◌}
 use Rattle.rules.specs.Rules.Limits.{list_size, trailer_size}
 use Rattle.rules.specs.Rules.JobFile.{offsets}
-use borrow.Author.Rules.{rules}
 use Rattle.trailer.proofs.offsets_hold.Goals as goal
 
 pub returns-then-t : goal.returns-then-t

@@ -1,6 +1,5 @@
 -- `trailer::trailer_at` meets its contract, field by field. Assumes nothing.
 use Rattle.rules.specs.Rules.JobFile.{trailer_at}
-use borrow.Author.Rules.{rules}
 use Rattle.trailer.proofs.trailer_at.Goals as goal
 
 pub returns : goal.returns

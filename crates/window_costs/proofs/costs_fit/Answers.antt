@@ -1,11 +1,7 @@
 -- `window_costs::costs_fit` meets its contract. The invariant: the entries passed fit, so the answer is that of those left.
 -- Assumes nothing.
-use mathlib.Core.Path.{◌≡◌, sym, ◌∙◌}
-use Prim.Native.Nat.{◌-◌, ◌≤◌}
+use mathlib.Core.Path.{sym, ◌∙◌}
 use native.Mathlib.Omega.{arith}
-use lib.ListN.{length, drop}
-use Rattle.rules.specs.Rules.Limits.{kinds}
-use Rattle.rules.specs.Rules.Costs.{entries_fit, costs_fit}
 use Rattle.window_costs.proofs.Laws.{other_length, whole, too_small, too_large, between, all_fit}
 use Rattle.window_costs.proofs.costs_fit.Goals as goal
 

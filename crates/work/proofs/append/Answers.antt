@@ -5,7 +5,6 @@ use Prim.Native.Nat.{ℕ, ◌+◌}
 use native.Mathlib.Omega.{arith}
 use lib.ListN.{set, length-set}
 use Rattle.work.specs.Layout.{entry_count, address_base}
-use borrow.Author.Rules.{rules}
 use Rattle.work.proofs.append.Goals as goal
 
 pub bounds-work-1604 : goal.bounds-work-1604

@@ -4,7 +4,6 @@ use mathlib.Core.List.{List}
 use Prim.Native.Nat.{ℕ}
 use native.Mathlib.Omega.{arith}
 use Rattle.work.specs.Words.{stored}
-use borrow.Author.Rules.{rules}
 use Rattle.work.proofs.change.Goals as goal
 
 pub store-requires : goal.store-requires

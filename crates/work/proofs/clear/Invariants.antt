@@ -1,12 +1,9 @@
 -- `clear` meets its contract. The invariant: the words passed are 0, the others as they were. Assumes nothing.
-use mathlib.Core.Path.{◌≡◌, refl, ap, ◌∙◌}
-use mathlib.Core.List.{List, ◌++◌}
-use Prim.Native.Nat.{ℕ, ◌-◌, ◌≤◌}
-use native.Mathlib.Omega.{arith}
-use borrow.Author.Rules.{rules}
-use borrow.Author.Fill.{fill_none, fill_more}
-use lib.ListN.{length, drop, set, replicate, length-set, length-replicate}
-use Rattle.rules.specs.Rules.Calls.{written, working_words}
+use mathlib.Core.Path.{◌≡◌}
+use mathlib.Core.List.{◌++◌}
+use Prim.Native.Nat.{◌-◌, ◌≤◌}
+use lib.ListN.{length, drop, replicate}
+use Rattle.rules.specs.Rules.Calls.{working_words}
 use Rattle.work.proofs.clear.Given as goal
 
 abbrev pub invariant-loop-i : goal.invariant-loop-i

@@ -1,6 +1,5 @@
 -- `cost_of` meets its contract: the entry of a kind is its word. Assumes nothing.
 use Rattle.work.proofs.Costs.{cost_at}
-use borrow.Author.Rules.{rules}
 use Rattle.work.proofs.cost_of.Goals as goal
 
 pub returns : goal.returns

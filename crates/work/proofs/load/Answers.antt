@@ -1,7 +1,6 @@
 -- `load` meets its contract: the operand stands at its location. Assumes nothing.
 use mathlib.Core.Path.{ap, ◌∙◌}
 use Rattle.work.specs.Words.{tagged_at}
-use borrow.Author.Rules.{rules}
 use Rattle.work.proofs.load.Goals as goal
 
 pub returns : goal.returns

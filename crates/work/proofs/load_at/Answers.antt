@@ -4,7 +4,6 @@ use Prim.Native.Nat.{◌+◌}
 use lib.ListN.{get_or}
 use Rattle.location.specs.declared.LocationSet.{LocationSet}
 use Rattle.rules.specs.Rules.Expressions.{tagged}
-use borrow.Author.Rules.{rules}
 use Rattle.work.proofs.load_at.Goals as goal
 
 pub returns : goal.returns

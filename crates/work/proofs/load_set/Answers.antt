@@ -1,7 +1,6 @@
 -- `load_set` meets its contract: the set stands at its location. Assumes nothing.
 use mathlib.Core.Path.{ap, ◌∙◌}
 use Rattle.work.specs.Words.{set_at}
-use borrow.Author.Rules.{rules}
 use Rattle.work.proofs.load_set.Goals as goal
 
 pub returns : goal.returns

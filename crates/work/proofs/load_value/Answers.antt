@@ -2,7 +2,6 @@
 use mathlib.Core.Path.{ap}
 use Prim.Native.Nat.{ℕ}
 use Rattle.work.specs.Words.{tagged_at}
-use borrow.Author.Rules.{rules}
 use Rattle.work.proofs.load_value.Goals as goal
 
 pub returns : goal.returns

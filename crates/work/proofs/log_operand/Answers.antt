@@ -2,7 +2,6 @@
 use native.Mathlib.Omega.{arith}
 use lib.ListN.{length-set}
 use Rattle.work.proofs.Laws.{log_law}
-use borrow.Author.Rules.{rules}
 use Rattle.work.proofs.log_operand.Goals as goal
 
 pub store_at-requires : goal.store_at-requires

@@ -3,7 +3,6 @@ use native.Mathlib.Omega.{arith}
 use lib.ListN.{length-set}
 use Rattle.work.specs.Layout.{branch_base}
 use Rattle.work.proofs.Laws.{store_four}
-use borrow.Author.Rules.{rules}
 use Rattle.work.proofs.push_branch.Goals as goal
 
 pub bounds-work-at-2 : goal.bounds-work-at-2

@@ -2,7 +2,6 @@
 use native.Mathlib.Omega.{arith}
 use lib.ListN.{get_or, length-set}
 use Rattle.work.proofs.Laws.{store_five}
-use borrow.Author.Rules.{rules}
 use Rattle.work.proofs.store_at.Goals as goal
 
 pub bounds-work-at-2 : goal.bounds-work-at-2

@@ -1,11 +1,8 @@
 -- `store_costs` meets its contract. The invariant: storing the entries that are left gives what storing the table gives. Assumes nothing.
-use mathlib.Core.Path.{◌≡◌, refl}
-use Prim.Native.Nat.{zero-le, ◌+◌, ◌-◌, ◌≤◌}
+use mathlib.Core.Path.{refl}
+use Prim.Native.Nat.{zero-le}
 use native.Mathlib.Omega.{arith}
-use lib.ListN.{length, drop, length-set}
-use lib.Seq.{sets}
-use borrow.Author.Rules.{rules}
-use Rattle.work.specs.Layout.{cost_base}
+use lib.ListN.{length-set}
 use Rattle.work.proofs.Costs.{stored_on, stored-all}
 use Rattle.work.proofs.store_costs.Goals as goal
 

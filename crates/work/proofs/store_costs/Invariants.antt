@@ -1,12 +1,9 @@
 -- `store_costs` meets its contract. The invariant: storing the entries that are left gives what storing the table gives. Assumes nothing.
-use mathlib.Core.Path.{◌≡◌, refl}
-use Prim.Native.Nat.{zero-le, ◌+◌, ◌-◌, ◌≤◌}
-use native.Mathlib.Omega.{arith}
-use lib.ListN.{length, drop, length-set}
+use mathlib.Core.Path.{◌≡◌}
+use Prim.Native.Nat.{◌+◌, ◌-◌, ◌≤◌}
+use lib.ListN.{length, drop}
 use lib.Seq.{sets}
-use borrow.Author.Rules.{rules}
 use Rattle.work.specs.Layout.{cost_base}
-use Rattle.work.proofs.Costs.{stored_on, stored-all}
 use Rattle.work.proofs.store_costs.Given as goal
 
 abbrev pub invariant-loop-k : goal.invariant-loop-k

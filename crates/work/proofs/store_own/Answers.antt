@@ -1,6 +1,5 @@
 -- `store_own` meets its contract: the word that is written last makes the set of the location of the empty set. Assumes nothing.
 use Rattle.work.proofs.Laws.{own_law}
-use borrow.Author.Rules.{rules}
 use Rattle.work.proofs.store_own.Goals as goal
 
 pub returns : goal.returns

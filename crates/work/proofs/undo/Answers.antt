@@ -4,7 +4,7 @@ use mathlib.Core.List.{List}
 use Prim.Native.Nat.{ℕ, ◌+◌, ◌-◌, ◌≤◌}
 use native.Mathlib.Omega.{arith}
 use borrow.Author.Rules.{rules}
-use lib.ListN.{length, drop}
+use lib.ListN.{drop}
 use Rattle.work.specs.Layout.{operands, log_base}
 use Rattle.work.specs.Words.{number_at, undone}
 use Rattle.work.proofs.Laws.{undo_law}

@@ -1,14 +1,13 @@
 -- `expression::sets::set_of` meets its contract. The invariant: the tokens left, over the set gathered before them, give the whole set.
 -- Assumes nothing.
 use mathlib.Core.Path.{◌≡◌, refl, ap, ◌∙◌}
-use Prim.Native.Nat.{ℕ, suc, zero-le, ◌<◌, ◌+◌, ◌-◌, ◌≤◌}
+use Prim.Native.Nat.{ℕ, suc, zero-le, ◌<◌, ◌+◌, ◌-◌}
 use native.Mathlib.Nat.{add-zero, sub-zero}
 use native.Mathlib.Omega.{arith}
 use borrow.Author.Rules.{rules}
 use mathlib.Core.List.{List}
 use Rattle.location.specs.declared.LocationSet.{LocationSet}
 use Rattle.location.specs.Sets.{union}
-use Rattle.rules.specs.Rules.Expressions.{expr_set}
 use Rattle.rules.proofs.Theorems.SetsFirst.{set-promise}
 use Rattle.token.specs.Meaning.{tokens_of}
 use Rattle.token.specs.Readable.{token-read, constant-read}

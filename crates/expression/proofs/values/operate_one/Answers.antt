@@ -1,5 +1,4 @@
 -- `expression::values::operate_one` meets its contract: each arm is the operator at that place of the rules' table. Assumes nothing.
-use borrow.Author.Rules.{rules}
 use Rattle.rules.specs.Rules.JobFile.{unary}
 use Rattle.token.specs.Operators.{unary_default}
 use Rattle.expression.proofs.values.operate_one.Goals as goal

@@ -1,5 +1,4 @@
 -- `expression::values::operate_two` meets its contract: each arm is the operator at that place of the rules' table. Assumes nothing.
-use borrow.Author.Rules.{rules}
 use Rattle.rules.specs.Rules.JobFile.{binary}
 use Rattle.token.specs.Operators.{binary_default}
 use Rattle.expression.proofs.values.operate_two.Goals as goal

@@ -1,14 +1,12 @@
 -- `expression::values::value_of` meets its contract. The invariant: the tokens left, over the values in the slots and on top, give the whole value.
 -- Assumes nothing.
 use mathlib.Core.Path.{◌≡◌, ap, ◌∙◌}
-use Prim.Native.Nat.{ℕ, suc, zero-le, ◌<◌, ◌+◌, ◌-◌, ◌≤◌}
+use Prim.Native.Nat.{ℕ, suc, zero-le, ◌<◌, ◌+◌, ◌-◌}
 use native.Mathlib.Nat.{add-zero, sub-zero}
 use native.Mathlib.Omega.{arith}
 use borrow.Author.Rules.{rules}
 use mathlib.Core.List.{List}
 use Rattle.rules.specs.declared.Tagged.{Tagged}
-use Rattle.rules.specs.Rules.Expressions.{eval}
-use Rattle.token.specs.Meaning.{tokens_of}
 use Rattle.token.specs.Readable.{token-read, constant-read}
 use Rattle.work.specs.Words.{tagged_at}
 use Rattle.expression.proofs.Stack.{Left, start, left-readable, finish, register-room, constant-room, operator-room}

@@ -1,16 +1,10 @@
 -- `expression::values::value_of` meets its contract. The invariant: the tokens left, over the values in the slots and on top, give the whole value.
 -- Assumes nothing.
-use mathlib.Core.Path.{◌≡◌, ap, ◌∙◌}
-use Prim.Native.Nat.{ℕ, suc, zero-le, ◌+◌, ◌-◌, ◌≤◌}
-use native.Mathlib.Nat.{add-zero, sub-zero}
-use native.Mathlib.Omega.{arith}
-use borrow.Author.Rules.{rules}
+use Prim.Native.Nat.{◌+◌, ◌-◌, ◌≤◌}
 use Rattle.rules.specs.Rules.Expressions.{eval}
 use Rattle.token.specs.Meaning.{tokens_of}
-use Rattle.token.specs.Readable.{token-read, constant-read}
 use Rattle.work.specs.Words.{tagged_at}
-use Rattle.expression.proofs.Stack.{Left, start, left-readable, finish, register-room, constant-room, operator-room}
-use Rattle.expression.proofs.Stack.{register_again, constant_again, unary_again, binary_again}
+use Rattle.expression.proofs.Stack.{Left}
 use Rattle.expression.proofs.values.value_of.Given as goal
 
 abbrev pub invariant-loop-i : goal.invariant-loop-i

@@ -6,7 +6,6 @@ use native.Mathlib.Omega.{arith}
 use Rattle.location.specs.Sets.{empty, single, only, none}
 use Rattle.location.specs.SetLaws.{only_out}
 use Rattle.location.proofs.Laws.{word-bit}
-use borrow.Author.Rules.{rules}
 use Rattle.location.proofs.LocationSet.single.Goals as goal
 
 pub returns-in-0 : goal.returns-in-0

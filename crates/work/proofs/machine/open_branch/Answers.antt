@@ -1,7 +1,6 @@
 -- `open_branch` meets its contract. Assumes nothing.
 use native.Mathlib.Omega.{arith}
 use Rattle.work.proofs.Moves.{fit-bound, open_bound, moved_to, open_law}
-use borrow.Author.Rules.{rules}
 use Rattle.work.proofs.machine.open_branch.Goals as goal
 
 pub push_branch-requires : goal.push_branch-requires

@@ -3,7 +3,6 @@ use native.Mathlib.Omega.{arith}
 use Rattle.work.specs.Words.{count_in, number_at, change_at}
 use Rattle.work.proofs.States.{log_numbers}
 use Rattle.work.proofs.Moves.{fit-bound, roll_law}
-use borrow.Author.Rules.{rules}
 use Rattle.work.proofs.machine.roll_back.Goals as goal
 
 pub load_branch-top-requires : goal.load_branch-top-requires

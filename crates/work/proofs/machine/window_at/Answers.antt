@@ -1,6 +1,5 @@
 -- `window_at` meets its contract. Assumes nothing.
 use Rattle.work.proofs.Moves.{at_above}
-use borrow.Author.Rules.{rules}
 use Rattle.work.proofs.machine.window_at.Goals as goal
 
 pub returns : goal.returns
