@@ -68,7 +68,7 @@
  *
  * C++: the data() of an empty std::vector may be null, which no call takes. For
  * an area of length 0 lend the address of any object of its type, with the
- * length 0; tests/empty_vectors.cpp does so.
+ * length 0.
  *
  *
  * THE JOB

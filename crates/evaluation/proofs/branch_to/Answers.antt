@@ -1,7 +1,6 @@
 -- `evaluation::branch_to` meets its contract: the test is the rules'. Assumes nothing.
 use borrow.Author.Tests.{eq-eqb, ne_eqb}
 use Rattle.rules.specs.Rules.Plain.{branch_to}
-use borrow.Author.Rules.{rules}
 use Rattle.evaluation.proofs.branch_to.Goals as goal
 
 pub returns-then-t-eq0 : goal.returns-then-t-eq0

@@ -1,6 +1,5 @@
 -- `evaluation::chosen` meets its contract: the test is the rules'. Assumes nothing.
 use Rattle.evaluation.proofs.Laws.{chosen_old, chosen-new}
-use borrow.Author.Rules.{rules}
 use Rattle.evaluation.proofs.chosen.Goals as goal
 
 pub returns-then-c-eq0 : goal.returns-then-c-eq0

@@ -1,6 +1,5 @@
 -- `evaluation::constant_value` meets its contract. Assumes nothing.
 use Rattle.rules.proofs.Theorems.SetsFirst.{tagged-equal}
-use borrow.Author.Rules.{rules}
 use Rattle.evaluation.proofs.constant_value.Goals as goal
 
 pub returns : goal.returns

@@ -4,7 +4,6 @@ use Rattle.rules.specs.Rules.Expressions.{eval}
 use Rattle.descriptor.specs.Descriptors.{instruction_in}
 use Rattle.work.specs.Words.{tagged_at}
 use Rattle.evaluation.proofs.Laws.{general_tokens}
-use borrow.Author.Rules.{rules}
 use Rattle.evaluation.proofs.general_value.Goals as goal
 
 pub expression_of-e-requires : goal.expression_of-e-requires

@@ -1,6 +1,5 @@
 -- `evaluation::joined` meets its contract. Assumes nothing.
 use Rattle.rules.specs.Rules.Expressions.{tagged}
-use borrow.Author.Rules.{rules}
 use Rattle.evaluation.proofs.joined.Goals as goal
 
 pub returns : goal.returns

@@ -1,6 +1,5 @@
 -- `evaluation::loaded_cell` meets its contract: it reads the cell's words. Assumes nothing.
 use Rattle.evaluation.proofs.Laws.{load_inside}
-use borrow.Author.Rules.{rules}
 use Rattle.evaluation.proofs.loaded_cell.Goals as goal
 
 pub returns : goal.returns

@@ -1,6 +1,5 @@
 -- `evaluation::loaded_outside` meets its contract: it reads what is remembered. Assumes nothing.
 use Rattle.evaluation.proofs.Laws.{load-outside}
-use borrow.Author.Rules.{rules}
 use Rattle.evaluation.proofs.loaded_outside.Goals as goal
 
 pub returns : goal.returns

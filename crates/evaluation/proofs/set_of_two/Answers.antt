@@ -5,7 +5,6 @@ use Rattle.rules.proofs.Theorems.SetsFirst.{set-promise}
 use Rattle.descriptor.specs.Shapes.{register-register_shaped}
 use Rattle.work.specs.Words.{set_at}
 use Rattle.evaluation.proofs.Laws.{two-gathered}
-use borrow.Author.Rules.{rules}
 use Rattle.evaluation.proofs.set_of_two.Goals as goal
 
 pub load_set-left-requires : goal.load_set-left-requires

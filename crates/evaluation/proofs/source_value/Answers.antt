@@ -6,7 +6,6 @@ use Rattle.rules.specs.Rules.Expressions.{tagged}
 use Rattle.descriptor.specs.Reading.{nothing-shaped, general_shaped}
 use Rattle.descriptor.specs.Shapes.{register-shaped, constant-shaped, jump-constant_shaped, tested-shaped}
 use Rattle.evaluation.proofs.Laws.{value-nothing, value-register, value-constant}
-use borrow.Author.Rules.{rules}
 use Rattle.evaluation.proofs.source_value.Goals as goal
 
 pub load-requires : goal.load-requires

@@ -4,7 +4,6 @@ use native.Mathlib.Omega.{arith}
 use Rattle.descriptor.specs.Shapes.{register-constant_shaped}
 use Rattle.work.specs.Words.{tagged_at}
 use Rattle.evaluation.proofs.Laws.{value_with_constant}
-use borrow.Author.Rules.{rules}
 use Rattle.evaluation.proofs.with_constant.Goals as goal
 
 pub load_set-deps-requires : goal.load_set-deps-requires

@@ -4,7 +4,6 @@ use native.Mathlib.Omega.{arith}
 use Rattle.descriptor.specs.Shapes.{register-register_shaped}
 use Rattle.work.specs.Words.{tagged_at}
 use Rattle.evaluation.proofs.Laws.{value_with_register}
-use borrow.Author.Rules.{rules}
 use Rattle.evaluation.proofs.with_register.Goals as goal
 
 pub load_value-x-requires : goal.load_value-x-requires

@@ -2,7 +2,6 @@
 use mathlib.Core.Path.{sym, ◌∙◌}
 use Rattle.rules.specs.Rules.JobFile.{listed, program_of}
 use Rattle.job.proofs.Laws.{checked-program, finish-next, finish-refused}
-use borrow.Author.Rules.{rules}
 use Rattle.job.proofs.check_parts.Goals as goal
 
 pub returns-then-no_cell_from : goal.returns-then-no_cell_from

@@ -1,11 +1,9 @@
 -- `job::no_cell_from` meets its contract. The invariant: no location from l on is in the set as none from the first cell on is.
 -- Assumes nothing.
-use mathlib.Core.Path.{◌≡◌, refl, ◌∙◌}
+use mathlib.Core.Path.{◌≡◌}
 use Prim.Native.Nat.{◌+◌, ◌-◌, ◌≤◌}
-use native.Mathlib.Omega.{arith}
-use borrow.Author.Rules.{rules}
 use Rattle.location.specs.Sets.{registers, limit}
-use Rattle.job.proofs.Laws.{none_on, word-passed, location_in, location_out, none_left}
+use Rattle.job.proofs.Laws.{none_on}
 use Rattle.job.proofs.no_cell_from.Given as goal
 
 abbrev pub invariant-loop-l : goal.invariant-loop-l

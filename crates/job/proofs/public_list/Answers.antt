@@ -3,7 +3,6 @@ use mathlib.Core.Path.{◌≡◌}
 use Prim.Native.Nat.{◌+◌}
 use native.Mathlib.Omega.{arith}
 use Rattle.rules.specs.Rules.JobFile.{public_of, words_at}
-use borrow.Author.Rules.{rules}
 use Rattle.job.proofs.public_list.Goals as goal
 
 pub returns : goal.returns

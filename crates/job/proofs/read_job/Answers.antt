@@ -7,7 +7,6 @@ use Rattle.rules.specs.Rules.Limits.{max_bytes, trailer_size}
 use Rattle.rules.specs.Rules.JobFile.{parse, trailer, sized}
 use Rattle.rules.proofs.Theorems.JobLaws.{limits-hold, offsets-state, offsets_list}
 use Rattle.job.proofs.Laws.{sized_true}
-use borrow.Author.Rules.{rules}
 use lib.ListN.{length}
 use Rattle.job.proofs.read_job.Goals as goal
 

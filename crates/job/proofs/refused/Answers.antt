@@ -3,7 +3,6 @@ use mathlib.Core.Path.{ap}
 use Rattle.location.specs.declared.LocationSet.{LocationSet}
 use Rattle.job.specs.declared.JobOutcome.TheVariants as outcomes
 use Rattle.job.specs.declared.JobRead.{JobRead}
-use borrow.Author.Rules.{rules}
 use Rattle.job.proofs.refused.Goals as goal
 
 pub returns : goal.returns

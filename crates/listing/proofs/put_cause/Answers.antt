@@ -5,7 +5,6 @@ use native.Mathlib.Omega.{arith}
 use lib.ListN.{length}
 use Rattle.rules.specs.declared.Cause.{Cause}
 use Rattle.rules.specs.Rules.Answers.{text, cause_word}
-use borrow.Author.Rules.{rules}
 use Rattle.listing.proofs.put_cause.Goals as goal
 
 pub put_text-requires : goal.put_text-requires

@@ -4,7 +4,6 @@ use Rattle.rules.specs.Rules.Answers.{text}
 use Rattle.rules.specs.Rules.Listing.{line, first_line}
 use Rattle.listing.specs.Lengths.{first-line_length}
 use Rattle.byte_writer.specs.Texts.{put-append}
-use borrow.Author.Rules.{rules}
 use Rattle.listing.proofs.put_first.Goals as goal
 
 pub put_text-after_word-requires : goal.put_text-after_word-requires

@@ -1,15 +1,14 @@
 -- `put_firsts` meets its contract. The invariant: what is left of the locations ends where all of them end. Assumes nothing.
 use mathlib.Core.Path.{◌≡◌, refl}
-use Prim.Native.Nat.{◌-◌, ◌^◌, ◌≤◌}
+use Prim.Native.Nat.{◌-◌, ◌^◌}
 use native.Mathlib.Omega.{arith}
 use lib.ListN.{get_or}
 use Rattle.location.specs.Sets.{limit}
 use Rattle.rules.specs.Rules.Firsts.{no_report}
 use Rattle.rules.specs.Rules.Listing.{first_lines}
 use Rattle.listing.specs.Lines.{report_text}
-use Rattle.byte_writer.specs.Texts.{Left, left_done, left-length, left-room, left-next}
+use Rattle.byte_writer.specs.Texts.{left_done, left-length, left-room, left-next}
 use Rattle.listing.proofs.Texts.{reports-next}
-use borrow.Author.Rules.{rules}
 use Rattle.listing.proofs.put_firsts.Goals as goal
 
 pub loop-left-init : goal.loop-left-init

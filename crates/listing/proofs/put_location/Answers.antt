@@ -5,7 +5,6 @@ use lib.ListN.{length}
 use Rattle.rules.specs.Rules.Answers.{text}
 use Rattle.byte_writer.specs.Texts.{put-append}
 use Rattle.listing.proofs.Texts.{register-text, cell_text}
-use borrow.Author.Rules.{rules}
 use Rattle.listing.proofs.put_location.Goals as goal
 
 pub put_text-after_r-requires : goal.put_text-after_r-requires

@@ -4,7 +4,6 @@ use native.Mathlib.Omega.{arith}
 use lib.ListN.{length}
 use Rattle.byte_writer.specs.Texts.{put-nothing}
 use Rattle.listing.proofs.Texts.{member-text, no_member_text}
-use borrow.Author.Rules.{rules}
 use Rattle.listing.proofs.put_member.Goals as goal
 
 pub put_location-requires : goal.put_location-requires

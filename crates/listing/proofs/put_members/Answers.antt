@@ -1,11 +1,11 @@
 -- `put_members` meets its contract. The invariant: what is left of the locations ends where all of them end. Assumes nothing.
 use mathlib.Core.Path.{◌≡◌, refl}
-use Prim.Native.Nat.{◌-◌, ◌^◌, ◌≤◌}
+use Prim.Native.Nat.{◌-◌, ◌^◌}
 use native.Mathlib.Omega.{arith}
 use Rattle.location.specs.Sets.{limit}
 use Rattle.rules.specs.Rules.Listing.{members}
 use Rattle.listing.specs.Lines.{member_text}
-use Rattle.byte_writer.specs.Texts.{Left, left_done, left-length, left-room, left-next}
+use Rattle.byte_writer.specs.Texts.{left_done, left-length, left-room, left-next}
 use Rattle.listing.proofs.Texts.{members-next}
 use Rattle.listing.proofs.put_members.Goals as goal
 

@@ -1,6 +1,5 @@
 -- `put_number` meets its contract: the blank and the digits one after the other. Assumes nothing.
 use Rattle.byte_writer.specs.Texts.{put-append}
-use borrow.Author.Rules.{rules}
 use Rattle.listing.proofs.put_number.Goals as goal
 
 pub returns : goal.returns

@@ -3,7 +3,6 @@ use native.Mathlib.Omega.{arith}
 use Rattle.rules.specs.Rules.Listing.{line, number_line}
 use Rattle.byte_writer.specs.Texts.{put-append}
 use Rattle.listing.specs.Lengths.{number-line_length}
-use borrow.Author.Rules.{rules}
 use Rattle.listing.proofs.put_number_line.Goals as goal
 
 pub put_text-after_word-requires : goal.put_text-after_word-requires

@@ -4,7 +4,6 @@ use native.Mathlib.Omega.{arith}
 use lib.ListN.{length}
 use Rattle.rules.specs.Rules.Answers.{text}
 use Rattle.listing.proofs.Texts.{start-line, rollback-line, pc-line, load_line, store_line}
-use borrow.Author.Rules.{rules}
 use Rattle.listing.proofs.put_observation.Goals as goal
 
 pub put_number_line-requires : goal.put_number_line-requires

@@ -4,7 +4,6 @@ use native.Mathlib.Omega.{arith}
 use lib.ListN.{length}
 use Rattle.rules.specs.Rules.Answers.{text}
 use Rattle.listing.proofs.Texts.{place_end, place-number}
-use borrow.Author.Rules.{rules}
 use Rattle.listing.proofs.put_place_line.Goals as goal
 
 pub put_text-requires : goal.put_text-requires

@@ -4,7 +4,6 @@ use native.Mathlib.Omega.{arith}
 use lib.ListN.{length}
 use Rattle.byte_writer.specs.Texts.{put-nothing}
 use Rattle.listing.proofs.Texts.{report-text, no_report-text}
-use borrow.Author.Rules.{rules}
 use Rattle.listing.proofs.put_report.Goals as goal
 
 pub put_first-requires : goal.put_first-requires

@@ -3,7 +3,6 @@ use native.Mathlib.Omega.{arith}
 use Rattle.rules.specs.Rules.Listing.{line, set_line}
 use Rattle.listing.specs.Lengths.{set-line_length}
 use Rattle.byte_writer.specs.Texts.{put-append}
-use borrow.Author.Rules.{rules}
 use Rattle.listing.proofs.put_set.Goals as goal
 
 pub put_text-after_word-requires : goal.put_text-after_word-requires

@@ -5,7 +5,6 @@ use lib.ListN.{length}
 use Rattle.rules.specs.declared.Stop.{Stop}
 use Rattle.rules.specs.Rules.Answers.{text, stop_word}
 use Rattle.rules.specs.Rules.Listing.{line}
-use borrow.Author.Rules.{rules}
 use Rattle.listing.proofs.put_stop.Goals as goal
 
 pub put_text-requires : goal.put_text-requires

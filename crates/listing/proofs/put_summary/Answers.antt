@@ -4,7 +4,6 @@ use Rattle.rules.specs.Rules.Answers.{text}
 use Rattle.rules.specs.Rules.Listing.{summary}
 use Rattle.listing.specs.Lengths.{summary-length}
 use Rattle.byte_writer.specs.Texts.{put-append}
-use borrow.Author.Rules.{rules}
 use Rattle.listing.proofs.put_summary.Goals as goal
 
 pub put_stop-after_stop-requires : goal.put_stop-after_stop-requires

@@ -1,14 +1,9 @@
 -- `put_trace` meets its contract. The invariant: what is left of the trace ends where its lines end. Assumes nothing.
-use mathlib.Core.Path.{◌≡◌, refl}
-use Prim.Native.Nat.{◌+◌, ◌-◌, ◌^◌, ◌≤◌}
-use native.Mathlib.Omega.{arith}
-use borrow.Author.Tests.{ltb-true, ltb-false}
-use lib.ListN.{length, get_or, drop}
-use Rattle.rules.specs.Rules.Instructions.{observed}
-use Rattle.rules.specs.Rules.Listing.{observation_line, trace_lines}
+use Prim.Native.Nat.{◌≤◌}
+use lib.ListN.{length, drop}
+use Rattle.rules.specs.Rules.Listing.{trace_lines}
 use Rattle.listing.specs.Lines.{observations_in}
-use Rattle.byte_writer.specs.Texts.{Left, left_done, left-length, left-room, left-next}
-use Rattle.listing.proofs.Texts.{trace-next, trace-counted, trace-over}
+use Rattle.byte_writer.specs.Texts.{Left}
 use Rattle.listing.proofs.put_trace.Given as goal
 
 abbrev pub invariant-loop-left : goal.invariant-loop-left

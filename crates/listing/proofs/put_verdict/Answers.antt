@@ -5,7 +5,6 @@ use lib.ListN.{length}
 use Rattle.rules.specs.declared.Verdict.{Verdict}
 use Rattle.rules.specs.Rules.Answers.{text, verdict_word}
 use Rattle.rules.specs.Rules.Listing.{line}
-use borrow.Author.Rules.{rules}
 use Rattle.listing.proofs.put_verdict.Goals as goal
 
 pub put_text-requires : goal.put_text-requires

@@ -6,7 +6,6 @@ use Rattle.listing.specs.Lines.{observations_in}
 use Rattle.listing.specs.Lengths.{number-line_bound, trace-length, observations-length, summary-bound, first-lines_bound}
 use Rattle.byte_writer.specs.Texts.{put-append}
 use Rattle.listing.proofs.Texts.{printed_refusal, printed-run}
-use borrow.Author.Rules.{rules}
 use Rattle.listing.proofs.write_answer.Goals as goal
 
 pub put_number_line-requires : goal.put_number_line-requires

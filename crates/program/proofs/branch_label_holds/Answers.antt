@@ -1,6 +1,5 @@
 -- `program::branch_label_holds` meets its contract, by the eight instructions; a branch by its two tests. Assumes nothing.
 use borrow.Author.Tests.{le-leb, lt-leb, eq-eqb, ne_eqb}
-use borrow.Author.Rules.{rules}
 use Rattle.program.proofs.branch_label_holds.Goals as goal
 
 pub returns-then-n-to : goal.returns-then-n-to

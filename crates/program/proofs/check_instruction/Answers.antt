@@ -1,6 +1,5 @@
 -- `program::check_instruction` meets its contract: 4, then 5, then 6. Assumes nothing.
 use Rattle.rules.specs.Rules.JobFile.{instruction}
-use borrow.Author.Rules.{rules}
 use Rattle.program.proofs.check_instruction.Goals as goal
 
 pub returns-then-branch_label_holds : goal.returns-then-branch_label_holds

@@ -4,10 +4,8 @@ use borrow.Author.Tests.{eq-eqb, ne_eqb}
 use native.Mathlib.Omega.{arith}
 use Rattle.rules.specs.Rules.JobFile.{nothing_left, program}
 use mathlib.Core.Path.{◌≡◌, sym, ◌∙◌}
-use Prim.Native.Nat.{suc, zero-le, ◌+◌, ◌-◌, ◌≤◌}
+use Prim.Native.Nat.{suc, zero-le, ◌+◌, ◌-◌}
 use native.Mathlib.Nat.{sub-zero}
-use borrow.Author.Rules.{rules}
-use Rattle.program.specs.Checks.{checked_of}
 use Rattle.program.proofs.Laws.{program-next, program-refused}
 use Rattle.program.proofs.check_program.Goals as goal
 

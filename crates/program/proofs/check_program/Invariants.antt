@@ -1,14 +1,9 @@
 -- `program::check_program` meets its contract. The invariant: checking the instructions left is checking the whole program.
 -- Assumes nothing.
-use borrow.Author.Tests.{eq-eqb, ne_eqb}
-use native.Mathlib.Omega.{arith}
-use Rattle.rules.specs.Rules.JobFile.{nothing_left, program}
-use mathlib.Core.Path.{◌≡◌, sym, ◌∙◌}
-use Prim.Native.Nat.{suc, zero-le, ◌+◌, ◌-◌, ◌≤◌}
-use native.Mathlib.Nat.{sub-zero}
-use borrow.Author.Rules.{rules}
+use Rattle.rules.specs.Rules.JobFile.{program}
+use mathlib.Core.Path.{◌≡◌}
+use Prim.Native.Nat.{◌-◌, ◌≤◌}
 use Rattle.program.specs.Checks.{checked_of}
-use Rattle.program.proofs.Laws.{program-next, program-refused}
 use Rattle.program.proofs.check_program.Given as goal
 
 abbrev pub invariant-loop-i : goal.invariant-loop-i

@@ -1,7 +1,6 @@
 -- `program::fetch` meets its contract. Assumes nothing.
 use mathlib.Core.Path.{ap, ◌∙◌}
 use Rattle.descriptor.specs.Descriptors.{descriptor_in}
-use borrow.Author.Rules.{rules}
 use Rattle.program.proofs.fetch.Goals as goal
 
 pub returns : goal.returns

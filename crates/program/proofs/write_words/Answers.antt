@@ -2,14 +2,10 @@
 -- of them gives.
 -- Assumes nothing.
 use mathlib.Core.Path.{◌≡◌, refl}
-use mathlib.Core.Bool.{true}
-use Prim.Native.Nat.{suc, zero-le, ◌+◌, ◌-◌, ◌≤◌}
+use Prim.Native.Nat.{suc, zero-le, ◌+◌, ◌-◌}
 use native.Mathlib.Nat.{sub-zero, add-zero}
 use native.Mathlib.Omega.{arith}
-use lib.ListN.{length, length-set}
-use lib.Seq.{sets}
-use Rattle.rules.specs.Rules.JobFile.{program}
-use Rattle.rules.specs.Theorems.Readers.{readable}
+use lib.ListN.{length-set}
 use Rattle.program.specs.Words.{words_from}
 use Rattle.program.proofs.Laws.{program-read}
 use Rattle.program.proofs.write_words.Goals as goal

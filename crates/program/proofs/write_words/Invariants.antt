@@ -1,17 +1,14 @@
 -- `program::write_words` meets its contract. The invariant: the instructions left can be read, and writing their words gives what writing all
 -- of them gives.
 -- Assumes nothing.
-use mathlib.Core.Path.{◌≡◌, refl}
+use mathlib.Core.Path.{◌≡◌}
 use mathlib.Core.Bool.{true}
-use Prim.Native.Nat.{suc, zero-le, ◌+◌, ◌-◌, ◌≤◌}
-use native.Mathlib.Nat.{sub-zero, add-zero}
-use native.Mathlib.Omega.{arith}
-use lib.ListN.{length, length-set}
+use Prim.Native.Nat.{◌+◌, ◌-◌, ◌≤◌}
+use lib.ListN.{length}
 use lib.Seq.{sets}
 use Rattle.rules.specs.Rules.JobFile.{program}
 use Rattle.rules.specs.Theorems.Readers.{readable}
 use Rattle.program.specs.Words.{words_from}
-use Rattle.program.proofs.Laws.{program-read}
 use Rattle.program.proofs.write_words.Given as goal
 
 abbrev pub invariant-loop-i : goal.invariant-loop-i

@@ -1,7 +1,6 @@
 -- `transfer::alike_at` meets its contract: at a public location the two words decide. Assumes nothing.
 use mathlib.Core.Path.{sym, ap, ◌∙◌}
 use mathlib.Core.Bool.{Bool, not, ◌||◌}
-use borrow.Author.Rules.{rules}
 use lib.Dec.{eqb}
 use Rattle.transfer.proofs.Laws.{alike-word}
 use Rattle.transfer.proofs.alike_at.Goals as goal

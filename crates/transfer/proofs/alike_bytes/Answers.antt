@@ -1,11 +1,9 @@
 -- `transfer::alike_bytes` meets its contract. The invariant: the states are alike at the locations passed, so the answer is that of
 -- the locations left. Assumes nothing.
 use mathlib.Core.Path.{◌≡◌, sym, ◌∙◌}
-use Prim.Native.Nat.{zero-le, ◌+◌, ◌-◌, ◌*◌, ◌≤◌}
+use Prim.Native.Nat.{zero-le, ◌-◌}
 use native.Mathlib.Nat.{sub-zero, add-zero}
 use native.Mathlib.Omega.{arith}
-use borrow.Author.Rules.{rules}
-use borrow.Author.Tests.{not-true, not-false}
 use Rattle.rules.specs.Rules.JobFile.{words_at}
 use Rattle.rules.specs.Rules.Pairs.{alike_from}
 use Rattle.transfer.proofs.Laws.{alike-step}

@@ -1,14 +1,9 @@
 -- `transfer::alike_bytes` meets its contract. The invariant: the states are alike at the locations passed, so the answer is that of
 -- the locations left. Assumes nothing.
-use mathlib.Core.Path.{◌≡◌, sym, ◌∙◌}
-use Prim.Native.Nat.{zero-le, ◌+◌, ◌-◌, ◌*◌, ◌≤◌}
-use native.Mathlib.Nat.{sub-zero, add-zero}
-use native.Mathlib.Omega.{arith}
-use borrow.Author.Rules.{rules}
-use borrow.Author.Tests.{not-true, not-false}
+use mathlib.Core.Path.{◌≡◌}
+use Prim.Native.Nat.{◌+◌, ◌-◌, ◌*◌, ◌≤◌}
 use Rattle.rules.specs.Rules.JobFile.{words_at}
 use Rattle.rules.specs.Rules.Pairs.{alike_from}
-use Rattle.transfer.proofs.Laws.{alike-step}
 use Rattle.transfer.proofs.alike_bytes.Given as goal
 
 abbrev pub invariant-loop-l : goal.invariant-loop-l

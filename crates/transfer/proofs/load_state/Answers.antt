@@ -1,8 +1,7 @@
 -- `transfer::load_state` meets its contract. The invariant: the locations passed hold their words. Assumes nothing.
-use Prim.Native.Nat.{◌-◌}
 use native.Mathlib.Omega.{arith}
 use borrow.Author.Rules.{rules}
-use Rattle.transfer.proofs.Laws.{Loading, loading-none, loading-more, loading-all}
+use Rattle.transfer.proofs.Laws.{loading-none, loading-more, loading-all}
 use Rattle.transfer.proofs.load_state.Goals as goal
 
 pub loop-loaded-init : goal.loop-loaded-init
@@ -11,7 +10,7 @@ loop-loaded-init c = let a = c.args in loading-none a.bytes.now a.at a.n a.work.
 pub store_own-requires : goal.store_own-requires
 store_own-requires c =
     let s = c.loop-loaded.invariant.size in
-    record { l_lt_limit = omega arith; l_in_bounds = omega arith; }
+    record { l_lt_limit = omega arith; l_in_bounds = omega arith }
 
 pub loop-loaded-preserved : goal.loop-loaded-preserved
 loop-loaded-preserved c =

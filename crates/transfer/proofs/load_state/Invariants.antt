@@ -1,8 +1,6 @@
 -- `transfer::load_state` meets its contract. The invariant: the locations passed hold their words. Assumes nothing.
 use Prim.Native.Nat.{◌-◌}
-use native.Mathlib.Omega.{arith}
-use borrow.Author.Rules.{rules}
-use Rattle.transfer.proofs.Laws.{Loading, loading-none, loading-more, loading-all}
+use Rattle.transfer.proofs.Laws.{Loading}
 use Rattle.transfer.proofs.load_state.Given as goal
 
 abbrev pub invariant-loop-loaded : goal.invariant-loop-loaded

@@ -1,6 +1,5 @@
 -- `transfer::save_entry` meets its contract, by whether the table has such an entry. Assumes nothing.
 use native.Mathlib.Omega.{arith}
-use borrow.Author.Rules.{rules}
 use lib.ListN.{length-set}
 use Rattle.transfer.proofs.Laws.{entry-saved, no_entry_saved}
 use Rattle.transfer.proofs.save_entry.Goals as goal

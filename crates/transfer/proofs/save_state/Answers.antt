@@ -1,5 +1,4 @@
 -- `transfer::save_state` meets its contract: the words of the table come after the values. Assumes nothing.
-use borrow.Author.Rules.{rules}
 use Rattle.transfer.proofs.Laws.{state-saved}
 use Rattle.transfer.proofs.save_state.Goals as goal
 

@@ -1,13 +1,12 @@
 -- `transfer::save_table` meets its contract. The invariant: storing the words of the entries left gives what storing the whole table gives.
 -- Assumes nothing.
-use mathlib.Core.Path.{◌≡◌, refl, sym, ap, ◌∙◌}
-use Prim.Native.Nat.{zero-le, ◌+◌, ◌-◌, ◌*◌, ◌≤◌}
+use mathlib.Core.Path.{refl, sym, ap, ◌∙◌}
+use Prim.Native.Nat.{zero-le, ◌+◌, ◌*◌}
 use native.Mathlib.Omega.{arith}
 use lib.ListN.{length, length-set}
-use lib.Seq.{sets, length-sets}
-use Rattle.rules.specs.Rules.Limits.{max_entries}
+use lib.Seq.{length-sets}
 use Rattle.transfer.specs.Tables.{entry_words_at}
-use Rattle.transfer.proofs.Laws.{entries_left, entries_more, entries_all, entries_none}
+use Rattle.transfer.proofs.Laws.{entries_more, entries_all, entries_none}
 use Rattle.transfer.proofs.save_table.Goals as goal
 
 pub loop-i-init : goal.loop-i-init

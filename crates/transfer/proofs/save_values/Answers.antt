@@ -1,14 +1,11 @@
 -- `transfer::save_values` meets its contract. The invariant: storing the values left gives what storing all of them gives.
 -- Assumes nothing.
 use mathlib.Core.Path.{◌≡◌, refl, ap, ◌∙◌}
-use Prim.Native.Nat.{zero-le, ◌-◌, ◌≤◌}
+use Prim.Native.Nat.{zero-le, ◌-◌}
 use native.Mathlib.Nat.{sub-zero}
 use native.Mathlib.Omega.{arith}
-use borrow.Author.Rules.{rules}
-use lib.ListN.{length, length-set}
-use lib.Seq.{sets}
+use lib.ListN.{length-set}
 use Rattle.rules.specs.Rules.Plain.{values}
-use Rattle.work.specs.Machines.{locations_from}
 use Rattle.transfer.proofs.Laws.{save_more, save_all}
 use Rattle.transfer.proofs.save_values.Goals as goal
 
