@@ -7,7 +7,7 @@ use Prim.Native.Nat.{ℕ, zero, suc, ◌<◌, ◌≤◌}
 use native.Mathlib.Omega.{arith}
 use lib.Dec.{eqb, leb}
 use lib.ListN.{length}
-use borrow.Author.Tests.{leb-true, leb-false, le-leb, lt-leb, eq-eqb, ne_eqb}
+use borrow.Author.Tests.{leb-false, le-leb, lt-leb, eq-eqb, ne_eqb}
 use Rattle.rules.specs.Rules.Instructions.{Instr, skip, assign, load, store, jmp, beqz, cassign, spbarr, branching, other, branch_view}
 use Rattle.rules.specs.Rules.Plain.{Code, State, end_place, fetch, exec}
 use Rattle.rules.specs.Rules.Mispredicting.{Branch, Machine, Step, expired, rolling, opening, forward, ordinary, lower, step_on, step, plain_step}
@@ -20,7 +20,6 @@ use Rattle.work.specs.Words.{change_at, branch_at}
 use Rattle.work.specs.Machines.{state_in, branches_of, branches-length, machine_of, WindowBound, Fit}
 use Rattle.execution.specs.declared.Mode.{Mode}
 use Rattle.execution.specs.declared.Mode.TheVariants as modes
-use Rattle.execution.specs.declared.rule.Rule.{Rule}
 use Rattle.execution.specs.declared.rule.Rule.TheVariants as rule
 use Rattle.execution.specs.declared.step.Opening.TheVariants as openings
 use Rattle.execution.specs.Next.{step_by, forward_by, over_at, expired_on, rule_by, rule_at, Opens}

@@ -16,7 +16,7 @@ use Rattle.rules.specs.Rules.Instructions.{Instr, skip, assign, load, store, jmp
 use Rattle.rules.specs.Rules.Firsts.{cause_of}
 use Rattle.rules.specs.Rules.Outside.{overfull}
 use Rattle.rules.specs.Rules.Plain.{State, at, Code, fetch, store_overfull, exec}
-use Rattle.rules.specs.Rules.Mispredicting.{Machine, Step, rolling, opening, ordinary, forward, step, plain_step}
+use Rattle.rules.specs.Rules.Mispredicting.{Machine, Step, rolling, opening, ordinary, forward, plain_step}
 use Rattle.rules.proofs.Theorems.StepLaws.{branch-or_other, forward-branch, forward-other, forward_cases, step_cases, machine_with}
 use Rattle.token.specs.declared.Expression.{Expression}
 use Rattle.token.specs.Meaning.{tokens_of}

@@ -3,7 +3,6 @@ use Rattle.rules.specs.Rules.Pairs.{pair_lent}
 use Rattle.rules.proofs.Theorems.Promises.{pair-promise}
 use Rattle.job.specs.Answers.{read-accepted, read-public, read-refused}
 use Rattle.checker.proofs.Laws.{pair-rejected}
-use borrow.Author.Rules.{rules}
 use Rattle.checker.proofs.compare.Goals as goal
 
 pub compare_accepted-requires : goal.compare_accepted-requires

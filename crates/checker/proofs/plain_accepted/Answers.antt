@@ -1,10 +1,8 @@
 -- `plain_accepted` meets its contract: too short an area is refused before anything is written, else the run is made. Assumes nothing.
 use native.Mathlib.Omega.{arith}
-use borrow.Author.Tests.{not-true, not-false}
 use Rattle.rules.proofs.Theorems.Costs.{ones_fit}
 use Rattle.job_run.specs.Accepted.{accepted-limits}
 use Rattle.checker.proofs.Laws.{plain_short_areas, areas-fit, plain-ran}
-use borrow.Author.Rules.{rules}
 use Rattle.checker.proofs.plain_accepted.Goals as goal
 
 pub locations-n-requires : goal.locations-n-requires

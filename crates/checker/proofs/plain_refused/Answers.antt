@@ -4,7 +4,6 @@ use Rattle.location.specs.declared.LocationSet.{LocationSet}
 use Rattle.rules.specs.declared.PlainOutcome.TheVariants as plains
 use Rattle.rules.specs.declared.PlainAnswer.{PlainAnswer}
 use Rattle.rules.specs.Rules.Calls.{plain_refused}
-use borrow.Author.Rules.{rules}
 use Rattle.checker.proofs.plain_refused.Goals as goal
 
 pub returns : goal.returns

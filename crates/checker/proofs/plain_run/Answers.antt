@@ -3,7 +3,6 @@ use Rattle.rules.specs.Rules.Calls.{lent}
 use Rattle.rules.proofs.Theorems.Promises.{plain-promise}
 use Rattle.job.specs.Answers.{read-accepted, read-refused}
 use Rattle.checker.proofs.Laws.{plain-exact_rejected}
-use borrow.Author.Rules.{rules}
 use Rattle.checker.proofs.plain_run.Goals as goal
 
 pub plain_accepted-requires : goal.plain_accepted-requires

@@ -1,6 +1,5 @@
 -- `report` meets its contract. Assumes nothing.
 use Rattle.rules.specs.declared.RunOutcome.TheVariants as runs
-use borrow.Author.Rules.{rules}
 use Rattle.checker.proofs.report.Goals as goal
 
 pub returns : goal.returns

@@ -3,7 +3,6 @@ use Rattle.rules.specs.Rules.Calls.{lent}
 use Rattle.rules.proofs.Theorems.Promises.{run-promise}
 use Rattle.job.specs.Answers.{read-accepted, read-public, read-refused}
 use Rattle.checker.proofs.Laws.{exact-rejected}
-use borrow.Author.Rules.{rules}
 use Rattle.checker.proofs.run.Goals as goal
 
 pub run_accepted-requires : goal.run_accepted-requires

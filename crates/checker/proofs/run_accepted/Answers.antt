@@ -2,10 +2,8 @@
 -- made. Assumes nothing.
 use mathlib.Core.Path.{sym, ◌∙◌}
 use native.Mathlib.Omega.{arith}
-use borrow.Author.Tests.{not-true, not-false}
 use Rattle.job_run.specs.Accepted.{accepted-limits}
 use Rattle.checker.proofs.Laws.{exact_untabled, exact_short, areas-fit, exact-ran}
-use borrow.Author.Rules.{rules}
 use Rattle.checker.proofs.run_accepted.Goals as goal
 
 pub locations-n-requires : goal.locations-n-requires

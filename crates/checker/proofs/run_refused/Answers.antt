@@ -1,7 +1,6 @@
 -- `run_refused` meets its contract. Assumes nothing.
 use Rattle.rules.specs.declared.RunOutcome.TheVariants as runs
 use Rattle.rules.specs.Rules.Calls.{run_refused}
-use borrow.Author.Rules.{rules}
 use Rattle.checker.proofs.run_refused.Goals as goal
 
 pub returns : goal.returns

@@ -4,7 +4,6 @@ use Rattle.rules.specs.Rules.TestLoads.{test_load_lent}
 use Rattle.rules.proofs.Theorems.TestLoads.{test_load_promise}
 use Rattle.job.specs.Answers.{read-accepted, read-public, read-refused}
 use Rattle.checker.proofs.Laws.{test_load_rejected}
-use borrow.Author.Rules.{rules}
 use Rattle.checker.proofs.test_load.Goals as goal
 
 pub test_accepted-requires : goal.test_accepted-requires

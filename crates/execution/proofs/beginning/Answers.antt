@@ -3,7 +3,6 @@ use mathlib.Core.Path.{ap₂}
 use Rattle.location.specs.declared.LocationSet.{LocationSet}
 use Rattle.stepping.specs.declared.Progress.{Progress}
 use Rattle.execution.specs.Starts.{beginning}
-use borrow.Author.Rules.{rules}
 use Rattle.execution.proofs.beginning.Goals as goal
 
 pub returns : goal.returns

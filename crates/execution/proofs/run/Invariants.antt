@@ -1,14 +1,10 @@
 -- `run` meets its contract: what is left of the run is kept until a stop is found. Assumes nothing.
-use mathlib.Core.Path.{◌≡◌, refl, ◌∙◌}
-use Prim.Native.Nat.{◌-◌, ◌<◌}
-use native.Mathlib.Omega.{arith}
+use mathlib.Core.Path.{◌≡◌}
+use Prim.Native.Nat.{◌-◌}
 use lib.ListN.{length}
 use Rattle.stepping.specs.Progress.{standing}
 use Rattle.execution.specs.Running.{Ready, Settled}
 use Rattle.execution.specs.Starts.{whole}
-use Rattle.execution.proofs.Running.{found, not_over, ready-start, settled_start, run_ends}
-use Rattle.execution.proofs.Foreseen.{few-observed, same-steps, foreseen_unhindered, foreseen_ahead, foreseen_ends}
-use borrow.Author.Rules.{rules}
 use Rattle.execution.proofs.run.Given as goal
 
 abbrev pub invariant-loop-trace : goal.invariant-loop-trace

@@ -3,7 +3,6 @@ use native.Mathlib.Omega.{arith}
 use Rattle.rules.proofs.Theorems.Costs.{fit_length}
 use Rattle.job_run.specs.Accepted.{accepted-limits, accepted_list, accepted-length}
 use Rattle.job_run.proofs.Laws.{same-part, program-accepted, prepared, loaded_for}
-use borrow.Author.Rules.{rules}
 use Rattle.job_run.proofs.load.Goals as goal
 
 pub load_state-requires : goal.load_state-requires

@@ -2,7 +2,6 @@
 use native.Mathlib.Omega.{arith}
 use Rattle.job_run.specs.Accepted.{accepted-limits, accepted_list, accepted-length}
 use Rattle.job_run.proofs.Laws.{same-part, run_in}
-use borrow.Author.Rules.{rules}
 use Rattle.job_run.proofs.run_in_areas.Goals as goal
 
 pub load-requires : goal.load-requires

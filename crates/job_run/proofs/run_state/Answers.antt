@@ -2,7 +2,6 @@
 use native.Mathlib.Omega.{arith}
 use Rattle.job_run.specs.Accepted.{accepted_list, accepted-length}
 use Rattle.job_run.proofs.Laws.{same-part}
-use borrow.Author.Rules.{rules}
 use Rattle.job_run.proofs.run_state.Goals as goal
 
 pub load-requires : goal.load-requires

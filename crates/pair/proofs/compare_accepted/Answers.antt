@@ -1,10 +1,8 @@
 -- `pair::compare_accepted` meets its contract: the refusals in their order, before anything is written. Assumes nothing.
 use mathlib.Core.Path.{sym, ◌∙◌}
 use native.Mathlib.Omega.{arith}
-use borrow.Author.Tests.{not-true, not-false}
 use Rattle.job_run.specs.Accepted.{accepted-limits}
 use Rattle.pair.proofs.Laws.{ready_by, other-size, no_table, unfit}
-use borrow.Author.Rules.{rules}
 use Rattle.pair.proofs.compare_accepted.Goals as goal
 
 pub locations-n-requires : goal.locations-n-requires

@@ -1,6 +1,5 @@
 -- `pair::compare_runs` meets its contract: two runs one after the other over the same working words. Assumes nothing.
 use Rattle.pair.proofs.Laws.{own-ran, ready_again, exact-compared}
-use borrow.Author.Rules.{rules}
 use Rattle.pair.proofs.compare_runs.Goals as goal
 
 pub run_own-r-requires : goal.run_own-r-requires

@@ -1,7 +1,6 @@
 -- `pair::run_own` meets its contract: the job's bytes have its own state. Assumes nothing.
 use native.Mathlib.Omega.{arith}
 use Rattle.job_run.specs.Accepted.{accepted_list, accepted-length}
-use borrow.Author.Rules.{rules}
 use Rattle.pair.proofs.run_own.Goals as goal
 
 pub run_state-requires : goal.run_state-requires

@@ -1,6 +1,5 @@
 -- `pair::run_second` meets its contract: the run with the second state, and the word on both. Assumes nothing.
 use Rattle.pair.proofs.Laws.{first_fits, second_fits, second-ran}
-use borrow.Author.Rules.{rules}
 use Rattle.pair.proofs.run_second.Goals as goal
 
 pub word_on-word-requires : goal.word_on-word-requires

@@ -2,7 +2,6 @@
 use native.Mathlib.Omega.{arith}
 use Rattle.job_run.specs.Accepted.{accepted-limits, accepted_list, accepted-length}
 use Rattle.pair.proofs.Laws.{word-found}
-use borrow.Author.Rules.{rules}
 use Rattle.pair.proofs.word_on.Goals as goal
 
 pub locations-n-requires : goal.locations-n-requires

@@ -1,8 +1,5 @@
 -- `main` is safe and ends: what was read is in the buffer. Assumes nothing.
-use mathlib.Core.Path.{sym}
 use native.Mathlib.Omega.{arith}
-use lib.Seq.{length-take-le}
-use borrow.Author.Rules.{rules}
 use Rattle.show_read.proofs.main.Goals as goal
 
 pub slice_bounds-buffer-end : goal.slice_bounds-buffer-end

@@ -5,7 +5,6 @@ use native.Mathlib.Omega.{arith}
 use lib.ListN.{length, length-replicate}
 use lib.Seq.{length-take-le}
 use Rattle.show_text.proofs.Laws.{printed-within}
-use borrow.Author.Rules.{rules}
 use Rattle.show_text.proofs.show.Goals as goal
 
 pub slice_bounds-text-end : goal.slice_bounds-text-end

@@ -4,7 +4,6 @@ use Prim.Native.Nat.{◌+◌}
 use native.Mathlib.Omega.{arith}
 use Rattle.location.specs.Sets.{registers}
 use Rattle.stepping.proofs.Steps.{assigned}
-use borrow.Author.Rules.{rules}
 use Rattle.stepping.proofs.assign.Goals as goal
 
 pub assign-next-requires : goal.assign-next-requires

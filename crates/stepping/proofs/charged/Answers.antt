@@ -1,7 +1,6 @@
 -- `charged` meets its contract: the entry that is read is that of the instruction's kind. Assumes nothing.
 use native.Mathlib.Omega.{arith}
 use Rattle.stepping.proofs.Laws.{charged_exact}
-use borrow.Author.Rules.{rules}
 use Rattle.stepping.proofs.charged.Goals as goal
 
 pub cost_of-cost-requires : goal.cost_of-cost-requires

@@ -1,6 +1,5 @@
 -- `count_step` meets its contract. Assumes nothing.
 use Prim.Native.Nat.{◌+◌}
-use borrow.Author.Rules.{rules}
 use Rattle.stepping.proofs.count_step.Goals as goal
 
 pub returns : goal.returns

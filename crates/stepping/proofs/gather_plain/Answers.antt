@@ -1,7 +1,6 @@
 -- `gather_plain` meets its contract. Assumes nothing.
 use mathlib.Core.Path.{◌∙◌}
 use Rattle.stepping.proofs.Laws.{gathers-plain, keeps-plain}
-use borrow.Author.Rules.{rules}
 use Rattle.stepping.proofs.gather_plain.Goals as goal
 
 pub returns-then-depth-eq0 : goal.returns-then-depth-eq0

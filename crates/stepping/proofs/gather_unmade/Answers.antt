@@ -1,5 +1,4 @@
 -- `gather_unmade` meets its contract. Assumes nothing.
-use borrow.Author.Rules.{rules}
 use Rattle.stepping.proofs.gather_unmade.Goals as goal
 
 pub returns : goal.returns

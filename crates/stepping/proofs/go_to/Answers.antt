@@ -2,7 +2,6 @@
 use mathlib.Core.Path.{refl}
 use Rattle.rules.specs.Rules.Calls.{trace_words}
 use Rattle.stepping.proofs.Steps.{kept, kept-shown}
-use borrow.Author.Rules.{rules}
 use Rattle.stepping.proofs.go_to.Goals as goal
 
 pub returns : goal.returns
@@ -11,4 +10,4 @@ returns c =
     let a = c.args in
     let k = kept c.lowered_window-remaining.ensures c.go-gone.ensures refl c.count_step.ensures in
     let e = c.observe.ensures in
-    record { exact = (k, e); carried = λ v cells h live most. kept-shown live most a.place v (rw h k) e; }
+    record { exact = (k, e); carried = λ v cells h live most. kept-shown live most a.place v (rw h k) e }

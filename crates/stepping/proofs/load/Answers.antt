@@ -1,6 +1,5 @@
 -- `load` meets its contract: the word of each way is the rules'. Assumes nothing.
 use Rattle.stepping.proofs.Steps.{load-carried}
-use borrow.Author.Rules.{rules}
 use Rattle.stepping.proofs.load.Goals as goal
 
 pub returns-then-cells-a : goal.returns-then-cells-a

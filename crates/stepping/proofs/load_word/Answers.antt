@@ -5,7 +5,6 @@ use native.Mathlib.Omega.{arith}
 use Rattle.location.specs.Sets.{registers}
 use Rattle.rules.specs.Rules.Instructions.{loaded}
 use Rattle.stepping.proofs.Steps.{assigned_shown}
-use borrow.Author.Rules.{rules}
 use Rattle.stepping.proofs.load_word.Goals as goal
 
 pub assign-next-requires : goal.assign-next-requires

@@ -1,6 +1,5 @@
 -- `lowered_window` meets its contract. Assumes nothing.
 use Rattle.stepping.proofs.Laws.{none_left, some_left}
-use borrow.Author.Rules.{rules}
 use Rattle.stepping.proofs.lowered_window.Goals as goal
 
 pub returns-then-left-eq0 : goal.returns-then-left-eq0

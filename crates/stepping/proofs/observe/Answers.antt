@@ -2,7 +2,6 @@
 use native.Mathlib.Numerals.{add-one}
 use native.Mathlib.Omega.{arith}
 use lib.ListN.{length-set}
-use borrow.Author.Rules.{rules}
 use Rattle.stepping.proofs.observe.Goals as goal
 
 pub bounds-trace-at-2 : goal.bounds-trace-at-2

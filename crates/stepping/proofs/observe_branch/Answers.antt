@@ -1,6 +1,5 @@
 -- `observe_branch` meets its contract: one observation after the other. Assumes nothing.
 use Rattle.stepping.proofs.Laws.{stored-twice}
-use borrow.Author.Rules.{rules}
 use Rattle.stepping.proofs.observe_branch.Goals as goal
 
 pub returns : goal.returns

@@ -3,7 +3,6 @@ use mathlib.Core.Path.{◌∙◌}
 use native.Mathlib.Omega.{arith}
 use Rattle.rules.specs.Rules.Plain.{branch_to}
 use Rattle.stepping.proofs.Steps.{opened}
-use borrow.Author.Rules.{rules}
 use Rattle.stepping.proofs.open_branch.Goals as goal
 
 pub overflow_add-next : goal.overflow_add-next

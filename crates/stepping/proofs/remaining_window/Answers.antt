@@ -1,6 +1,5 @@
 -- `remaining_window` meets its contract. Assumes nothing.
 use Rattle.stepping.proofs.Laws.{closed-leaves, open_leaves}
-use borrow.Author.Rules.{rules}
 use Rattle.stepping.proofs.remaining_window.Goals as goal
 
 pub returns-then-c-eq0 : goal.returns-then-c-eq0

@@ -1,6 +1,5 @@
 -- `roll_back` meets its contract: the move, its observations and the counts are rule 1. Assumes nothing.
 use Rattle.stepping.proofs.Steps.{rolled-back}
-use borrow.Author.Rules.{rules}
 use Rattle.stepping.proofs.roll_back.Goals as goal
 
 pub returns : goal.returns

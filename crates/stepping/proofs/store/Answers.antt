@@ -3,7 +3,6 @@ use mathlib.Core.Path.{refl}
 use native.Mathlib.Omega.{arith}
 use Rattle.evaluation.proofs.Laws.{store-inside, store-outside}
 use Rattle.stepping.proofs.Steps.{store_in_cell, store-tried}
-use borrow.Author.Rules.{rules}
 use Rattle.stepping.proofs.store.Goals as goal
 
 pub returns-then-cells-value : goal.returns-then-cells-value

@@ -1,6 +1,5 @@
 -- `store_outside` meets its contract: the move, the observation and the counts are rule 3; or it is not made. Assumes nothing.
 use Rattle.stepping.proofs.Steps.{tried-there, store-made, store-unmade}
-use borrow.Author.Rules.{rules}
 use Rattle.stepping.proofs.store_outside.Goals as goal
 
 pub store-next-requires : goal.store-next-requires

@@ -1,6 +1,5 @@
 -- `new_word` meets its contract, for a word that is kept and for one that is made. Assumes nothing.
 use mathlib.Core.Path.{refl}
-use borrow.Author.Rules.{rules}
 use Rattle.test_load.proofs.new_word.Goals as goal
 
 pub returns-then-keep : goal.returns-then-keep

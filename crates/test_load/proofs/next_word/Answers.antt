@@ -1,6 +1,5 @@
 -- `next_word` meets its contract: the operations of xorshift in their order. Assumes nothing.
 use Rattle.test_load.proofs.Laws.{next-made}
-use borrow.Author.Rules.{rules}
 use Rattle.test_load.proofs.next_word.Goals as goal
 
 pub returns : goal.returns

@@ -1,9 +1,7 @@
 -- `run_load` meets its contract: the own run alone, or the new state's run after it. Assumes nothing.
 use native.Mathlib.Omega.{arith}
-use borrow.Author.Tests.{not-true, not-false}
 use Rattle.pair.proofs.Laws.{own-ran, ready_again}
 use Rattle.test_load.proofs.Laws.{exact-unfinished, exact-made}
-use borrow.Author.Rules.{rules}
 use Rattle.test_load.proofs.run_load.Goals as goal
 
 pub run_own-r-requires : goal.run_own-r-requires

@@ -3,7 +3,6 @@ use native.Mathlib.Omega.{arith}
 use Rattle.location.specs.Sets.{union}
 use Rattle.job_run.specs.Accepted.{accepted-limits, accepted_list, accepted-length}
 use Rattle.test_load.proofs.Laws.{second-sized, new-state_ran}
-use borrow.Author.Rules.{rules}
 use Rattle.test_load.proofs.run_new_state.Goals as goal
 
 pub locations-n-requires : goal.locations-n-requires

@@ -1,11 +1,9 @@
 -- `test_accepted` meets its contract: the refusals in their order, before anything is written. Assumes nothing.
 use mathlib.Core.Path.{sym, ◌∙◌}
 use native.Mathlib.Omega.{arith}
-use borrow.Author.Tests.{not-true, not-false}
 use Rattle.job_run.specs.Accepted.{accepted-limits}
 use Rattle.pair.proofs.Laws.{ready_by}
 use Rattle.test_load.proofs.Laws.{no_table, unfit, no_seed, short_state}
-use borrow.Author.Rules.{rules}
 use Rattle.test_load.proofs.test_accepted.Goals as goal
 
 pub locations-n-requires : goal.locations-n-requires

@@ -1,13 +1,12 @@
 -- `write_state` meets its contract. The invariant: what is left of the new state from location l on ends where all of it ends.
 -- Assumes nothing.
 use mathlib.Core.Path.{refl}
-use Prim.Native.Nat.{◌+◌, ◌-◌, ◌^◌, ◌≤◌}
+use Prim.Native.Nat.{◌+◌, ◌^◌}
 use native.Mathlib.Omega.{arith}
 use Rattle.rules.specs.Rules.Encoding.{bytes_of}
-use Rattle.byte_writer.specs.Texts.{Left, left_done, left-length, left-room, left-next}
+use Rattle.byte_writer.specs.Texts.{left_done, left-length, left-room, left-next}
 use Rattle.byte_writer.specs.Areas.{put-fits}
 use Rattle.test_load.proofs.Laws.{rest_of, rest-next, rest_over, rest-length, rest-first}
-use borrow.Author.Rules.{rules}
 use Rattle.test_load.proofs.write_state.Goals as goal
 
 pub loop-l-init : goal.loop-l-init

@@ -1,13 +1,8 @@
 -- `write_state` meets its contract. The invariant: what is left of the new state from location l on ends where all of it ends.
 -- Assumes nothing.
-use mathlib.Core.Path.{refl}
-use Prim.Native.Nat.{◌+◌, ◌-◌, ◌^◌, ◌≤◌}
-use native.Mathlib.Omega.{arith}
-use Rattle.rules.specs.Rules.Encoding.{bytes_of}
-use Rattle.byte_writer.specs.Texts.{Left, left_done, left-length, left-room, left-next}
-use Rattle.byte_writer.specs.Areas.{put-fits}
-use Rattle.test_load.proofs.Laws.{rest_of, rest-next, rest_over, rest-length, rest-first}
-use borrow.Author.Rules.{rules}
+use Prim.Native.Nat.{◌-◌, ◌≤◌}
+use Rattle.byte_writer.specs.Texts.{Left}
+use Rattle.test_load.proofs.Laws.{rest_of}
 use Rattle.test_load.proofs.write_state.Given as goal
 
 abbrev pub invariant-loop-l : goal.invariant-loop-l

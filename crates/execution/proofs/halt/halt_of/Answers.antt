@@ -9,7 +9,6 @@ use Rattle.stepping.specs.Progress.{standing}
 use Rattle.execution.specs.Running.{code_in}
 use Rattle.execution.proofs.Machine.{step-most}
 use Rattle.execution.proofs.Running.{halts-finished, halts_spent, halts-full, fitting}
-use borrow.Author.Rules.{rules}
 use Rattle.execution.proofs.halt.halt_of.Goals as goal
 
 pub returns-then-is_over : goal.returns-then-is_over

@@ -13,7 +13,6 @@ use Rattle.execution.specs.Running.{code_in}
 use Rattle.execution.proofs.Machine.{closed-window, over-named, back-named, advance_named, place_inside}
 use Rattle.execution.proofs.Overfull.{step_fits}
 use Rattle.execution.proofs.Running.{code_of, steady_any, rolls_fitting, fetched_valid, fetched_same, step-overfull}
-use borrow.Author.Rules.{rules}
 use Rattle.execution.proofs.halt.next_needs.Goals as goal
 
 pub returns-then-entry_count-lt-MAX_ENTRIES : goal.returns-then-entry_count-lt-MAX_ENTRIES

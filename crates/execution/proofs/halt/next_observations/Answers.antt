@@ -11,7 +11,6 @@ use Rattle.execution.specs.Next.{forward_by}
 use Rattle.execution.specs.Running.{code_in}
 use Rattle.execution.proofs.Machine.{closed-window, over-named, back-named, advance_named, place_inside}
 use Rattle.execution.proofs.Running.{rolls_two, fetched_valid, fetched_same, observed-forward}
-use borrow.Author.Rules.{rules}
 use Rattle.execution.proofs.halt.next_observations.Goals as goal
 
 pub rule_of-requires : goal.rule_of-requires

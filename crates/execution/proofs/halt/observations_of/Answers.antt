@@ -1,7 +1,6 @@
 -- `observations_of` meets its contract, kind by kind. Assumes nothing.
 use Rattle.execution.specs.declared.Mode.TheVariants as modes
 use Rattle.execution.proofs.Machine.{observed-kind}
-use borrow.Author.Rules.{rules}
 use Rattle.execution.proofs.halt.observations_of.Goals as goal
 
 pub returns-in-Skip : goal.returns-in-Skip

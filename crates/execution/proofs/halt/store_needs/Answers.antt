@@ -1,7 +1,6 @@
 -- `store_needs` meets its contract, kind by kind: only a store needs an address. Assumes nothing.
 use native.Mathlib.Omega.{arith}
 use Rattle.execution.proofs.Overfull.{other_needs, store-inside_needs, store-outside_needs}
-use borrow.Author.Rules.{rules}
 use Rattle.execution.proofs.halt.store_needs.Goals as goal
 
 pub evaluate-a-requires : goal.evaluate-a-requires

@@ -9,7 +9,6 @@ use Rattle.execution.specs.Running.{descriptor_at}
 use Rattle.execution.proofs.Bare.{skip-bare, barrier_bare, bare-made}
 use Rattle.execution.proofs.ConstantJump.{constant, jump-shown, jumped}
 use Rattle.execution.proofs.Running.{fetched_valid}
-use borrow.Author.Rules.{rules}
 use Rattle.execution.proofs.step.advance.Goals as goal
 
 pub word_of-word-requires : goal.word_of-word-requires

@@ -13,10 +13,8 @@ use Rattle.work.specs.Machines.{machine_of}
 use Rattle.evaluation.proofs.Laws.{register-value}
 use Rattle.execution.specs.Running.{code_in}
 use Rattle.execution.proofs.Machine.{still_going}
-use borrow.Author.Tests.{not-true, not-false}
 use Rattle.execution.proofs.Running.{in_state, locations-most, tried_as, opened-tried, not_opened, code_of, fetched_valid, fetched_same}
 use Rattle.execution.proofs.Running.{branch-step, other_step, branch-room, other-room}
-use borrow.Author.Rules.{rules}
 use Rattle.execution.proofs.step.advance_by.Goals as goal
 
 pub source_value-a-requires : goal.source_value-a-requires

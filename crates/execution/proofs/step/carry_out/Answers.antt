@@ -3,11 +3,9 @@ use mathlib.Core.Path.{refl, sym, ◌∙◌}
 use native.Mathlib.Omega.{arith}
 use Rattle.evaluation.proofs.Laws.{second-sound, register-value}
 use Rattle.stepping.specs.Progress.{standing}
-use borrow.Author.Tests.{not-true as left_false, not-false as kept-true}
 use Rattle.execution.proofs.Effects.{skip-carried, barrier_carried, assign-carried, load-carried, store-carried, jump-carried, branch-carried}
 use Rattle.execution.proofs.Effects.{assign_if_carried, not_carried, load-seen, store-seen, jump-seen, branch-seen}
 use Rattle.execution.proofs.Effects.{load-shown, store-shown, jump-shown, branch-shown}
-use borrow.Author.Rules.{rules}
 use Rattle.execution.proofs.step.carry_out.Goals as goal
 
 pub overflow_add-next : goal.overflow_add-next

@@ -1,14 +1,9 @@
 -- `make_steps` meets its contract: each step is the rules', and may be made; a store that cannot be made ends them. Assumes nothing.
-use mathlib.Core.Path.{◌≡◌, refl, ◌∙◌}
+use mathlib.Core.Path.{◌≡◌}
 use Prim.Native.Nat.{◌-◌}
-use native.Mathlib.Omega.{arith}
 use lib.ListN.{length}
 use Rattle.stepping.specs.Progress.{standing}
-use Rattle.execution.proofs.Machine.{closed-window, open_back, place_inside, window-left}
-use Rattle.execution.proofs.Running.{Stepping, rolled, rolls_two, rolls_quiet, rolls_fitting, known-empty}
-use Rattle.execution.proofs.Running.{stepping_starts, stepping_on, stepping_made, stepping_over, stepping_stuck}
-use Rattle.execution.proofs.Running.{moved_made, back-next, advance_next}
-use borrow.Author.Rules.{rules}
+use Rattle.execution.proofs.Running.{Stepping}
 use Rattle.execution.proofs.step.make_steps.Given as goal
 
 abbrev pub invariant-loop-c : goal.invariant-loop-c

@@ -3,7 +3,6 @@ use mathlib.Core.Path.{refl, sym, ap, ◌∙◌}
 use Rattle.rules.specs.Rules.Instructions.{beqz}
 use Rattle.descriptor.specs.Reading.{branch-shaped, other-shaped}
 use Rattle.execution.proofs.Machine.{never_opens}
-use borrow.Author.Rules.{rules}
 use Rattle.execution.proofs.step.opening_of.Goals as goal
 
 pub returns-then-d-ne-BRANCH : goal.returns-then-d-ne-BRANCH
