@@ -2,7 +2,6 @@
 use mathlib.Core.Path.{◌∙◌}
 use Rattle.rules.specs.Cases.Document01.{barrier_program}
 use Rattle.cases.proofs.Laws.{barrier_laid}
-use borrow.Author.Rules.{rules}
 use Rattle.cases.proofs.barrier.Goals as goal
 
 pub returns : goal.returns

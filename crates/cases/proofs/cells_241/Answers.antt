@@ -2,7 +2,6 @@
 use mathlib.Core.Path.{◌∙◌}
 use Rattle.rules.specs.Cases.Document01.{printed_program}
 use Rattle.cases.proofs.Laws.{cells_241_laid}
-use borrow.Author.Rules.{rules}
 use Rattle.cases.proofs.cells_241.Goals as goal
 
 pub returns : goal.returns

@@ -1,7 +1,6 @@
 -- `nested` meets its contract. Assumes nothing.
 use mathlib.Core.Path.{◌∙◌}
 use Rattle.cases.proofs.Laws.{nested_laid}
-use borrow.Author.Rules.{rules}
 use Rattle.cases.proofs.nested.Goals as goal
 
 pub returns : goal.returns

@@ -1,6 +1,5 @@
 -- `checker_compare` meets its contract. Assumes nothing.
 use Rattle.checker_c.proofs.Laws.{pair-refused, pair_returned}
-use borrow.Author.Rules.{rules}
 use Rattle.checker_c.proofs.checker_compare.Goals as goal
 
 pub returns-in-Refused : goal.returns-in-Refused

@@ -1,6 +1,5 @@
 -- `checker_plain_run` meets its contract. Assumes nothing.
 use Rattle.checker_c.proofs.Laws.{plain-refused, plain_returned}
-use borrow.Author.Rules.{rules}
 use Rattle.checker_c.proofs.checker_plain_run.Goals as goal
 
 pub returns-in-Refused : goal.returns-in-Refused

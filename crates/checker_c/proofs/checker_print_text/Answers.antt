@@ -1,6 +1,5 @@
 -- `checker_print_text` meets its contract. Assumes nothing.
 use Rattle.checker_c.proofs.Laws.{print_refused, print_returned}
-use borrow.Author.Rules.{rules}
 use Rattle.checker_c.proofs.checker_print_text.Goals as goal
 
 pub returns-in-Refused : goal.returns-in-Refused

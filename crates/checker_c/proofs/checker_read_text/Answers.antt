@@ -1,6 +1,5 @@
 -- `checker_read_text` meets its contract. Assumes nothing.
 use Rattle.checker_c.proofs.Laws.{read-refused, read_returned}
-use borrow.Author.Rules.{rules}
 use Rattle.checker_c.proofs.checker_read_text.Goals as goal
 
 pub returns-in-Refused : goal.returns-in-Refused

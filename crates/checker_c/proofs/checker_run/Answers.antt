@@ -1,6 +1,5 @@
 -- `checker_run` meets its contract. Assumes nothing.
 use Rattle.checker_c.proofs.Laws.{run-refused, run_returned, run-members}
-use borrow.Author.Rules.{rules}
 use Rattle.checker_c.proofs.checker_run.Goals as goal
 
 pub write_run-requires : goal.write_run-requires

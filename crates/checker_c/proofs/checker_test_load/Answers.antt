@@ -1,6 +1,5 @@
 -- `checker_test_load` meets its contract. Assumes nothing.
 use Rattle.checker_c.proofs.Laws.{test-load-refused, unfinished_returned, test_load_returned}
-use borrow.Author.Rules.{rules}
 use Rattle.checker_c.proofs.checker_test_load.Goals as goal
 
 pub returns-in-Refused : goal.returns-in-Refused

@@ -1,6 +1,5 @@
 -- `instruction_count` meets its contract. Assumes nothing.
 use Rattle.printer.proofs.Laws.{count-accepted, count-refused}
-use borrow.Author.Rules.{rules}
 use Rattle.printer.proofs.instruction_count.Goals as goal
 
 pub returns-in-Accepted : goal.returns-in-Accepted

@@ -1,7 +1,4 @@
 -- `main` is safe and ends: what was read is in the buffer. Assumes nothing.
-use mathlib.Core.Path.{sym}
-use lib.Seq.{length-take-le}
-use borrow.Author.Rules.{rules}
 use Rattle.show.proofs.main.Goals as goal
 
 pub slice_bounds-buffer-end : goal.slice_bounds-buffer-end
