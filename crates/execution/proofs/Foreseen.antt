@@ -21,7 +21,6 @@ use Rattle.rules.specs.Rules.Plain.{Code}
 use Rattle.rules.specs.Rules.Limits.{max_instructions}
 use Rattle.rules.specs.Rules.Runs.{Gathered, Result, gather, observed_set, note, fits, over, run}
 use Rattle.rules.proofs.Theorems.RunLaws.{run_step}
-use Rattle.rules.proofs.Theorems.Undo.{PositiveCosts}
 use Rattle.program.specs.Programs.{Describes}
 use Rattle.work.specs.declared.machine.Control.{Control}
 use Rattle.work.specs.Layout.{labels}
@@ -41,6 +40,7 @@ use Rattle.execution.specs.Next.{step_by}
 use Rattle.execution.specs.Running.{code_in, Ready, code_at, next_step, Permitted, Overfull, FreeUntil, next_set, Quiet, Foreseen, Unhindered}
 use Rattle.execution.specs.Running.{Running, Settled, Ahead, report_of, RanTo}
 use Rattle.execution.proofs.Running.{known-empty, locations-most, halts-outside, ends}
+use Rattle.rules.specs.Theorems.Bounds.{PositiveCosts}
 
 -- what is gathered once more is what was gathered
 plain_again : (d : ℕ) (plain s : LocationSet) → gather_at d (gather_at d plain s) s ≡ gather_at d plain s

@@ -25,8 +25,6 @@ use Rattle.rules.specs.Rules.Runs.{Gathered, Result, observed_set, note, note_un
 use Rattle.rules.specs.Rules.JobFile.{locations}
 use Rattle.rules.specs.Rules.Calls.{written, trace_words, working_words, counts}
 use Rattle.rules.proofs.Theorems.RunLaws.{run-over, run_spent, run-full, run-outside, run_step}
-use Rattle.rules.proofs.Theorems.JobLaws.{Limits}
-use Rattle.rules.proofs.Theorems.Undo.{PositiveCosts}
 use Rattle.descriptor.specs.declared.Descriptor.{Descriptor}
 use Rattle.descriptor.specs.Descriptors.{descriptor_in, instruction_in, Valid}
 use Rattle.program.specs.Programs.{Describes, program-length, program-at}
@@ -59,6 +57,7 @@ use Rattle.execution.proofs.Machine.{over_by, over-named, back-named, advance_na
 use Rattle.execution.proofs.Machine.{plain_closed, same-shown, step-most}
 use Rattle.execution.proofs.TraceArea.{observed-more}
 use Rattle.execution.proofs.Overfull.{forward-overfull, forward-seen, forward-cause}
+use Rattle.rules.specs.Theorems.Bounds.{Limits, PositiveCosts}
 
 -- at most 256 locations
 pub locations-most : {t : Trailer} → Limits t → locations t ≤ limit

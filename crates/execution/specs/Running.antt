@@ -17,8 +17,6 @@ use Rattle.rules.specs.Rules.Loop.{ended}
 use Rattle.rules.specs.Rules.Runs.{Result, over, run}
 use Rattle.rules.specs.Rules.JobFile.{postfix, locations}
 use Rattle.rules.specs.Rules.Calls.{written, trace_words, counts}
-use Rattle.rules.proofs.Theorems.JobLaws.{Limits}
-use Rattle.rules.proofs.Theorems.Undo.{PositiveCosts}
 use Rattle.instruction.specs.declared.Instruction.{Instruction}
 use Rattle.instruction.specs.Meaning.{meaning}
 use Rattle.instruction.specs.Registers.{RegistersBelow}
@@ -40,6 +38,7 @@ use Rattle.execution.specs.declared.Ran.{Ran}
 use Rattle.execution.specs.declared.halt.Halt.{Halt}
 use Rattle.execution.specs.declared.halt.Halt.TheVariants as halt
 use Rattle.execution.specs.Next.{step_by}
+use Rattle.rules.specs.Theorems.Bounds.{Limits, PositiveCosts}
 
 -- ---- the program
 -- what the steps of a job are given: the program that the words ws from its labels on describe over the bytes p, its trailer's numbers, and the

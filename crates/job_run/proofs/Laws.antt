@@ -20,7 +20,6 @@ use Rattle.rules.specs.Rules.Calls.{lent, table_size, end_words, written, workin
 use Rattle.rules.specs.Rules.Pairs.{with_state}
 use Rattle.rules.specs.Rules.Costs.{costs_fit, with_costs}
 use Rattle.rules.specs.Theorems.Readers.{readable}
-use Rattle.rules.proofs.Theorems.Undo.{PositiveCosts}
 use Rattle.rules.proofs.Theorems.Costs.{fit_length, fit-positive}
 use Rattle.rules.proofs.Theorems.JobLaws.{passed}
 use Rattle.descriptor.specs.Descriptors.{offsets}
@@ -41,6 +40,7 @@ use Rattle.execution.specs.Running.{Loaded, EndsAs, RanTo}
 use Rattle.execution.specs.Starts.{whole, whole_mispredicting, whole_plain}
 use Rattle.job_run.specs.Accepted.{accepted-limits, accepted-state}
 use Rattle.job_run.specs.JobRuns.{result_of, LoadedFor, RunOf, cleared, RunIn}
+use Rattle.rules.specs.Theorems.Bounds.{PositiveCosts}
 
 -- the part of a list that the code takes from 0 on
 pub same-part : (n : ℕ) (xs : List ℕ) → take (n - 0) (drop 0 xs) ≡ take n xs

@@ -9,9 +9,10 @@ use Rattle.rules.specs.Rules.JobFile.{trailer, locations, state_of, public_of, w
 use Rattle.rules.specs.Rules.Runs.{Job}
 use Rattle.rules.specs.Rules.Costs.{with_costs}
 use Rattle.rules.specs.Rules.Pairs.{with_state}
-use Rattle.rules.proofs.Theorems.JobLaws.{Passed, passed, Limits, limits-hold, job-init, job-public, length-state_of, state_list, list_length}
+use Rattle.rules.proofs.Theorems.JobLaws.{Passed, passed, limits-hold, job-init, job-public, length-state_of, state_list, list_length}
 use Rattle.job.specs.Answers.{Accepts}
 use Rattle.execution.specs.Starts.{own-state}
+use Rattle.rules.specs.Theorems.Bounds.{Limits}
 
 module _ {bs : List ℕ} {t : Trailer} (a : Accepts bs t) where
   pub accepted-passed : Passed bs a.job

@@ -13,7 +13,7 @@ use Rattle.rules.specs.Rules.Plain.{State, Code}
 use Rattle.rules.specs.Rules.Mispredicting.{Branch, remaining, lower, new_window}
 use Rattle.rules.specs.Rules.Runs.{gather}
 use Rattle.rules.specs.Rules.Changes.{Change}
-use Rattle.rules.proofs.Theorems.Undo.{PositiveCosts, remaining-less}
+use Rattle.rules.proofs.Theorems.Undo.{remaining-less}
 use Rattle.instruction.specs.declared.Instruction.{Instruction}
 use Rattle.instruction.specs.Meaning.{meaning}
 use Rattle.work.specs.declared.OpenBranch.{OpenBranch}
@@ -25,6 +25,7 @@ use Rattle.work.specs.Moves.{lower_to, window_on}
 use Rattle.work.proofs.Moves.{at_above}
 use Rattle.stepping.specs.Progress.{gather_at}
 use Rattle.stepping.specs.Steps.{left_by, Charged, Leaves, Lowers}
+use Rattle.rules.specs.Theorems.Bounds.{PositiveCosts}
 
 -- ---- the plain set, by the number of open branches
 pub gathers-plain : (d : ℕ) (plain s : LocationSet) → d ≡ 0 → union plain s ≡ gather_at d plain s

@@ -14,7 +14,6 @@ use Rattle.rules.specs.Rules.Plain as plain
 use Rattle.rules.specs.Rules.Mispredicting.{Branch, Step, remaining, rolling, opening, step_with}
 use Rattle.rules.specs.Rules.Runs.{observed_set, note}
 use Rattle.rules.specs.Rules.Calls.{trace_words}
-use Rattle.rules.proofs.Theorems.Undo.{PositiveCosts}
 use Rattle.work.specs.declared.machine.Control.{Control}
 use Rattle.work.specs.Layout.{reports, labels}
 use Rattle.work.specs.Words.{window_at, costs_in}
@@ -24,6 +23,7 @@ use Rattle.instruction.specs.declared.Instruction.{Instruction}
 use Rattle.instruction.specs.Meaning.{meaning}
 use Rattle.stepping.specs.declared.Progress.{Progress}
 use Rattle.stepping.specs.Progress.{Standing, machine_at, gathered_of, progress_after}
+use Rattle.rules.specs.Theorems.Bounds.{PositiveCosts}
 
 -- The counts stay far below 2 ^ 64: no more branches were opened than steps made, no more than two observations a step, and the trace area has
 -- the observations made.

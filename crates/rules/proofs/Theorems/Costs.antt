@@ -19,8 +19,8 @@ use Rattle.rules.specs.Rules.JobFile.{Parsed, accepted, rejected, parse}
 use Rattle.rules.specs.Rules.Costs.{entries_fit, costs_fit, with_costs, tabled}
 use Rattle.rules.proofs.Theorems.RunLaws.{run-same}
 use Rattle.rules.proofs.Theorems.PlainSecrecy.{stays_closed}
-use Rattle.rules.proofs.Theorems.Undo.{PositiveCosts}
 use Rattle.rules.proofs.Theorems.JobLaws.{rejected-accepted, passed, job-costs}
+use Rattle.rules.specs.Theorems.Bounds.{PositiveCosts}
 
 -- ---- the entries of an accepted table
 pub fit_length : (cs : List ℕ) → costs_fit cs ≡ true → length cs ≡ kinds

@@ -7,8 +7,9 @@ use Rattle.rules.specs.Rules.JobFile.{accepted, parse}
 use Rattle.rules.specs.Rules.Costs.{tabled}
 use Rattle.rules.specs.Rules.Pairs.{with_state}
 use Rattle.rules.specs.Rules.Demands.{WrongPathsBounded}
-use Rattle.rules.proofs.Theorems.Undo.{PositiveCosts, live_bounded, last_live}
+use Rattle.rules.proofs.Theorems.Undo.{live_bounded, last_live}
 use Rattle.rules.proofs.Theorems.Costs.{fit-positive, tabled_of}
+use Rattle.rules.specs.Theorems.Bounds.{PositiveCosts}
 
 -- an accepted job has the costs of its table, which are all at least 1
 tabled-positive : (f costs : List ℕ) (job : Job) → tabled (parse f) costs ≡ accepted job → PositiveCosts job.code.costs

@@ -22,6 +22,7 @@ use Rattle.rules.specs.Rules.JobFile.{finish, parse}
 use Rattle.rules.specs.Rules.Pairs.{with_state}
 use Rattle.rules.specs.Rules.Demands.{SameButState}
 use Rattle.rules.specs.Theorems.Readers.{refused-got}
+use Rattle.rules.specs.Theorems.Bounds.{Limits}
 
 pub rejected-accepted : {P : Type 0} {r : Refusal} {job : Job} → rejected r ≡ accepted job → P
 rejected-accepted {P} {r} {job} e = absurd (let z : ◌≡◌ {A = ℕ} 0 1 = cc in omega arith)
@@ -121,13 +122,7 @@ module _ (t : Trailer) (len : ℕ) (h : offsets t len ≡ true) where
       let r = and_right (leb t.state t.list) _ h in
       eqb-true (t.list + (list_size + trailer_size)) len (and_right (eqb (t.list - t.state) (registers_size + 8 * t.cells)) _ r)
 
--- ---- "n 1 to 512, m 0 to 240, w 0 to 200, b 0 to 1,000,000"
-pub record Limits (t : Trailer) : Type 0 where
-  pub count_most : t.count ≤ max_instructions
-  pub cells : t.cells ≤ max_cells
-  pub window : t.window ≤ max_window
-  pub budget : t.budget ≤ max_budget
-
+-- ---- the limits of an accepted job
 pub limits-hold : (t : Trailer) → limits t ≡ true → Limits t
 unfolding limits
 limits-hold t h =

@@ -19,6 +19,7 @@ use Rattle.rules.specs.Rules.Runs.{run, Job, first, blank}
 use Rattle.rules.proofs.Theorems.RunLaws.{run_ind}
 use Rattle.rules.proofs.Theorems.Outside.{replaced-back, added-back}
 use Rattle.rules.proofs.Theorems.StepLaws.{machine_with, branch_with, forward_cases, forward-back, expired_false, step_cases}
+use Rattle.rules.specs.Theorems.Bounds.{PositiveCosts}
 
 -- ---- undoing
 pub put_back : (σ : State) (l : ℕ) (t : Tagged) → put (put σ l t) l (at σ l) ≡ σ
@@ -71,10 +72,6 @@ changes-one code σ (cassign r c e) = omega arith
 changes-one code σ spbarr = omega arith
 
 -- ---- windows
--- by the table every instruction costs at least 1
-pub record PositiveCosts (costs : List ℕ) : Type 0 where
-  pub each : (i : Instr) → 1 ≤ get_or costs (kind i) 0
-
 -- so a window that is lowered falls
 pub remaining-less : (code : Code) → PositiveCosts code.costs → (i : Instr) (v : ℕ) → v ≢ 0 → remaining code i v + 1 ≤ v
 unfolding remaining
