@@ -7,6 +7,7 @@ ghost use Rattle.rules.specs.Rules.JobFile.{locations};
 use location::{Location, LocationSet};
 
 pub mod limits;
+mod numbers;
 pub mod observation;
 
 const REGISTERS: usize = Location::REGISTERS as usize;
@@ -62,6 +63,19 @@ pub enum Refusal {
     Output,
     Seed,
     Costs,
+}
+
+// The kinds of instruction, in the order of their bytes.
+#[derive(Clone, Copy, PartialEq, Eq)]
+pub enum Kind {
+    Skip,
+    Assign,
+    Load,
+    Store,
+    Jump,
+    BranchZero,
+    AssignIf,
+    Barrier,
 }
 
 // The numbers of a job file's trailer: the offsets of the state and of the public list, the counts of instructions and

@@ -1,6 +1,10 @@
 -- The eight instructions, their window costs, and what can be observed of them.
 -- Assumes nothing.
-use Rattle.std.specs.Prelude.{Bool, List, [], ◌∷◌, ℕ, eqb}
+use Rattle.std.specs.Prelude.{◌≡◌, Bool, List, [], ◌∷◌, ℕ, ◌<◌, eqb, Result, MatchResult}
+use Rattle.rules.specs.declared.Kind.{Kind}
+use Rattle.rules.specs.declared.Kind.TheVariants as kinds
+use Rattle.rules.specs.declared.Refusal.{Refusal}
+use Rattle.rules.specs.declared.Refusal.TheVariants as refusals
 use Rattle.rules.specs.Rules.Expressions.{Expr}
 
 -- The table of instructions: a register, an expression, a label as document 01's fields.
@@ -24,6 +28,21 @@ kind (jmp e) = 4
 kind (beqz r l) = 5
 kind (cassign r c e) = 6
 kind spbarr = 7
+
+-- the byte of a kind
+abbrev pub kind_number : Kind → ℕ
+kind_number kinds.Skip = 0
+kind_number kinds.Assign = 1
+kind_number kinds.Load = 2
+kind_number kinds.Store = 3
+kind_number kinds.Jump = 4
+kind_number kinds.BranchZero = 5
+kind_number kinds.AssignIf = 6
+kind_number kinds.Barrier = 7
+
+-- the kind with this byte; "a kind byte or field past S" is refused with 4, and so is a byte that is no kind's
+abbrev pub DecodesKind : ℕ → Result Kind Refusal → Type 0
+DecodesKind byte r = MatchResult r (λ k. kind_number k ≡ byte) (λ n. (n ≡ refusals.Encoding) × (7 < byte))
 
 abbrev pub is_barrier : Instr → Bool
 is_barrier i = eqb (kind i) (kind spbarr)
