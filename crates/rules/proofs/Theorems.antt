@@ -18,6 +18,7 @@ pub mod JobLaws
 pub mod Costs
 pub mod FileBounds
 pub mod Tables
+pub mod Outcomes
 pub mod CallLaws
 pub mod FilePlain
 pub mod FileSecrecy

@@ -10,6 +10,7 @@ pub mod Mispredicting
 pub mod Loop
 pub mod Runs
 pub mod Changes
+pub mod Outcomes
 pub mod Answers
 pub mod JobFile
 pub mod Costs

@@ -118,11 +118,14 @@ pub struct PlainCounts {
     pub steps: usize,
 }
 
+// What a run counts, and its verdict.
 #[derive(Drop)]
-pub enum RunOutcome {
-    Refused(Refusal),
-    Ran(Counts, Verdict),
+pub struct Judged {
+    pub counts: Counts,
+    pub verdict: Verdict,
 }
+
+pub type RunOutcome = Result<Judged, Refusal>;
 
 // The rule by which an instruction observes a set: of a branch's register, of a jump's value, of a load's or a store's address.
 #[derive(Clone, Copy)]
@@ -152,11 +155,7 @@ pub struct RunAnswer {
     pub firsts: [First; LocationSet::LIMIT],
 }
 
-#[derive(Drop)]
-pub enum PlainOutcome {
-    Refused(Refusal),
-    Ran(PlainCounts),
-}
+pub type PlainOutcome = Result<PlainCounts, Refusal>;
 
 // The answer of a plain run: the plain set is empty where the job is refused.
 #[derive(Drop)]
@@ -165,32 +164,35 @@ pub struct PlainAnswer {
     pub plain: LocationSet,
 }
 
-// The answer on a pair: its word and what each of the two runs counts.
+// The word on a pair and what each of the two runs counts.
 #[derive(Drop)]
-pub enum PairAnswer {
-    Refused(Refusal),
-    Compared(PairWord, Counts, Counts),
+pub struct Compared {
+    pub word: PairWord,
+    pub first: Counts,
+    pub second: Counts,
 }
 
-// The answer of a test load. Undecided where the job's own run has not finished: what it counts, and no state was made. Else the word on the
-// pair of the job's state and the new one, and what each of the two runs counts.
+// The answer on a pair.
+pub type PairAnswer = Result<Compared, Refusal>;
+
+// What a test load comes to. Undecided where the job's own run has not finished: what it counts, and no state was made. Else what is said of
+// the pair of the job's state and the new one.
 #[derive(Drop)]
-pub enum TestLoadAnswer {
-    Refused(Refusal),
+pub enum TestLoad {
     Undecided(Counts),
-    Compared(PairWord, Counts, Counts),
+    Compared(Compared),
 }
 
-// The answer of reading a text: the bytes and the instructions of its program.
+pub type TestLoadAnswer = Result<TestLoad, Refusal>;
+
+// The bytes and the instructions of a program that was read from a text.
 #[derive(Drop)]
-pub enum ReadAnswer {
-    Refused(Refusal),
-    Read(usize, usize),
+pub struct ReadProgram {
+    pub bytes: usize,
+    pub instructions: usize,
 }
+
+pub type ReadAnswer = Result<ReadProgram, Refusal>;
 
 // The answer of printing a job's program as text: the bytes of the text.
-#[derive(Drop)]
-pub enum PrintAnswer {
-    Refused(Refusal),
-    Printed(usize),
-}
+pub type PrintAnswer = Result<usize, Refusal>;

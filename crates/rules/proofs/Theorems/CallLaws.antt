@@ -1,6 +1,6 @@
 -- What a call on a job file comes to: a run of an accepted job in areas that are long enough, or a refusal.
 -- Assumes nothing.
-use Rattle.std.specs.Prelude.{◌≡◌, refl, Bool, List, [], ◌∷◌, ◌++◌, ℕ, ◌*◌, ◌/◌}
+use Rattle.std.specs.Prelude.{◌≡◌, refl, Bool, List, [], ◌∷◌, ◌++◌, ℕ, ◌*◌, ◌/◌, Ok}
 use Rattle.std.proofs.Common.{sym, ap, arith, take_at}
 use Rattle.std.proofs.Math.Bool.{true, false}
 use Rattle.std.proofs.Math.ListN.{length}
@@ -8,8 +8,8 @@ use Rattle.rules.specs.declared.Verdict.{Verdict}
 use Rattle.rules.specs.declared.Refusal.{Refusal}
 use Rattle.rules.specs.declared.Refusal.TheVariants as refusals
 use Rattle.rules.specs.declared.Counts.{Counts}
-use Rattle.rules.specs.declared.RunOutcome.TheVariants as runs
 use Rattle.rules.specs.declared.RunAnswer.{RunAnswer}
+use Rattle.rules.specs.Rules.Outcomes.{judged}
 use Rattle.rules.specs.Rules.Instructions.{Observation}
 use Rattle.rules.specs.Rules.Runs.{Job, Result, mispredicting_run, plain_run}
 use Rattle.rules.specs.Rules.Answers.{run_refusal, plain_refusal}
@@ -20,6 +20,7 @@ use Rattle.rules.specs.Rules.Calls.{observation_words, trace_words, Areas, room,
 use Rattle.rules.specs.Rules.Pairs.{with_state}
 use Rattle.rules.specs.Rules.Demands.{Exact, Unaltered, SameLengths, trace_in, trace_of, plain_trace_of}
 use Rattle.rules.proofs.Theorems.Costs.{tabled-accepted, tabled-refused, tabled-rejected, ones_tabled}
+use Rattle.rules.proofs.Theorems.Outcomes.{refused-done}
 
 -- ---- a call that ran, and one that was refused
 pub length-trace_words : (os : List Observation) → length (trace_words os) ≡ 2 * length os
@@ -108,14 +109,11 @@ view f costs a = go (parse f) refl
     go (rejected n) e = refused n (rw (tabled-rejected f costs n e, run_parsed))
     go (accepted job) e = table job e (costs_fit costs) refl
 
-pub refused-ran : {P : Type 0} {n : Refusal} {c : Counts} {v : Verdict} → runs.Refused n ≡ runs.Ran c v → P
-refused-ran {P} {n} {c} {v} e = absurd (let z : ◌≡◌ {A = ℕ} 0 1 = cc in omega arith)
-
-pub runs_of : {f costs : List ℕ} {a : Areas} {n : Counts} {v : Verdict} → (run_call f costs a).answer.outcome ≡ runs.Ran n v
+pub runs_of : {f costs : List ℕ} {a : Areas} {n : Counts} {v : Verdict} → (run_call f costs a).answer.outcome ≡ Ok (judged n v)
     → View f costs a → Runs f costs a
 unfolding run_refused
 runs_of e (ran r) = r
-runs_of e (refused n q) = refused-ran (rw q at e)
+runs_of e (refused n q) = refused-done (rw q at e)
 
 -- ---- the same job in areas of the same lengths
 pub same-room : {a a' : Areas} → SameLengths a a' → room a'.trace ≡ room a.trace

@@ -2,7 +2,7 @@
 -- the trace that was written, or is the store that stopped the run; its label is that of an instruction of its rule. Of no other location
 -- anything is reported.
 -- Assumes nothing.
-use Rattle.std.specs.Prelude.{◌≡◌, refl, Bool, true, false, ◌||◌, cond, ℕ, ◌*◌, ◌<◌, length, get_or}
+use Rattle.std.specs.Prelude.{◌≡◌, refl, Bool, true, false, ◌||◌, cond, ℕ, ◌*◌, ◌<◌, length, get_or, Ok}
 use Rattle.std.proofs.Math.Path.{sym}
 use Rattle.std.proofs.Common.{ap, ◌∙◌, true≢false, arith, length-append}
 use mathlib.Core.List.{List, [], ◌∷◌, ◌++◌}
@@ -15,7 +15,8 @@ use Rattle.rules.specs.declared.Verdict.{Verdict}
 use Rattle.rules.specs.declared.Refusal.{Refusal}
 use Rattle.rules.specs.declared.Counts.{Counts}
 use Rattle.rules.specs.declared.First.{First}
-use Rattle.rules.specs.declared.RunOutcome.TheVariants as runs
+use Rattle.rules.specs.declared.Judged.{Judged}
+use Rattle.rules.specs.Rules.Outcomes.{judged}
 use Rattle.rules.specs.Rules.Instructions.{Observation}
 use Rattle.rules.specs.Rules.Firsts.{ObservedSet, no_report, first_holding, held, firsts_of}
 use Rattle.rules.specs.Rules.Plain.{end_place, fetch}
@@ -26,6 +27,7 @@ use Rattle.rules.specs.Rules.Demands.{trace_of, observed_in, report_of, FirstWit
 use Rattle.rules.proofs.Theorems.Firsts.{first-none, firsts-length, firsts_at, mispredicting_gathers}
 use Rattle.rules.proofs.Theorems.FirstSteps.{Shown, traced, unmade, RunReports, mispredicting_reports}
 use Rattle.rules.proofs.Theorems.CallLaws.{length-trace_words, trace_words-append, Runs, job_in, result, tabled-runs, call_runs, trace-runs, View, ran, refused, refused_call, view}
+use Rattle.rules.proofs.Theorems.Outcomes.{same-done}
 
 -- ---- the first set that holds a location, and those before it
 first_with : (xs : List ObservedSet) (l : ℕ) → held xs l ≡ true → FirstWith l xs (first_holding xs l)
@@ -94,11 +96,11 @@ module _ {f costs : List ℕ} {a : Areas} (r : Runs f costs a) where
   unfolding run_report
   nothing-runs l e = let h = sym (full_runs l) ∙ e in rw (call_runs r) (none-reported (result r).gathered.sets l h)
 
-  ran-counts : {n : Counts} {v : Verdict} → (run_call f costs a).answer.outcome ≡ runs.Ran n v → counts (result r) ≡ n
+  ran-counts : {n : Counts} {v : Verdict} → (run_call f costs a).answer.outcome ≡ Ok (judged n v) → counts (result r) ≡ n
   unfolding run_report
   ran-counts {n} {v} e =
-      let q : runs.Ran (counts (result r)) (verdict (job_in r) (result r)) ≡ runs.Ran n v = rw (call_runs r) at e in
-      cc
+      let q : Ok (judged (counts (result r)) (verdict (job_in r) (result r))) ≡ Ok (judged n v) = rw (call_runs r) at e in
+      ap (λ (x : Judged). x.counts) (same-done q)
 
   same-job : (job : Job) → parse f ≡ accepted job → r.read ≡ job
   same-job job e = let q : accepted r.read ≡ accepted job = sym r.parsed ∙ e in cc

@@ -1,7 +1,7 @@
 -- Demand 2 of the calls on job files: where a run finishes, by whatever table, the plain run of the same file in areas of the same lengths finishes,
 -- has the struck-out trace, leaves the same registers, cells and table, and reports the same plain set.
 -- Assumes nothing.
-use Rattle.std.specs.Prelude.{◌≡◌, List, ℕ, ◌+◌}
+use Rattle.std.specs.Prelude.{◌≡◌, List, ℕ, ◌+◌, Ok}
 use Rattle.std.proofs.Math.Path.{sym, ap}
 use Rattle.std.proofs.Common.{subst, ◌∙◌}
 use Rattle.std.proofs.Math.ListN.{length}
@@ -9,7 +9,8 @@ use Rattle.std.proofs.Math.Seq.{take_at}
 use Rattle.rules.specs.declared.Stop.TheVariants.{Finished}
 use Rattle.rules.specs.declared.Verdict.{Verdict}
 use Rattle.rules.specs.declared.Counts.{Counts}
-use Rattle.rules.specs.declared.RunOutcome.TheVariants as runs
+use Rattle.rules.specs.declared.Judged.{Judged}
+use Rattle.rules.specs.Rules.Outcomes.{judged}
 use Rattle.rules.specs.Rules.Plain.{State}
 use Rattle.rules.specs.Rules.Runs.{Result, verdict}
 use Rattle.rules.specs.Rules.JobFile.{trailer, locations}
@@ -21,6 +22,7 @@ use Rattle.rules.proofs.Theorems.Sizes.{end-length}
 use Rattle.rules.proofs.Theorems.EveryState.{plain-length}
 use Rattle.rules.proofs.Theorems.JobLaws.{passed, job-init, length-state_of}
 use Rattle.rules.proofs.Theorems.CallLaws.{Runs, job_in, result, call_runs, trace-runs, PlainRuns, plain_result, plain_call-runs, plain-trace_runs, view, runs_of, same-room, enough-same}
+use Rattle.rules.proofs.Theorems.Outcomes.{same-done}
 
 -- ---- two calls
 module _ {f costs : List ℕ} {a a' : Areas} (r : Runs f costs a) (h : SameLengths a a') where
@@ -63,12 +65,11 @@ module _ {f costs : List ℕ} {a a' : Areas} (r : Runs f costs a) (h : SameLengt
 
 -- a run's stop is the one that its counts give
 ran-finished : {f costs : List ℕ} {a : Areas} {n : Counts} {v : Verdict} (r : Runs f costs a)
-    → (run_call f costs a).answer.outcome ≡ runs.Ran n v → n.stop ≡ Finished → (result r).stop ≡ Finished
+    → (run_call f costs a).answer.outcome ≡ Ok (judged n v) → n.stop ≡ Finished → (result r).stop ≡ Finished
 unfolding run_report counts
 ran-finished {n = n} {v = v} r e s =
-    let q : runs.Ran (counts (result r)) (verdict (job_in r) (result r)) ≡ runs.Ran n v = rw (call_runs r) at e in
-    let c : counts (result r) ≡ n = cc in
-    ap (λ (x : Counts). x.stop) c ∙ s
+    let q : Ok (judged (counts (result r)) (verdict (job_in r) (result r))) ≡ Ok (judged n v) = rw (call_runs r) at e in
+    ap (λ (x : Judged). x.counts.stop) (same-done q) ∙ s
 
 pub demand2_call : (f costs : List ℕ) (a : Areas) → Demand2 f a (run_call f costs a).answer (run_call f costs a).areas
 demand2_call f costs a = record {

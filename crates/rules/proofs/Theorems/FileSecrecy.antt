@@ -2,12 +2,13 @@
 -- set, in areas of the same lengths and with the same table, gets the same answer and has the same words written to its trace area; the tables have the same
 -- addresses, and the same values where an entry's set lies within the reported one.
 -- Assumes nothing.
-use Rattle.std.specs.Prelude.{◌≡◌, List, ℕ, length}
+use Rattle.std.specs.Prelude.{◌≡◌, List, ℕ, length, Ok}
 use Rattle.std.proofs.Common.{sym, ap, ◌∙◌}
 use Rattle.location.specs.declared.LocationSet.{LocationSet}
 use Rattle.rules.specs.declared.Verdict.TheVariants as verdicts
 use Rattle.rules.specs.declared.Counts.{Counts}
-use Rattle.rules.specs.declared.RunOutcome.TheVariants as runs
+use Rattle.rules.specs.declared.Judged.{Judged}
+use Rattle.rules.specs.Rules.Outcomes.{judged}
 use Rattle.rules.specs.Rules.Firsts.{firsts_of}
 use Rattle.rules.specs.Rules.Runs.{Job, Result, mispredicting_run, verdict}
 use Rattle.rules.specs.Rules.JobFile.{accepted, parse, trailer, state_of, public_of}
@@ -19,6 +20,7 @@ use Rattle.rules.proofs.Theorems.JobLaws.{passed, job-init, job-public, init-mos
 use Rattle.rules.proofs.Theorems.EveryState.{mispredicting_length}
 use Rattle.rules.proofs.Theorems.Tables.{same_tables, table-in}
 use Rattle.rules.proofs.Theorems.CallLaws.{Runs, job_in, result, tabled-runs, call_runs, trace-runs, view, runs_of, same-room, same-enough}
+use Rattle.rules.proofs.Theorems.Outcomes.{same-done}
 
 -- ---- two calls
 abbrev SameCalls : List ℕ → List ℕ → Areas → List ℕ → Areas → Type 0
@@ -35,8 +37,7 @@ same_size f g job e =
 same_answer : {job job' : Job} {r s : Result} → SameReport job job' r s → run_report job r ≡ run_report job' s
 unfolding run_report counts
 same_answer x = λ i. record {
-  outcome = runs.Ran
-      (record { stop = x.stop i; observations = length (x.trace i); steps = x.steps i; rollbacks = x.rollbacks i }) (x.word i);
+  outcome = Ok (judged (record { stop = x.stop i; observations = length (x.trace i); steps = x.steps i; rollbacks = x.rollbacks i }) (x.word i));
   full = x.full i;
   plain = x.plain i;
   firsts = firsts_of (x.sets i);
@@ -86,13 +87,13 @@ module _ {f g costs : List ℕ} {a a' : Areas} (r : Runs f costs a) (s : SameBut
       (alike_as d (job-init p) k))
 
   -- a clean verdict, and states alike in the public list
-  same-clean : {n : Counts} → (run_call f costs a).answer.outcome ≡ runs.Ran n verdicts.Clean
+  same-clean : {n : Counts} → (run_call f costs a).answer.outcome ≡ Ok (judged n verdicts.Clean)
       → AlikeOn (public_of (trailer f) f) (state_of (trailer f) f) (state_of (trailer f) g) → SameCalls f costs a g a'
   unfolding run_report
   same-clean {n} e k =
       let p = passed f r.read r.parsed in
-      let q : runs.Ran (counts (result r)) (verdict (job_in r) (result r)) ≡ runs.Ran n verdicts.Clean = rw (call_runs r) at e in
-      let v : verdict (job_in r) (result r) ≡ verdicts.Clean = cc in
+      let q : Ok (judged (counts (result r)) (verdict (job_in r) (result r))) ≡ Ok (judged n verdicts.Clean) = rw (call_runs r) at e in
+      let v : verdict (job_in r) (result r) ≡ verdicts.Clean = ap (λ (x : Judged). x.verdict) (same-done q) in
       same_call
       (demand3-clean (job_in r) (room a.trace) (state_of (trailer f) g) (init-most p) (same_size f g r.read r.parsed) v
       (alike_as (job-public p) (job-init p) k))

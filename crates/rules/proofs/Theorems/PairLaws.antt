@@ -1,6 +1,6 @@
 -- What the word on a pair of states says of every job file, second state and areas; and what a refused pair leaves.
 -- Assumes nothing.
-use Rattle.std.specs.Prelude.{◌≡◌, refl, Bool, true, false, not, ◌&&◌, ◌||◌, ℕ, zero, suc, ◌+◌, ◌*◌, ◌/◌, eqb, get_or, take}
+use Rattle.std.specs.Prelude.{◌≡◌, refl, Bool, true, false, not, ◌&&◌, ◌||◌, ℕ, zero, suc, ◌+◌, ◌*◌, ◌/◌, eqb, get_or, take, Ok}
 use Rattle.std.proofs.Math.Path.{sym, ap}
 use Rattle.std.proofs.Common.{ap₂, ◌∙◌, arith}
 use Rattle.std.proofs.Math.Bool.{true≢false}
@@ -14,12 +14,13 @@ use Rattle.location.specs.Sets.{member}
 use Rattle.location.specs.SetLaws.{and_left, and_right}
 use Rattle.rules.specs.declared.Stop.{Stop}
 use Rattle.rules.specs.declared.Stop.TheVariants.{Finished, Spent, TraceFull, OutsideFull}
+use Rattle.rules.specs.declared.Compared.{Compared}
 use Rattle.rules.specs.declared.PairWord.{PairWord}
 use Rattle.rules.specs.declared.PairWord.TheVariants as words
 use Rattle.rules.specs.declared.Refusal.{Refusal}
 use Rattle.rules.specs.declared.Refusal.TheVariants as refusals
 use Rattle.rules.specs.declared.Counts.{Counts}
-use Rattle.rules.specs.declared.PairAnswer.TheVariants as pairs
+use Rattle.rules.specs.Rules.Outcomes.{paired}
 use Rattle.rules.specs.Rules.Instructions.{window_costs, Observation}
 use Rattle.rules.specs.Rules.Runs.{Job, Result, mispredicting_run, plain_run, is_finished}
 use Rattle.rules.specs.Rules.Answers.{pair_refusal}
@@ -31,6 +32,7 @@ use Rattle.rules.specs.Rules.Demands.{AlikeOn, plain_trace_of, Unaltered, second
 use Rattle.rules.proofs.Theorems.JobLaws.{passed, job-init, job-public, init-locations, length-words_at, parse-other}
 use Rattle.rules.proofs.Theorems.Costs.{tabled-accepted, tabled-refused, ones_tabled, plain_any_table}
 use Rattle.rules.proofs.Theorems.CallLaws.{length-trace_words, plain-trace_runs, carried_out, left_alone}
+use Rattle.rules.proofs.Theorems.Outcomes.{refused-done, same-done}
 
 -- ---- words compared
 pub same-words_equal : (a b : List ℕ) → same_words a b ≡ true → a ≡ b
@@ -290,21 +292,19 @@ pair-view f second costs a = go (parse f) refl
     go (rejected n) q = refused n (rw (q, pair_parsed))
     go (accepted job) q = tests job q (second_state_fits job second) (costs_fit costs) (pair_fits a) refl refl refl
 
-refused-compared : {P : Type 0} {m : Refusal} {w : PairWord} {n n' : Counts} → pairs.Refused m ≡ pairs.Compared w n n' → P
-refused-compared {P} {m} {w} {n} {n'} e = absurd (let z : ◌≡◌ {A = ℕ} 0 1 = cc in omega arith)
-
 pub pair-meaning : (f second costs : List ℕ) (a : PairAreas) → PairMeaning f second a (pair_call f second costs a).answer (pair_call f second costs a).areas
 pair-meaning f second costs a = record { compared = λ {word} {n} {n'} e. go word n n' e (pair-view f second costs a) }
   where
-    go : (w : PairWord) (n n' : Counts) → (pair_call f second costs a).answer ≡ pairs.Compared w n n' → PairView f second costs a
+    go : (w : PairWord) (n n' : Counts) → (pair_call f second costs a).answer ≡ Ok (paired w n n') → PairView f second costs a
         → Means w f second a n n' (pair_call f second costs a).areas
-    go w n n' e (refused m q) = unfold pair_refused in refused-compared (rw q at e)
+    go w n n' e (refused m q) = unfold pair_refused in refused-done (rw q at e)
     go w n n' e (compared r) =
         unfold pair_accepted in
-        let q : pairs.Compared (pair_word (pair_job r) (vs r) (k r)) (counts (run₁ r)) (counts (run₂ r)) ≡ pairs.Compared w n n' = rw (pair_runs r) at e in
-        let q₀ : pair_word (pair_job r) (vs r) (k r) ≡ w = cc in
-        let q₁ : counts (run₁ r) ≡ n = cc in
-        let q₂ : counts (run₂ r) ≡ n' = cc in
+        let q : Ok (paired (pair_word (pair_job r) (vs r) (k r)) (counts (run₁ r)) (counts (run₂ r))) ≡ Ok (paired w n n') = rw (pair_runs r) at e in
+        let s = same-done q in
+        let q₀ : pair_word (pair_job r) (vs r) (k r) ≡ w = ap (λ (x : Compared). x.word) s in
+        let q₁ : counts (run₁ r) ≡ n = ap (λ (x : Compared). x.first) s in
+        let q₂ : counts (run₂ r) ≡ n' = ap (λ (x : Compared). x.second) s in
         rw (← q₀, ← q₁, ← q₂, pair_runs r) (word_means r)
 
 -- a refusal leaves every area as it was

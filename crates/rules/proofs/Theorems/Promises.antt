@@ -4,7 +4,7 @@ use Rattle.std.specs.Prelude.{◌≡◌, List, ℕ}
 use Rattle.std.proofs.Common.{ap, subst, ◌∙◌}
 use Rattle.rules.specs.declared.RunAnswer.{RunAnswer}
 use Rattle.rules.specs.declared.PlainAnswer.{PlainAnswer}
-use Rattle.rules.specs.declared.PairAnswer.{PairAnswer}
+use Rattle.rules.specs.Rules.Outcomes.{PairAnswer}
 use Rattle.rules.specs.Rules.Answers.{run_refusal, plain_refusal, pair_refusal}
 use Rattle.rules.specs.Rules.Calls.{Areas, Called, run_call, plain_call}
 use Rattle.rules.specs.Rules.Pairs.{PairAreas, pair_call}

@@ -1,7 +1,7 @@
 -- A test load that is exact keeps its whole promise: its new state keeps what is public and the plain set, so that its plain trace is the
 -- job's; and what it says of the two runs is what the check of that pair says.
 -- Assumes nothing.
-use Rattle.std.specs.Prelude.{◌≡◌, refl, Bool, false, ◌&&◌, ◌≢◌, ℕ, ◌*◌, ◌^◌, ◌<◌, eqb}
+use Rattle.std.specs.Prelude.{◌≡◌, refl, Bool, false, ◌&&◌, ◌≢◌, ℕ, ◌*◌, ◌^◌, ◌<◌, eqb, Ok}
 use Rattle.std.proofs.Common.{sym, subst, ◌∙◌, zero-add, arith}
 use Rattle.std.proofs.Math.Path.{ap}
 use Rattle.std.proofs.Math.Bool.{true, true≢false}
@@ -15,11 +15,11 @@ use Rattle.location.specs.SetLaws.{Within, within-left, within-right}
 use Rattle.rules.specs.declared.Refusal.{Refusal}
 use Rattle.rules.specs.declared.Refusal.TheVariants as refusals
 use Rattle.rules.specs.declared.Counts.{Counts}
+use Rattle.rules.specs.declared.Compared.{Compared}
 use Rattle.rules.specs.declared.PairWord.{PairWord}
 use Rattle.rules.specs.declared.PairWord.TheVariants as words
-use Rattle.rules.specs.declared.PairAnswer.TheVariants as pairs
-use Rattle.rules.specs.declared.TestLoadAnswer.{TestLoadAnswer}
-use Rattle.rules.specs.declared.TestLoadAnswer.TheVariants as answers
+use Rattle.rules.specs.declared.TestLoad.TheVariants as loads
+use Rattle.rules.specs.Rules.Outcomes.{TestLoadAnswer, paired}
 use Rattle.rules.specs.Rules.Instructions.{window_costs}
 use Rattle.rules.specs.Rules.Runs.{Gathered, Job, Result, mispredicting_run, plain_run, is_finished, judge, verdict}
 use Rattle.rules.specs.Rules.Answers.{test_load_refusal}
@@ -44,6 +44,7 @@ use Rattle.rules.proofs.Theorems.PairLaws.{pair_runs, same-plain}
 use Rattle.rules.proofs.Theorems.Promises.{same-exact, pair-promise}
 use Rattle.rules.proofs.Theorems.EncodedWords.{length-word_bytes}
 use Rattle.rules.proofs.Theorems.NewStates.{length-new_words, new-kept, read-new}
+use Rattle.rules.proofs.Theorems.Outcomes.{refused-done}
 
 -- ---- the words of a new state
 -- there are as many as the job has
@@ -228,7 +229,7 @@ module _ {f : List ℕ} {seed : ℕ} {costs : List ℕ} {a : TestLoadAreas} (r :
       pair-call : pair_call f second costs a.pair ≡ pair_accepted job vs a.pair
       pair-call = pair_runs pair ∙ ap (λ (ws : List ℕ). pair_accepted job ws a.pair) second-read
 
-      pair-kept : PairPromise f second costs a.pair (pairs.Compared (pair_word job vs k) (counts own) (counts (mispredicting_run other k)))
+      pair-kept : PairPromise f second costs a.pair (Ok (paired (pair_word job vs k) (counts own) (counts (mispredicting_run other k))))
           (pair_after own (mispredicting_run other k) a.pair)
       unfolding pair_accepted
       pair-kept = pair-promise f second costs a.pair (record { answer = rw pair-call; areas = rw pair-call })
@@ -297,14 +298,11 @@ load_view f seed costs a = go (parse f) refl
     go (accepted job) q = table job q (costs_fit costs) refl
 
 -- an answer is one of the three only
-refused-compared : {P : Type 0} {m : Refusal} {w : PairWord} {n n' : Counts} → answers.Refused m ≡ answers.Compared w n n' → P
-refused-compared {P} {m} {w} {n} {n'} e = absurd (let z : ◌≡◌ {A = ℕ} 0 1 = cc in omega arith)
+unfinished-compared : {P : Type 0} {m : Counts} {x : Compared} → ◌≡◌ {A = TestLoadAnswer} (Ok (loads.Undecided m)) (Ok (loads.Compared x)) → P
+unfinished-compared {P} {m} {x} e = absurd (let z : ◌≡◌ {A = ℕ} 0 1 = cc in omega arith)
 
-unfinished-compared : {P : Type 0} {m : Counts} {w : PairWord} {n n' : Counts} → answers.Undecided m ≡ answers.Compared w n n' → P
-unfinished-compared {P} {m} {w} {n} {n'} e = absurd (let z : ◌≡◌ {A = ℕ} 0 1 = cc in omega arith)
-
-refused-unfinished : {P : Type 0} {m : Refusal} {n : Counts} → answers.Refused m ≡ answers.Undecided n → P
-refused-unfinished {P} {m} {n} e = absurd (let z : ◌≡◌ {A = ℕ} 0 1 = cc in omega arith)
+same-compared : {x y : Compared} → ◌≡◌ {A = TestLoadAnswer} (Ok (loads.Compared x)) (Ok (loads.Compared y)) → x ≡ y
+same-compared {x} {y} e = cc
 
 -- ---- the fields of the promise
 -- a refusal leaves every area as it was
@@ -319,34 +317,35 @@ load-unaltered f seed costs a = go (load_view f seed costs a)
 
 -- an answer on two runs comes of a new state
 load-compared : (f : List ℕ) (seed : ℕ) (costs : List ℕ) (a : TestLoadAreas) → Bytes f → seed < 2 ^ 64 → {word : PairWord} {n n' : Counts}
-    → (test_load_call f seed costs a).answer ≡ answers.Compared word n n' → NewStateMade f costs a word n n' (test_load_call f seed costs a).areas
+    → (test_load_call f seed costs a).answer ≡ Ok (loads.Compared (paired word n n')) → NewStateMade f costs a word n n' (test_load_call f seed costs a).areas
 load-compared f seed costs a all lt {word} {n} {n'} = go word n n' (load_view f seed costs a)
   where
-    go : (w : PairWord) (n n' : Counts) → LoadView f seed costs a → (test_load_call f seed costs a).answer ≡ answers.Compared w n n'
+    go : (w : PairWord) (n n' : Counts) → LoadView f seed costs a → (test_load_call f seed costs a).answer ≡ Ok (loads.Compared (paired w n n'))
         → NewStateMade f costs a w n n' (test_load_call f seed costs a).areas
-    go w n n' (refused m q) h = unfold test_load_refused in refused-compared (rw q at h)
+    go w n n' (refused m q) h = unfold test_load_refused in refused-done (rw q at h)
     go w n n' (own_alone r e) h = unfold own_run_alone in unfinished-compared (rw (test_load_unfinished r e) at h)
     go w n n' (new-state r e) h =
         unfold new_state_run pair_accepted in
-        let x : answers.Compared (pair_word (job r) (vs r) (k r)) (counts (own r)) (counts (mispredicting_run (other r) (k r)))
-        ≡ answers.Compared w n n' = rw (test_load_finished r e) at h in
-        let x₀ : pair_word (job r) (vs r) (k r) ≡ w = cc in
-        let x₁ : counts (own r) ≡ n = cc in
-        let x₂ : counts (mispredicting_run (other r) (k r)) ≡ n' = cc in
+        let x : Ok (loads.Compared (paired (pair_word (job r) (vs r) (k r)) (counts (own r)) (counts (mispredicting_run (other r) (k r)))))
+        ≡ Ok (loads.Compared (paired w n n')) = rw (test_load_finished r e) at h in
+        let s = same-compared x in
+        let x₀ : pair_word (job r) (vs r) (k r) ≡ w = ap (λ (y : Compared). y.word) s in
+        let x₁ : counts (own r) ≡ n = ap (λ (y : Compared). y.first) s in
+        let x₂ : counts (mispredicting_run (other r) (k r)) ≡ n' = ap (λ (y : Compared). y.second) s in
         rw (← x₀, ← x₁, ← x₂, test_load_finished r e) (made r e all lt)
 
 -- an answer on one run comes of a run that has not finished
-load-unfinished : (f : List ℕ) (seed : ℕ) (costs : List ℕ) (a : TestLoadAreas) {n : Counts} → (test_load_call f seed costs a).answer ≡ answers.Undecided n
+load-unfinished : (f : List ℕ) (seed : ℕ) (costs : List ℕ) (a : TestLoadAreas) {n : Counts} → (test_load_call f seed costs a).answer ≡ Ok (loads.Undecided n)
     → OwnRunAlone f costs a n (test_load_call f seed costs a).areas
 load-unfinished f seed costs a {n} = go n (load_view f seed costs a)
   where
-    go : (n : Counts) → LoadView f seed costs a → (test_load_call f seed costs a).answer ≡ answers.Undecided n
+    go : (n : Counts) → LoadView f seed costs a → (test_load_call f seed costs a).answer ≡ Ok (loads.Undecided n)
         → OwnRunAlone f costs a n (test_load_call f seed costs a).areas
-    go n (refused m q) h = unfold test_load_refused in refused-unfinished (rw q at h)
+    go n (refused m q) h = unfold test_load_refused in refused-done (rw q at h)
     go n (new-state r e) h = unfold new_state_run pair_accepted in unfinished-compared (sym (rw (test_load_finished r e) at h))
     go n (own_alone r e) h =
         unfold own_run_alone in
-        let x : answers.Undecided (counts (own r)) ≡ answers.Undecided n = rw (test_load_unfinished r e) at h in
+        let x : Ok (loads.Undecided (counts (own r))) ≡ Ok (loads.Undecided n) = rw (test_load_unfinished r e) at h in
         let y : counts (own r) ≡ n = cc in
         rw (← y, test_load_unfinished r e) (unfinished_alone r e)
 

@@ -1,6 +1,6 @@
 -- A call on routines as text that is exact keeps its whole promise.
 -- Assumes nothing.
-use Rattle.std.specs.Prelude.{◌≡◌, refl, Bool, false, ℕ, ◌≤◌, length, take}
+use Rattle.std.specs.Prelude.{◌≡◌, refl, Bool, false, ℕ, ◌≤◌, length, take, Ok, Err}
 use Rattle.std.proofs.Common.{sym, ◌∙◌, arith, length-take-le}
 use Rattle.std.proofs.Math.Path.{ap}
 use Rattle.std.proofs.Math.Bool.{true}
@@ -9,12 +9,9 @@ use Rattle.std.proofs.Math.Option.{Option, none, some}
 use Rattle.std.proofs.Math.Dec.{leb}
 use Rattle.std.proofs.Math.Seq.{take_at}
 use borrow.Author.Tests.{le-leb}
-use Rattle.rules.specs.declared.Refusal.{Refusal}
 use Rattle.rules.specs.declared.Refusal.TheVariants as refusals
-use Rattle.rules.specs.declared.ReadAnswer.{ReadAnswer}
-use Rattle.rules.specs.declared.ReadAnswer.TheVariants as reads
-use Rattle.rules.specs.declared.PrintAnswer.{PrintAnswer}
-use Rattle.rules.specs.declared.PrintAnswer.TheVariants as prints
+use Rattle.rules.specs.declared.ReadProgram.{ReadProgram}
+use Rattle.rules.specs.Rules.Outcomes.{PrintAnswer, ReadAnswer, read_as}
 use Rattle.rules.specs.Rules.Instructions.{Instr}
 use Rattle.rules.specs.Rules.Runs.{Job}
 use Rattle.rules.specs.Rules.Answers.{read_refusal, print_refusal}
@@ -31,6 +28,7 @@ use Rattle.rules.proofs.Theorems.CallLaws.{carried_out, left_alone, exact-unalte
 use Rattle.rules.proofs.Theorems.Encoded.{program-encoded}
 use Rattle.rules.proofs.Theorems.TextAccepted.{text-accepted}
 use Rattle.rules.proofs.Theorems.TextTrip.{text-restores}
+use Rattle.rules.proofs.Theorems.Outcomes.{refused-done, same-done}
 
 -- ---- bytes for an area that has room for them, and for one that has none
 module _ {A : Type 0} (short done : A) (bytes area : List ℕ) where
@@ -59,7 +57,7 @@ read-unaltered text area = go (read_text text)
     go : (R : Option (List Instr)) → Unaltered read_refusal (read_program R area).answer area (read_program R area).areas
     go none = left_alone read_refusal (read_program none area) area refl
     go (some xs) =
-        output-unaltered (reads.Refused refusals.Output) (reads.Read (length (program_bytes xs)) (length xs)) (program_bytes xs) area read_refusal refl
+        output-unaltered (Err refusals.Output) (Ok (read_as (length (program_bytes xs)) (length xs))) (program_bytes xs) area read_refusal refl
 
 -- what was read
 record Reads (text area : List ℕ) (k n : ℕ) : Type 0 where
@@ -69,32 +67,29 @@ record Reads (text area : List ℕ) (k n : ℕ) : Type 0 where
   count : length prog ≡ n
   areas : (read_call text area).areas ≡ written (program_bytes prog) area
 
-refused-read : {P : Type 0} {r : Refusal} {k n : ℕ} → reads.Refused r ≡ reads.Read k n → P
-refused-read {P} {r} {k} {n} e = absurd (let z : ◌≡◌ {A = ℕ} 0 1 = cc in omega arith)
-
-was_read : (text area : List ℕ) (k n : ℕ) → (read_call text area).answer ≡ reads.Read k n → Reads text area k n
+was_read : (text area : List ℕ) (k n : ℕ) → (read_call text area).answer ≡ Ok (read_as k n) → Reads text area k n
 unfolding read_call read_program
 was_read text area k n = go (read_text text) refl
   where
     fits : (xs : List Instr) → read_text text ≡ some xs → (b : Bool) → leb (length (program_bytes xs)) (length area) ≡ b
-        → (read_program (some xs) area).answer ≡ reads.Read k n → Reads text area k n
+        → (read_program (some xs) area).answer ≡ Ok (read_as k n) → Reads text area k n
     fits xs e true l h =
         let bytes = program_bytes xs in
-        let done = output_done (reads.Refused refusals.Output) (reads.Read (length bytes) (length xs)) bytes area l in
-        let same : reads.Read (length bytes) (length xs) ≡ reads.Read k n = rw done at h in
+        let done = output_done (Err refusals.Output) (Ok (read_as (length bytes) (length xs))) bytes area l in
+        let same : Ok (read_as (length bytes) (length xs)) ≡ Ok (read_as k n) = rw done at h in
         record {
           prog = xs;
           parsed = e;
-          size = cc;
-          count = cc;
+          size = ap (λ (x : ReadProgram). x.bytes) (same-done same);
+          count = ap (λ (x : ReadProgram). x.instructions) (same-done same);
           areas = ap (λ (R : Option (List Instr)). (read_program R area).areas) e ∙ ap (λ (c : Called ReadAnswer (List ℕ)). c.areas) done;
         }
     fits xs e false l h =
         let bytes = program_bytes xs in
-        refused-read (rw (output_short (reads.Refused refusals.Output) (reads.Read (length bytes) (length xs)) bytes area l) at h)
+        refused-done (rw (output_short (Err refusals.Output) (Ok (read_as (length bytes) (length xs))) bytes area l) at h)
 
-    go : (R : Option (List Instr)) → read_text text ≡ R → (read_program R area).answer ≡ reads.Read k n → Reads text area k n
-    go none e h = refused-read h
+    go : (R : Option (List Instr)) → read_text text ≡ R → (read_program R area).answer ≡ Ok (read_as k n) → Reads text area k n
+    go none e h = refused-done h
     go (some xs) e h = fits xs e (leb (length (program_bytes xs)) (length area)) refl h
 
 read-accepted : (text before : List ℕ) → Acceptable (read_call text before).answer (read_call text before).areas
@@ -121,7 +116,7 @@ print_unaltered job area = go (parse job)
     go : (P : Parsed) → Unaltered print_refusal (print_parsed P area).answer area (print_parsed P area).areas
     go (rejected n) = left_alone print_refusal (print_parsed (rejected n) area) area refl
     go (accepted j) =
-        output-unaltered (prints.Refused refusals.Output) (prints.Printed (length (program_text j.code.prog))) (program_text j.code.prog) area
+        output-unaltered (Err refusals.Output) (Ok (length (program_text j.code.prog))) (program_text j.code.prog) area
         print_refusal refl
 
 -- the text of an accepted job's program, read into an area that has room for the program
@@ -135,14 +130,14 @@ module _ (f : List ℕ) (j : Job) (e : parse f ≡ accepted j) (all : Bytes f) w
       ap length (sym (program-encoded f j e all)) ∙ length-take-le (trailer f).state f z
 
   pub text-read : (area : List ℕ) → (trailer f).state ≤ length area → read_call (program_text j.code.prog) area
-      ≡ record { answer = reads.Read (trailer f).state (trailer f).count; areas = written (take (trailer f).state f) area }
+      ≡ record { answer = Ok (read_as (trailer f).state (trailer f).count); areas = written (take (trailer f).state f) area }
   unfolding read_call read_program
   text-read area h =
       let xs = j.code.prog in
       let size = encoded-length in
       let fits : leb (length (program_bytes xs)) (length area) ≡ true = le-leb (length (program_bytes xs)) (length area) (omega arith) in
       ap (λ (R : Option (List Instr)). read_program R area) (text-restores f j e all)
-      ∙ output_done (reads.Refused refusals.Output) (reads.Read (length (program_bytes xs)) (length xs)) (program_bytes xs) area fits
+      ∙ output_done (Err refusals.Output) (Ok (read_as (length (program_bytes xs)) (length xs))) (program_bytes xs) area fits
       ∙ rw (size, job-end (passed f j e), ← program-encoded f j e all)
 
 -- what was printed
@@ -152,19 +147,16 @@ record Prints (f area : List ℕ) (n : ℕ) : Type 0 where
   size : length (program_text job.code.prog) ≡ n
   areas : (print_call f area).areas ≡ written (program_text job.code.prog) area
 
-refused-printed : {P : Type 0} {r : Refusal} {n : ℕ} → prints.Refused r ≡ prints.Printed n → P
-refused-printed {P} {r} {n} e = absurd (let z : ◌≡◌ {A = ℕ} 0 1 = cc in omega arith)
-
-printed : (f area : List ℕ) (n : ℕ) → (print_call f area).answer ≡ prints.Printed n → Prints f area n
+printed : (f area : List ℕ) (n : ℕ) → (print_call f area).answer ≡ Ok n → Prints f area n
 unfolding print_call print_parsed
 printed f area n = go (parse f) refl
   where
     fits : (j : Job) → parse f ≡ accepted j → (b : Bool) → leb (length (program_text j.code.prog)) (length area) ≡ b
-        → (print_parsed (accepted j) area).answer ≡ prints.Printed n → Prints f area n
+        → (print_parsed (accepted j) area).answer ≡ Ok n → Prints f area n
     fits j e true l h =
         let bytes = program_text j.code.prog in
-        let done = output_done (prints.Refused refusals.Output) (prints.Printed (length bytes)) bytes area l in
-        let same : prints.Printed (length bytes) ≡ prints.Printed n = rw done at h in
+        let done = output_done (Err refusals.Output) (Ok (length bytes)) bytes area l in
+        let same : Ok (length bytes) ≡ Ok n = rw done at h in
         record {
           job = j;
           parsed = e;
@@ -173,17 +165,17 @@ printed f area n = go (parse f) refl
         }
     fits j e false l h =
         let bytes = program_text j.code.prog in
-        refused-printed (rw (output_short (prints.Refused refusals.Output) (prints.Printed (length bytes)) bytes area l) at h)
+        refused-done (rw (output_short (Err refusals.Output) (Ok (length bytes)) bytes area l) at h)
 
-    go : (P : Parsed) → parse f ≡ P → (print_parsed P area).answer ≡ prints.Printed n → Prints f area n
-    go (rejected r) e h = refused-printed h
+    go : (P : Parsed) → parse f ≡ P → (print_parsed P area).answer ≡ Ok n → Prints f area n
+    go (rejected r) e h = refused-done h
     go (accepted j) e h = fits j e (leb (length (program_text j.code.prog)) (length area)) refl h
 
 round_trip_lem : (f before : List ℕ) → Bytes f → RoundTrip f (print_call f before).answer (print_call f before).areas
 round_trip_lem f before all = record { restores = λ {n} h area l. go n (printed f before n h) area l }
   where
     go : (n : ℕ) → Prints f before n → (area : List ℕ) → (trailer f).state ≤ length area
-        → Exact (read_call (take n (print_call f before).areas) area) (reads.Read (trailer f).state (trailer f).count)
+        → Exact (read_call (take n (print_call f before).areas) area) (Ok (read_as (trailer f).state (trailer f).count))
         (written (take (trailer f).state f) area)
     go n p area l =
         let bytes = program_text p.job.code.prog in

@@ -1,12 +1,12 @@
 -- Window costs of the buyer's processor, after document 02, F-7: rows of runs by a table, and what is turned away. Tables.antt proves them.
 -- Assumes nothing.
-use Rattle.std.specs.Prelude.{List, [], ◌∷◌, ◌++◌, ℕ, ◌+◌, ◌/◌, length, set, replicate}
+use Rattle.std.specs.Prelude.{List, [], ◌∷◌, ◌++◌, ℕ, ◌+◌, ◌/◌, length, set, replicate, Ok, Err}
 use Rattle.rules.specs.declared.Stop.TheVariants.{Finished}
 use Rattle.rules.specs.declared.Verdict.TheVariants.{Clean, Speculative}
 use Rattle.rules.specs.declared.Refusal.TheVariants as refusals
 use Rattle.rules.specs.declared.PairWord.TheVariants as pairs
-use Rattle.rules.specs.declared.PairAnswer.TheVariants as answers
-use Rattle.rules.specs.declared.TestLoadAnswer.TheVariants as loads
+use Rattle.rules.specs.declared.TestLoad.TheVariants as loads
+use Rattle.rules.specs.Rules.Outcomes.{paired}
 use Rattle.rules.specs.Rules.Instructions.{window_costs}
 use Rattle.rules.specs.Rules.Calls.{lent, run_refused}
 use Rattle.rules.specs.Rules.Pairs.{pair_lent}
@@ -92,14 +92,14 @@ branches_and_barriers =
     (0 ∷ 0 ∷ 2 ∷ 1 ∷ 4 ∷ 0 ∷ 2 ∷ 5 ∷ 3 ∷ 0 ∷ 3 ∷ 0 ∷ 1 ∷ 0 ∷ 2 ∷ 7 ∷ []) (ran Finished 8 8 1 (0 ∷ 1 ∷ 3 ∷ 4 ∷ []) (0 ∷ []) Speculative)
     -- both runs of a pair have the table: the load that shows the leak is out of reach
     ∷ costed_pair (job 1 10 100) (word_bytes (state 1 1 0)) (heavy 2) (pair_lent (filled 10) (filled 10) (filled 4096))
-    (answers.Compared pairs.Equal (counted Finished 5 4 1) (counted Finished 5 4 1))
+    (Ok (paired pairs.Equal (counted Finished 5 4 1) (counted Finished 5 4 1)))
     (pair_lent (0 ∷ 0 ∷ 2 ∷ 2 ∷ 3 ∷ 1 ∷ 1 ∷ 0 ∷ 2 ∷ 4 ∷ []) (0 ∷ 0 ∷ 2 ∷ 2 ∷ 3 ∷ 1 ∷ 1 ∷ 0 ∷ 2 ∷ 4 ∷ []) (zeros 4096))
     -- and both runs of a test load: r2 alone is new, and is loaded from with a window of 17 alone
     ∷ costed_load (following (0 ∷ []) 16) 1 (heavy 0) (test_load_lent (filled 10) (filled 10) (filled 4096) (filled 136))
-    (loads.Compared pairs.Equal (counted Finished 4 3 1) (counted Finished 4 3 1))
+    (Ok (loads.Compared (paired pairs.Equal (counted Finished 4 3 1) (counted Finished 4 3 1))))
     (test_load_lent (nothing_after ++ filled 2) (nothing_after ++ filled 2) (zeros 4096) (word_bytes (set zero17 2 1082269761)))
     ∷ costed_load (following (0 ∷ []) 17) 1 (heavy 0) (test_load_lent (filled 10) (filled 10) (filled 4096) (filled 136))
-    (loads.Compared pairs.LeakShown (counted Finished 5 4 1) (counted Finished 5 4 1))
+    (Ok (loads.Compared (paired pairs.LeakShown (counted Finished 5 4 1) (counted Finished 5 4 1))))
     (test_load_lent (0 ∷ 0 ∷ 2 ∷ 1 ∷ 3 ∷ 0 ∷ 1 ∷ 0 ∷ 2 ∷ 3 ∷ []) (0 ∷ 0 ∷ 2 ∷ 1 ∷ 3 ∷ 1082269761 ∷ 1 ∷ 0 ∷ 2 ∷ 3 ∷ []) (zeros 4096)
     (word_bytes (set zero17 2 1082269761)))
     ∷ []
@@ -127,11 +127,11 @@ costs_refused =
     ∷ costed_leaves (job 1 10 100) [] (lent [] [] []) (run_refused refusals.Costs) (lent [] [] [])
     ∷ costed_leaves (job 1 10 100) window_costs (lent [] [] []) (run_refused refusals.Areas) (lent [] [] [])
     -- of a pair 9, then 14, then 10
-    ∷ costed_pair (job 1 10 100) (zeros 159) [] (pair_lent [] [] []) (answers.Refused refusals.SecondState) (pair_lent [] [] [])
-    ∷ costed_pair (job 1 10 100) (zeros 160) [] (pair_lent [] [] []) (answers.Refused refusals.Costs) (pair_lent [] [] [])
-    ∷ costed_pair (job 1 10 100) (zeros 160) window_costs (pair_lent [] [] []) (answers.Refused refusals.Areas) (pair_lent [] [] [])
+    ∷ costed_pair (job 1 10 100) (zeros 159) [] (pair_lent [] [] []) (Err refusals.SecondState) (pair_lent [] [] [])
+    ∷ costed_pair (job 1 10 100) (zeros 160) [] (pair_lent [] [] []) (Err refusals.Costs) (pair_lent [] [] [])
+    ∷ costed_pair (job 1 10 100) (zeros 160) window_costs (pair_lent [] [] []) (Err refusals.Areas) (pair_lent [] [] [])
     -- of a test load 14, then 10, then 13
-    ∷ costed_load (job 1 10 100) 0 [] (test_load_lent [] [] [] []) (loads.Refused refusals.Costs) (test_load_lent [] [] [] [])
-    ∷ costed_load (job 1 10 100) 0 (heavy 0) (test_load_lent [] [] [] []) (loads.Refused refusals.Areas) (test_load_lent [] [] [] [])
-    ∷ costed_load (job 1 10 100) 0 (heavy 0) (test_load_lent [] [] (filled 4096) []) (loads.Refused refusals.Seed) (test_load_lent [] [] (filled 4096) [])
+    ∷ costed_load (job 1 10 100) 0 [] (test_load_lent [] [] [] []) (Err refusals.Costs) (test_load_lent [] [] [] [])
+    ∷ costed_load (job 1 10 100) 0 (heavy 0) (test_load_lent [] [] [] []) (Err refusals.Areas) (test_load_lent [] [] [] [])
+    ∷ costed_load (job 1 10 100) 0 (heavy 0) (test_load_lent [] [] (filled 4096) []) (Err refusals.Seed) (test_load_lent [] [] (filled 4096) [])
     ∷ []

@@ -1,10 +1,10 @@
 -- The cases that document 01 marks (P): the rows of one table. Tables.antt proves them.
 -- Assumes nothing.
-use Rattle.std.specs.Prelude.{List, [], ◌∷◌, ◌++◌, ℕ}
+use Rattle.std.specs.Prelude.{List, [], ◌∷◌, ◌++◌, ℕ, Ok}
 use Rattle.rules.specs.declared.Stop.TheVariants.{Finished, Spent, TraceFull}
 use Rattle.rules.specs.declared.Verdict.TheVariants.{Undecided, Clean, Speculative, Plain}
 use Rattle.rules.specs.declared.PairWord.TheVariants as pairs
-use Rattle.rules.specs.declared.PairAnswer.TheVariants as answers
+use Rattle.rules.specs.Rules.Outcomes.{paired}
 use Rattle.rules.specs.Rules.Encoding.{word_bytes}
 use Rattle.rules.specs.Cases.Files.{zeros, file, lines, counted, ran, Row, run, pair, prints}
 
@@ -88,7 +88,7 @@ document01 =
     ∷ run (file barrier_program 5 (state 1 1 1) public 10 100) 1024 (0 ∷ 0 ∷ 2 ∷ 2 ∷ 1 ∷ 0 ∷ 2 ∷ 5 ∷ []) (ran Finished 4 4 1 r01 r01 Clean)
     -- second state with cell 1 = 0: leak shown
     ∷ pair (job 1 10 100) (word_bytes (state 1 1 0)) 1024 whole_trace (0 ∷ 0 ∷ 2 ∷ 2 ∷ 3 ∷ 1 ∷ 3 ∷ 2 ∷ 1 ∷ 0 ∷ 2 ∷ 4 ∷ [])
-    (answers.Compared pairs.LeakShown (counted Finished 6 5 1) (counted Finished 6 5 1))
+    (Ok (paired pairs.LeakShown (counted Finished 6 5 1) (counted Finished 6 5 1)))
     -- nested, w 2: start 0, pc 1, start 1, pc 2, rollback 1, pc end, rollback 0, pc end; 5 steps
     ∷ run (file nested_program 3 (state 0 0 1) public 2 100) 1024
     (0 ∷ 0 ∷ 2 ∷ 1 ∷ 0 ∷ 1 ∷ 2 ∷ 2 ∷ 1 ∷ 1 ∷ 2 ∷ 3 ∷ 1 ∷ 0 ∷ 2 ∷ 3 ∷ []) (ran Finished 8 5 2 r01 (0 ∷ []) Clean)

@@ -1,6 +1,6 @@
 -- Job files for the tables, laid out byte by byte, and the rows of the tables.
 -- Assumes nothing.
-use Rattle.std.specs.Prelude.{Bool, true, List, [], ◌∷◌, ◌++◌, ℕ, ◌+◌, ◌-◌, ◌*◌, length, set, replicate}
+use Rattle.std.specs.Prelude.{Bool, true, List, [], ◌∷◌, ◌++◌, ℕ, ◌+◌, ◌-◌, ◌*◌, length, set, replicate, Ok}
 use Rattle.location.specs.declared.LocationSet.{LocationSet}
 use Rattle.location.specs.Sets.{limit, empty, single, union}
 use Rattle.rules.specs.declared.Stop.{Stop}
@@ -8,14 +8,11 @@ use Rattle.rules.specs.declared.Verdict.{Verdict}
 use Rattle.rules.specs.declared.Counts.{Counts}
 use Rattle.rules.specs.declared.Cause.{Cause}
 use Rattle.rules.specs.declared.First.{First}
-use Rattle.rules.specs.declared.RunOutcome.TheVariants as runs
 use Rattle.rules.specs.declared.RunAnswer.{RunAnswer}
-use Rattle.rules.specs.declared.PairAnswer.{PairAnswer}
-use Rattle.rules.specs.declared.TestLoadAnswer.{TestLoadAnswer}
-use Rattle.rules.specs.declared.PlainOutcome.TheVariants as plains
 use Rattle.rules.specs.declared.PlainAnswer.{PlainAnswer}
 use Rattle.rules.specs.declared.Tagged.{Tagged}
 use Prim.Native.String.{String}
+use Rattle.rules.specs.Rules.Outcomes.{PairAnswer, TestLoadAnswer, judged}
 use Rattle.rules.specs.Rules.Answers.{cause_number, text}
 use Rattle.rules.specs.Rules.Expressions.{tagged}
 use Rattle.rules.specs.Rules.Instructions.{window_costs}
@@ -62,7 +59,7 @@ counted stop observations steps rollbacks = record { stop = stop; observations =
 -- its reports
 unfoldable pub ran : Stop → ℕ → ℕ → ℕ → List ℕ → List ℕ → Verdict → RunAnswer
 ran stop observations steps rollbacks full plain word = record {
-  outcome = runs.Ran (counted stop observations steps rollbacks) word;
+  outcome = Ok (judged (counted stop observations steps rollbacks) word);
   full = set_of full;
   plain = set_of plain;
   firsts = [];
@@ -93,7 +90,7 @@ report_words (x ∷ xs) = x.index ∷ cause_number x.cause ∷ x.label ∷ repor
 -- a plain run's answer by its stop, counts of observations and steps, and the locations of its plain set
 unfoldable pub plain_ran : Stop → ℕ → ℕ → List ℕ → PlainAnswer
 plain_ran stop observations steps rests = record {
-  outcome = plains.Ran (record { stop = stop; observations = observations; steps = steps });
+  outcome = Ok (record { stop = stop; observations = observations; steps = steps });
   plain = set_of rests;
 }
 

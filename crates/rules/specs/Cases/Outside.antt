@@ -1,13 +1,13 @@
 -- Stores outside the image, after document 02, F-4: what is remembered, what a rollback restores, the end area, and a run that would need a
 -- 65th address. Tables.antt proves the rows.
 -- Assumes nothing.
-use Rattle.std.specs.Prelude.{List, [], ◌∷◌, ◌++◌, ℕ, zero, suc, ◌+◌, ◌/◌, ◌%◌, set}
+use Rattle.std.specs.Prelude.{List, [], ◌∷◌, ◌++◌, ℕ, zero, suc, ◌+◌, ◌/◌, ◌%◌, set, Ok}
 use Rattle.rules.specs.declared.Stop.TheVariants.{Finished, Spent, TraceFull, OutsideFull}
 use Rattle.rules.specs.declared.Verdict.TheVariants.{Undecided, Clean, Speculative, Plain}
 use Rattle.rules.specs.declared.PairWord.TheVariants as pairs
-use Rattle.rules.specs.declared.PairAnswer.TheVariants as answers
-use Rattle.rules.specs.declared.TestLoadAnswer.TheVariants as loads
 use Rattle.rules.specs.declared.Refusal.TheVariants as refusals
+use Rattle.rules.specs.declared.TestLoad.TheVariants as loads
+use Rattle.rules.specs.Rules.Outcomes.{paired}
 use Rattle.rules.specs.Rules.Answers.{text}
 use Rattle.rules.specs.Rules.Expressions.{tagged}
 use Rattle.rules.specs.Rules.Plain.{Entry}
@@ -82,13 +82,13 @@ outside =
     -- a word that is stored outside, loaded on the wrong path and used as an address there: its set is in D, and a pair shows the leak
     ∷ run spilling 1024 (4 ∷ 5 ∷ 0 ∷ 0 ∷ 2 ∷ 2 ∷ 3 ∷ 5 ∷ 3 ∷ 9 ∷ 1 ∷ 0 ∷ 2 ∷ 4 ∷ []) (ran Finished 7 5 1 (0 ∷ 1 ∷ 2 ∷ []) (0 ∷ 2 ∷ []) Speculative)
     ∷ pair spilling (word_bytes (set spilled 1 8)) 14 (4 ∷ 5 ∷ 0 ∷ 0 ∷ 2 ∷ 2 ∷ 3 ∷ 5 ∷ 3 ∷ 9 ∷ 1 ∷ 0 ∷ 2 ∷ 4 ∷ [])
-    (4 ∷ 5 ∷ 0 ∷ 0 ∷ 2 ∷ 2 ∷ 3 ∷ 5 ∷ 3 ∷ 8 ∷ 1 ∷ 0 ∷ 2 ∷ 4 ∷ []) (answers.Compared pairs.LeakShown (counted Finished 7 5 1) (counted Finished 7 5 1))
+    (4 ∷ 5 ∷ 0 ∷ 0 ∷ 2 ∷ 2 ∷ 3 ∷ 5 ∷ 3 ∷ 8 ∷ 1 ∷ 0 ∷ 2 ∷ 4 ∷ []) (Ok (paired pairs.LeakShown (counted Finished 7 5 1) (counted Finished 7 5 1)))
     -- "Both runs of a comparison start with nothing outside": load r6 r2; load r7 r6; store r1 r2
     ∷ pair (secret_job (2 ∷ 6 ∷ 1 ∷ 2 ∷ 2 ∷ 7 ∷ 1 ∷ 6 ∷ 3 ∷ 1 ∷ 1 ∷ 2 ∷ []) 3 spilled 10) (word_bytes spilled) 6 (3 ∷ 5 ∷ 3 ∷ 0 ∷ 4 ∷ 5 ∷ [])
-    (3 ∷ 5 ∷ 3 ∷ 0 ∷ 4 ∷ 5 ∷ []) (answers.Compared pairs.Equal (counted Finished 3 3 0) (counted Finished 3 3 0))
+    (3 ∷ 5 ∷ 3 ∷ 0 ∷ 4 ∷ 5 ∷ []) (Ok (paired pairs.Equal (counted Finished 3 3 0) (counted Finished 3 3 0)))
     -- and so do those of a test load, here with every location public, so that the new state is the job's own
     ∷ test_leaves (file (2 ∷ 6 ∷ 1 ∷ 2 ∷ 2 ∷ 7 ∷ 1 ∷ 6 ∷ 3 ∷ 1 ∷ 1 ∷ 2 ∷ []) 3 spilled (131071 ∷ zeros 3) 10 100) 1
-    (test_load_lent (filled 6) (filled 6) (filled 4096) (filled 136)) (loads.Compared pairs.Equal (counted Finished 3 3 0) (counted Finished 3 3 0))
+    (test_load_lent (filled 6) (filled 6) (filled 4096) (filled 136)) (Ok (loads.Compared (paired pairs.Equal (counted Finished 3 3 0) (counted Finished 3 3 0))))
     (test_load_lent (3 ∷ 5 ∷ 3 ∷ 0 ∷ 4 ∷ 5 ∷ []) (3 ∷ 5 ∷ 3 ∷ 0 ∷ 4 ∷ 5 ∷ []) (zeros 4096) (word_bytes spilled))
     -- with m 0 the address 0 is outside: store r1 r0; load r6 r0
     ∷ holds (secret_job (3 ∷ 1 ∷ 1 ∷ 0 ∷ 2 ∷ 6 ∷ 1 ∷ 0 ∷ []) 2 (0 ∷ 9 ∷ zeros 14) 10) 6 (tagged 9 (set_of (0 ∷ 1 ∷ [])))
@@ -202,9 +202,9 @@ outside_full =
     -- the 64th. The first state has the 64th address in its cell, so that the run finishes.
     ∷ pair (secret_job (filling 0 63 ++ (2 ∷ 1 ∷ 1 ∷ 8 ∷ 3 ∷ 2 ∷ 1 ∷ 1 ∷ filling 63 1)) 66 (set summands 16 163) 10) (word_bytes summands) 132
     (filling_seen 0 63 ++ (3 ∷ 0 ∷ 4 ∷ 163 ∷ 4 ∷ 163 ∷ [])) (filling_seen 0 63 ++ (3 ∷ 0 ∷ 4 ∷ 300 ∷ []))
-    (answers.Compared pairs.Undecided (counted Finished 66 66 0) (counted OutsideFull 65 65 0))
+    (Ok (paired pairs.Undecided (counted Finished 66 66 0) (counted OutsideFull 65 65 0)))
     -- a test load whose own run is outside full: "its own stop and counts alone, its trace alone is written and no state"
-    ∷ test_leaves (overfilling 100) 1 (test_load_lent (filled 132) (filled 132) (filled 4097) (filled 136)) (loads.Undecided (counted OutsideFull 65 65 0))
+    ∷ test_leaves (overfilling 100) 1 (test_load_lent (filled 132) (filled 132) (filled 4097) (filled 136)) (Ok (loads.Undecided (counted OutsideFull 65 65 0)))
     (test_load_lent (filling_seen 0 64 ++ (3 ∷ 0 ∷ filled 2)) (filled 132) (zeros 4096 ++ filled 1) (filled 136))
     -- the stop as it is printed
     ∷ prints (overfilling 100)

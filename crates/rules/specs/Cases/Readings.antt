@@ -1,12 +1,12 @@
 -- Rows of our own: each fails under a misreading that document 01 names, or under a reading that was decided against
 -- (docs/DECISIONS.md has the readings by number). Tables.antt proves them.
 -- Assumes nothing.
-use Rattle.std.specs.Prelude.{List, [], ◌∷◌, ◌++◌, ℕ, set, replicate}
+use Rattle.std.specs.Prelude.{List, [], ◌∷◌, ◌++◌, ℕ, set, replicate, Ok, Err}
 use Rattle.rules.specs.declared.Stop.TheVariants.{Finished, Spent, TraceFull}
 use Rattle.rules.specs.declared.Verdict.TheVariants.{Undecided, Clean, Speculative, Plain}
 use Rattle.rules.specs.declared.PairWord.TheVariants as pairs
-use Rattle.rules.specs.declared.PairAnswer.TheVariants as answers
 use Rattle.rules.specs.declared.Refusal.TheVariants as refusals
+use Rattle.rules.specs.Rules.Outcomes.{paired}
 use Rattle.rules.specs.Rules.Expressions.{tagged}
 use Rattle.rules.specs.Rules.Calls.{lent, run_refused, plain_refused}
 use Rattle.rules.specs.Rules.Pairs.{pair_lent}
@@ -152,16 +152,16 @@ readings =
     ∷ prints [] (lines ("refused 1" ∷ []))
     -- pairs: not comparable comes first, then undecided; plain traces, then full traces; both traces are written in every case
     ∷ pair (job 1 10 100) (word_bytes (state 0 1 1)) 12 whole_trace (0 ∷ 0 ∷ 2 ∷ 4 ∷ 1 ∷ 0 ∷ 2 ∷ 2 ∷ 3 ∷ 0 ∷ 3 ∷ 2 ∷ [])
-    (answers.Compared pairs.NotComparable (counted Finished 6 5 1) (counted Finished 6 5 1))
+    (Ok (paired pairs.NotComparable (counted Finished 6 5 1) (counted Finished 6 5 1)))
     ∷ pair (job 1 10 4) (word_bytes (state 0 1 1)) 4 (0 ∷ 0 ∷ 2 ∷ 2 ∷ []) (0 ∷ 0 ∷ 2 ∷ 4 ∷ [])
-    (answers.Compared pairs.NotComparable (counted TraceFull 2 2 0) (counted TraceFull 2 2 0))
+    (Ok (paired pairs.NotComparable (counted TraceFull 2 2 0) (counted TraceFull 2 2 0)))
     ∷ pair (job 1 10 4) (word_bytes (state 1 1 0)) 12 (0 ∷ 0 ∷ 2 ∷ 2 ∷ 3 ∷ 1 ∷ 3 ∷ 3 ∷ []) (0 ∷ 0 ∷ 2 ∷ 2 ∷ 3 ∷ 1 ∷ 3 ∷ 2 ∷ [])
-    (answers.Compared pairs.Undecided (counted Spent 4 4 0) (counted Spent 4 4 0))
+    (Ok (paired pairs.Undecided (counted Spent 4 4 0) (counted Spent 4 4 0)))
     ∷ pair (job 0 10 100) (word_bytes (set (state 0 1 1) 16 3)) 12 (0 ∷ 0 ∷ 2 ∷ 4 ∷ 1 ∷ 0 ∷ 2 ∷ 2 ∷ 3 ∷ 0 ∷ 3 ∷ 2 ∷ [])
-    (0 ∷ 0 ∷ 2 ∷ 4 ∷ 1 ∷ 0 ∷ 2 ∷ 2 ∷ 3 ∷ 0 ∷ 3 ∷ 5 ∷ []) (answers.Compared pairs.PlainDiffers (counted Finished 6 5 1) (counted Finished 6 5 1))
+    (0 ∷ 0 ∷ 2 ∷ 4 ∷ 1 ∷ 0 ∷ 2 ∷ 2 ∷ 3 ∷ 0 ∷ 3 ∷ 5 ∷ []) (Ok (paired pairs.PlainDiffers (counted Finished 6 5 1) (counted Finished 6 5 1)))
     ∷ pair (job 1 10 100) (word_bytes (set (state 1 1 1) 18 8)) 12 whole_trace whole_trace
-    (answers.Compared pairs.Equal (counted Finished 6 5 1) (counted Finished 6 5 1))
-    ∷ pair (job 1 10 100) (zeros 159) 12 [] [] (answers.Refused refusals.SecondState)
+    (Ok (paired pairs.Equal (counted Finished 6 5 1) (counted Finished 6 5 1)))
+    ∷ pair (job 1 10 100) (zeros 159) 12 [] [] (Err refusals.SecondState)
     ∷ []
 
 -- what each instruction, operator and constant does to values, sets and windows
@@ -169,9 +169,9 @@ unfoldable pub details : List Row
 details =
     -- a pair with nothing public, one run of the two not finished: each run has its own counts
     pair (secret_job (4 ∷ 1 ∷ 0 ∷ []) 1 (set (zeros 16) 0 1) 10) (word_bytes (zeros 16)) 4 (2 ∷ 1 ∷ []) (2 ∷ 0 ∷ 2 ∷ 0 ∷ [])
-    (answers.Compared pairs.Undecided (counted Finished 1 1 0) (counted TraceFull 2 2 0))
+    (Ok (paired pairs.Undecided (counted Finished 1 1 0) (counted TraceFull 2 2 0)))
     ∷ pair (secret_job (4 ∷ 1 ∷ 0 ∷ []) 1 (zeros 16) 10) (word_bytes (set (zeros 16) 0 1)) 4 (2 ∷ 0 ∷ 2 ∷ 0 ∷ []) (2 ∷ 1 ∷ [])
-    (answers.Compared pairs.Undecided (counted TraceFull 2 2 0) (counted Finished 1 1 0))
+    (Ok (paired pairs.Undecided (counted TraceFull 2 2 0) (counted Finished 1 1 0)))
     -- the tokens of the operators: 19 to 28 on 29 and 3, and ult the other way round; 17 and 18 on 1
     ∷ run
     (secret_job (operations (19 ∷ 20 ∷ 21 ∷ 22 ∷ 23 ∷ 24 ∷ 25 ∷ 26 ∷ 27 ∷ 28 ∷ []) ++ (2 ∷ 2 ∷ 3 ∷ 1 ∷ 0 ∷ 28 ∷ [])) 11
@@ -187,7 +187,7 @@ details =
     ∷ holds (secret_job (1 ∷ 2 ∷ 3 ∷ 0 ∷ 1 ∷ 26 ∷ []) 1 (shift_by 66) 10) 2 (tagged 1 (set_of r01))
     -- a pair whose counts are 64 and 128: equal traces, though r1 is in D
     ∷ pair (secret_job (operations (25 ∷ [])) 1 (shift_by 64) 10) (word_bytes (shift_by 128)) 2 (3 ∷ 5 ∷ []) (3 ∷ 5 ∷ [])
-    (answers.Compared pairs.Equal (counted Finished 1 1 0) (counted Finished 1 1 0))
+    (Ok (paired pairs.Equal (counted Finished 1 1 0) (counted Finished 1 1 0)))
     -- a constant: its bytes, the lowest first, and the empty set
     ∷ holds (secret_job (1 ∷ 1 ∷ 1 ∷ 16 ∷ 1 ∷ 2 ∷ 3 ∷ 4 ∷ 5 ∷ 6 ∷ 7 ∷ 8 ∷ []) 1 zero17 10) 1 (tagged 578437695752307201 (set_of []))
     -- addresses near 2^64 are outside, also where 16 + address would wrap; the full address of a store is seen, and its set gathered
@@ -208,7 +208,7 @@ details =
 unfoldable pub areas_left : List Row
 areas_left =
     -- a second state one byte too long
-    pair (job 1 10 100) (zeros 161) 12 [] [] (answers.Refused refusals.SecondState)
+    pair (job 1 10 100) (zeros 161) 12 [] [] (Err refusals.SecondState)
     -- refusal 1 comes before 10; an end area of just 16 + m + 129 words is enough
     ∷ leaves [] (lent (filled 3) [] []) (run_refused refusals.Length) (lent (filled 3) [] [])
     ∷ leaves (job 1 10 3) (lent (filled 9) (filled 149) (filled 4096)) (ran Spent 3 3 0 r01 r01 Undecided)
@@ -223,12 +223,12 @@ areas_left =
     ∷ plain_leaves [] (lent (filled 3) [] []) (plain_refused refusals.Length) (lent (filled 3) [] [])
     -- all areas after a pair, and after its refusals: 9 before 10, a short working area, unequal trace areas
     ∷ pair_leaves (job 1 10 100) (word_bytes (state 1 1 0)) (pair_lent (filled 13) (filled 13) (filled 4097))
-    (answers.Compared pairs.LeakShown (counted Finished 6 5 1) (counted Finished 6 5 1))
+    (Ok (paired pairs.LeakShown (counted Finished 6 5 1) (counted Finished 6 5 1)))
     (pair_lent (whole_trace ++ filled 1) (0 ∷ 0 ∷ 2 ∷ 2 ∷ 3 ∷ 1 ∷ 3 ∷ 2 ∷ 1 ∷ 0 ∷ 2 ∷ 4 ∷ filled 1) (zeros 4096 ++ filled 1))
-    ∷ pair_leaves (job 1 10 100) (zeros 159) (pair_lent (filled 3) (filled 4) []) (answers.Refused refusals.SecondState) (pair_lent (filled 3) (filled 4) [])
-    ∷ pair_leaves (job 1 10 100) (word_bytes (state 1 1 0)) (pair_lent (filled 3) (filled 3) (filled 4095)) (answers.Refused refusals.Areas)
+    ∷ pair_leaves (job 1 10 100) (zeros 159) (pair_lent (filled 3) (filled 4) []) (Err refusals.SecondState) (pair_lent (filled 3) (filled 4) [])
+    ∷ pair_leaves (job 1 10 100) (word_bytes (state 1 1 0)) (pair_lent (filled 3) (filled 3) (filled 4095)) (Err refusals.Areas)
     (pair_lent (filled 3) (filled 3) (filled 4095))
-    ∷ pair_leaves (job 1 10 100) (word_bytes (state 1 1 0)) (pair_lent (filled 13) (filled 12) (filled 4096)) (answers.Refused refusals.Areas)
+    ∷ pair_leaves (job 1 10 100) (word_bytes (state 1 1 0)) (pair_lent (filled 13) (filled 12) (filled 4096)) (Err refusals.Areas)
     (pair_lent (filled 13) (filled 12) (filled 4096))
     ∷ []
 

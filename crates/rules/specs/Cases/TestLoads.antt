@@ -1,11 +1,12 @@
 -- Test loads, after document 02, F-3: the words that are made, new states, runs that do not finish, and what is turned away. The words were
 -- computed apart from these rules. Tables.antt proves the rows.
 -- Assumes nothing.
-use Rattle.std.specs.Prelude.{true, false, List, [], ◌∷◌, ◌++◌, ℕ, take, drop}
+use Rattle.std.specs.Prelude.{true, false, List, [], ◌∷◌, ◌++◌, ℕ, take, drop, Ok, Err}
 use Rattle.rules.specs.declared.Stop.TheVariants.{Finished, Spent, TraceFull}
 use Rattle.rules.specs.declared.PairWord.TheVariants as pairs
-use Rattle.rules.specs.declared.TestLoadAnswer.TheVariants as answers
 use Rattle.rules.specs.declared.Refusal.TheVariants as refusals
+use Rattle.rules.specs.declared.TestLoad.TheVariants as loads
+use Rattle.rules.specs.Rules.Outcomes.{paired}
 use Rattle.rules.specs.Rules.Encoding.{word_bytes}
 use Rattle.rules.specs.Rules.TestLoads.{test_load_lent}
 use Rattle.rules.specs.Cases.Files.{zeros, file, counted, Row, test_leaves, makes, plainly}
@@ -58,25 +59,25 @@ unfoldable pub new_states : List Row
 new_states =
     -- r0 is in the plain set and r3 public, all else is new; on the wrong path r2 is an address. The rest of each area stays.
     test_leaves leaking 1 (test_load_lent (filled 11) (filled 11) (filled 4097) (filled 139))
-    (answers.Compared pairs.LeakShown (counted Finished 5 3 1) (counted Finished 5 3 1))
+    (Ok (loads.Compared (paired pairs.LeakShown (counted Finished 5 3 1) (counted Finished 5 3 1))))
     (test_load_lent (0 ∷ 0 ∷ 2 ∷ 1 ∷ 3 ∷ 0 ∷ 1 ∷ 0 ∷ 2 ∷ 2 ∷ filled 1) (0 ∷ 0 ∷ 2 ∷ 1 ∷ 3 ∷ 1152992998833853505 ∷ 1 ∷ 0 ∷ 2 ∷ 2 ∷ filled 1)
     (zeros 4096 ++ filled 1) (word_bytes leaked ++ filled 3))
     -- every location public: the new state is the job's own, load r1 r0
     ∷ test_leaves (file (2 ∷ 1 ∷ 1 ∷ 0 ∷ []) 1 (chosen_state 5 6 7 8) (65535 ∷ zeros 3) 10 100) 1 (test_load_lent (filled 2) (filled 2) (filled 4096) (filled 129))
-    (answers.Compared pairs.Equal (counted Finished 1 1 0) (counted Finished 1 1 0))
+    (Ok (loads.Compared (paired pairs.Equal (counted Finished 1 1 0) (counted Finished 1 1 0))))
     (test_load_lent (3 ∷ 5 ∷ []) (3 ∷ 5 ∷ []) (zeros 4096) (word_bytes (chosen_state 5 6 7 8) ++ filled 1))
     -- m 0 and seed 2^64 − 1: nothing public, nothing seen, so every register is new
     ∷ test_leaves (secret_job (0 ∷ []) 1 (zeros 16) 10) highest (test_load_lent [] [] (filled 4096) (filled 128))
-    (answers.Compared pairs.Equal (counted Finished 0 1 0) (counted Finished 0 1 0)) (test_load_lent [] [] (zeros 4096) (word_bytes from_highest))
+    (Ok (loads.Compared (paired pairs.Equal (counted Finished 0 1 0) (counted Finished 0 1 0)))) (test_load_lent [] [] (zeros 4096) (word_bytes from_highest))
     -- "neither public nor in the plain set, lowest location first": load r4 r0 keeps r0, and all but r0, r1 and r3 are public, the one cell
     -- too; the lowest byte of a word comes first; 128 + 8m bytes are enough
     ∷ test_leaves (file (2 ∷ 4 ∷ 1 ∷ 0 ∷ []) 1 (chosen_state 5 6 7 8 ++ (9 ∷ [])) (131060 ∷ zeros 3) 10 100) 1
-    (test_load_lent (filled 3) (filled 3) (filled 4096) (filled 136)) (answers.Compared pairs.Equal (counted Finished 1 1 0) (counted Finished 1 1 0))
+    (test_load_lent (filled 3) (filled 3) (filled 4096) (filled 136)) (Ok (loads.Compared (paired pairs.Equal (counted Finished 1 1 0) (counted Finished 1 1 0))))
     (test_load_lent (3 ∷ 5 ∷ filled 1) (3 ∷ 5 ∷ filled 1) (zeros 4096)
     (5 ∷ zeros 7 ++ (65 ∷ 32 ∷ 130 ∷ 64 ∷ 0 ∷ 0 ∷ 0 ∷ 0 ∷ 7 ∷ zeros 7 ++ (65 ∷ 20 ∷ 1 ∷ 12 ∷ 6 ∷ 65 ∷ 0 ∷ 16 ∷ zeros 96 ++ (9 ∷ zeros 7)))))
     -- the run of the new state is spent, the job's own is not
     ∷ test_leaves (file longer 2 (zeros 16) (zeros 4) 10 3) 1 (test_load_lent (filled 11) (filled 11) (filled 4096) (filled 128))
-    (answers.Compared pairs.Undecided (counted Finished 5 3 1) (counted Spent 5 3 0))
+    (Ok (loads.Compared (paired pairs.Undecided (counted Finished 5 3 1) (counted Spent 5 3 0))))
     (test_load_lent (0 ∷ 0 ∷ 2 ∷ 1 ∷ 2 ∷ 2 ∷ 1 ∷ 0 ∷ 2 ∷ 2 ∷ filled 1) (0 ∷ 0 ∷ 2 ∷ 1 ∷ 2 ∷ 0 ∷ 0 ∷ 1 ∷ 2 ∷ 1 ∷ filled 1) (zeros 4096)
     (word_bytes (0 ∷ from_one)))
     ∷ []
@@ -89,14 +90,14 @@ plain_first b = file (5 ∷ 0 ∷ 2 ∷ 0 ∷ 0 ∷ 2 ∷ 1 ∷ 1 ∷ 2 ∷ []) 
 unfoldable pub unfinished : List Row
 unfinished =
     -- "its own stop and counts alone, its trace alone is written and no state": spent, and trace full
-    test_leaves (job 1 10 4) 1 (test_load_lent (filled 9) (filled 9) (filled 4097) (filled 160)) (answers.Undecided (counted Spent 4 4 0))
+    test_leaves (job 1 10 4) 1 (test_load_lent (filled 9) (filled 9) (filled 4097) (filled 160)) (Ok (loads.Undecided (counted Spent 4 4 0)))
     (test_load_lent (0 ∷ 0 ∷ 2 ∷ 2 ∷ 3 ∷ 1 ∷ 3 ∷ 3 ∷ filled 1) (filled 9) (zeros 4096 ++ filled 1) (filled 160))
-    ∷ test_leaves (job 1 10 100) 1 (test_load_lent (filled 5) (filled 5) (filled 4096) (filled 161)) (answers.Undecided (counted TraceFull 2 2 0))
+    ∷ test_leaves (job 1 10 100) 1 (test_load_lent (filled 5) (filled 5) (filled 4096) (filled 161)) (Ok (loads.Undecided (counted TraceFull 2 2 0)))
     (test_load_lent (0 ∷ 0 ∷ 2 ∷ 2 ∷ filled 1) (filled 5) (zeros 4096) (filled 161))
     -- "The statement fails for an unfinished run": spent on the wrong path, before the load that the plain run makes; r2 is not yet in the
     -- plain set, so a new state has another word there, and another plain trace.
     ∷ plainly (plain_first 2) 1 Spent false
-    ∷ test_leaves (plain_first 2) 1 (test_load_lent (filled 4) (filled 4) (filled 4096) (filled 128)) (answers.Undecided (counted Spent 2 2 0))
+    ∷ test_leaves (plain_first 2) 1 (test_load_lent (filled 4) (filled 4) (filled 4096) (filled 128)) (Ok (loads.Undecided (counted Spent 2 2 0)))
     (test_load_lent (0 ∷ 0 ∷ 2 ∷ 1 ∷ []) (filled 4) (zeros 4096) (filled 128))
     -- with steps enough it holds
     ∷ plainly (plain_first 100) 1 Finished true
@@ -106,23 +107,23 @@ unfinished =
 unfoldable pub turned_away : List Row
 turned_away =
     -- 8 before 10, 13 and 12
-    test_leaves (list_bit 2 16) 0 (test_load_lent (filled 3) (filled 2) (filled 5) []) (answers.Refused refusals.PublicList)
+    test_leaves (list_bit 2 16) 0 (test_load_lent (filled 3) (filled 2) (filled 5) []) (Err refusals.PublicList)
     (test_load_lent (filled 3) (filled 2) (filled 5) [])
     -- 10 before 13 and 12: a short working area, unequal trace areas
-    ∷ test_leaves (job 1 10 100) 0 (test_load_lent (filled 3) (filled 3) (filled 4095) (filled 159)) (answers.Refused refusals.Areas)
+    ∷ test_leaves (job 1 10 100) 0 (test_load_lent (filled 3) (filled 3) (filled 4095) (filled 159)) (Err refusals.Areas)
     (test_load_lent (filled 3) (filled 3) (filled 4095) (filled 159))
-    ∷ test_leaves (job 1 10 100) 0 (test_load_lent (filled 13) (filled 12) (filled 4096) []) (answers.Refused refusals.Areas)
+    ∷ test_leaves (job 1 10 100) 0 (test_load_lent (filled 13) (filled 12) (filled 4096) []) (Err refusals.Areas)
     (test_load_lent (filled 13) (filled 12) (filled 4096) [])
-    ∷ test_leaves (job 1 10 100) 1 (test_load_lent (filled 12) (filled 13) (filled 4096) (filled 160)) (answers.Refused refusals.Areas)
+    ∷ test_leaves (job 1 10 100) 1 (test_load_lent (filled 12) (filled 13) (filled 4096) (filled 160)) (Err refusals.Areas)
     (test_load_lent (filled 12) (filled 13) (filled 4096) (filled 160))
     -- "13, seed 0, after 10; then 12"
-    ∷ test_leaves (job 1 10 100) 0 (test_load_lent (filled 3) (filled 3) (filled 4096) (filled 159)) (answers.Refused refusals.Seed)
+    ∷ test_leaves (job 1 10 100) 0 (test_load_lent (filled 3) (filled 3) (filled 4096) (filled 159)) (Err refusals.Seed)
     (test_load_lent (filled 3) (filled 3) (filled 4096) (filled 159))
-    ∷ test_leaves (job 1 10 100) 0 (test_load_lent (filled 13) (filled 13) (filled 4096) (filled 160)) (answers.Refused refusals.Seed)
+    ∷ test_leaves (job 1 10 100) 0 (test_load_lent (filled 13) (filled 13) (filled 4096) (filled 160)) (Err refusals.Seed)
     (test_load_lent (filled 13) (filled 13) (filled 4096) (filled 160))
     -- one byte too few, also where no state would be written
-    ∷ test_leaves (job 1 10 100) 1 (test_load_lent (filled 13) (filled 13) (filled 4096) (filled 159)) (answers.Refused refusals.Output)
+    ∷ test_leaves (job 1 10 100) 1 (test_load_lent (filled 13) (filled 13) (filled 4096) (filled 159)) (Err refusals.Output)
     (test_load_lent (filled 13) (filled 13) (filled 4096) (filled 159))
-    ∷ test_leaves (job 1 10 4) 1 (test_load_lent (filled 13) (filled 13) (filled 4096) (filled 159)) (answers.Refused refusals.Output)
+    ∷ test_leaves (job 1 10 4) 1 (test_load_lent (filled 13) (filled 13) (filled 4096) (filled 159)) (Err refusals.Output)
     (test_load_lent (filled 13) (filled 13) (filled 4096) (filled 159))
     ∷ []

@@ -1,13 +1,10 @@
 -- Routines as text: texts with the program that reading gives or the number that turns them away, and jobs with the text that printing
 -- gives. Each row fails under some misreading of document 02's F-1 (docs/DECISIONS.md has the readings). TextTables.antt proves them.
 -- Assumes nothing.
-use Rattle.std.specs.Prelude.{List, [], ◌∷◌, ◌++◌, ℕ, zero, suc, ◌+◌, length, replicate}
+use Rattle.std.specs.Prelude.{List, [], ◌∷◌, ◌++◌, ℕ, zero, suc, ◌+◌, length, replicate, Ok, Err}
 use Prim.Native.String.{String}
 use Rattle.rules.specs.declared.Refusal.TheVariants as refusals
-use Rattle.rules.specs.declared.ReadAnswer.{ReadAnswer}
-use Rattle.rules.specs.declared.ReadAnswer.TheVariants as reading
-use Rattle.rules.specs.declared.PrintAnswer.{PrintAnswer}
-use Rattle.rules.specs.declared.PrintAnswer.TheVariants as printing
+use Rattle.rules.specs.Rules.Outcomes.{PrintAnswer, ReadAnswer, read_as}
 use Rattle.rules.specs.Rules.Answers.{text}
 use Rattle.rules.specs.Rules.Encoding.{bytes_of}
 use Rattle.rules.specs.Rules.Calls.{Called}
@@ -48,10 +45,10 @@ given (read_leaves t before answer after) = read (read_call t before)
 given (print_leaves j before answer after) = printed (print_call j before)
 
 unfoldable pub wanted : Row → Seen
-wanted (reads t bytes n) = read (left (reading.Read (length bytes) n) (bytes ++ filled 1))
-wanted (refuses t) = read (left (reading.Refused refusals.Text) (filled 9))
-wanted (measures t k n) = size (reading.Read k n)
-wanted (round_trips bytes n t) = both (left (printing.Printed (length t)) (t ++ filled 1)) (left (reading.Read (length bytes) n) (bytes ++ filled 1))
+wanted (reads t bytes n) = read (left (Ok (read_as (length bytes) n)) (bytes ++ filled 1))
+wanted (refuses t) = read (left (Err refusals.Text) (filled 9))
+wanted (measures t k n) = size (Ok (read_as k n))
+wanted (round_trips bytes n t) = both (left (Ok (length t)) (t ++ filled 1)) (left (Ok (read_as (length bytes) n)) (bytes ++ filled 1))
 wanted (read_leaves t before answer after) = read (left answer after)
 wanted (print_leaves j before answer after) = printed (left answer after)
 
@@ -106,7 +103,7 @@ unfoldable pub example02 : List Row
 example02 =
     -- the four lines, and back; the job of document 01 as a call
     round_trips printed_program 4 text02
-    ∷ print_leaves (job 1 10 100) (filled 60) (printing.Printed 59) (text02 ++ filled 1)
+    ∷ print_leaves (job 1 10 100) (filled 60) (Ok 59) (text02 ++ filled 1)
     ∷ []
 
 -- ---- words: the eight instructions, the twelve operator names
@@ -273,24 +270,24 @@ text_bounds =
 unfoldable pub text_areas : List Row
 text_areas =
     -- reading into an area that is one byte short, just long enough, longer; 11 before 12
-    read_leaves text02 (filled 27) (reading.Refused refusals.Output) (filled 27)
-    ∷ read_leaves text02 (filled 28) (reading.Read 28 4) printed_program
-    ∷ read_leaves text02 (filled 30) (reading.Read 28 4) (printed_program ++ filled 2)
-    ∷ read_leaves (only "skip") [] (reading.Refused refusals.Output) []
-    ∷ read_leaves (only "skip skip") [] (reading.Refused refusals.Text) []
-    ∷ read_leaves [] [] (reading.Refused refusals.Text) []
-    ∷ read_leaves (lines ("skip" ∷ "skip" ∷ "beqz r0 4" ∷ [])) (filled 1) (reading.Refused refusals.Text) (filled 1)
+    read_leaves text02 (filled 27) (Err refusals.Output) (filled 27)
+    ∷ read_leaves text02 (filled 28) (Ok (read_as 28 4)) printed_program
+    ∷ read_leaves text02 (filled 30) (Ok (read_as 28 4)) (printed_program ++ filled 2)
+    ∷ read_leaves (only "skip") [] (Err refusals.Output) []
+    ∷ read_leaves (only "skip skip") [] (Err refusals.Text) []
+    ∷ read_leaves [] [] (Err refusals.Text) []
+    ∷ read_leaves (lines ("skip" ∷ "skip" ∷ "beqz r0 4" ∷ [])) (filled 1) (Err refusals.Text) (filled 1)
     -- printing likewise; 1 to 8 before 12
-    ∷ print_leaves (job 1 10 100) (filled 58) (printing.Refused refusals.Output) (filled 58)
-    ∷ print_leaves (job 1 10 100) (filled 59) (printing.Printed 59) text02
-    ∷ print_leaves (zeros 15) (filled 2) (printing.Refused refusals.Length) (filled 2)
-    ∷ print_leaves (skips 513 0 10 0 100) [] (printing.Refused refusals.Trailer) []
-    ∷ print_leaves (offsets_at 2 129) [] (printing.Refused refusals.Offsets) []
-    ∷ print_leaves (program (8 ∷ []) 1 0) (filled 9) (printing.Refused refusals.Encoding) (filled 9)
-    ∷ print_leaves (program (4 ∷ 2 ∷ 0 ∷ 0 ∷ []) 1 0) [] (printing.Refused refusals.Postfix) []
-    ∷ print_leaves (program (5 ∷ 0 ∷ 1 ∷ 0 ∷ []) 1 0) [] (printing.Refused refusals.BranchLabel) []
-    ∷ print_leaves (program (0 ∷ 0 ∷ []) 1 0) (filled 9) (printing.Refused refusals.Surplus) (filled 9)
-    ∷ print_leaves (list_bit 2 16) [] (printing.Refused refusals.PublicList) []
-    ∷ print_leaves (list_bit 2 8) [] (printing.Refused refusals.Output) []
-    ∷ print_leaves (list_bit 2 8) (filled 5) (printing.Printed 5) (only "skip")
+    ∷ print_leaves (job 1 10 100) (filled 58) (Err refusals.Output) (filled 58)
+    ∷ print_leaves (job 1 10 100) (filled 59) (Ok 59) text02
+    ∷ print_leaves (zeros 15) (filled 2) (Err refusals.Length) (filled 2)
+    ∷ print_leaves (skips 513 0 10 0 100) [] (Err refusals.Trailer) []
+    ∷ print_leaves (offsets_at 2 129) [] (Err refusals.Offsets) []
+    ∷ print_leaves (program (8 ∷ []) 1 0) (filled 9) (Err refusals.Encoding) (filled 9)
+    ∷ print_leaves (program (4 ∷ 2 ∷ 0 ∷ 0 ∷ []) 1 0) [] (Err refusals.Postfix) []
+    ∷ print_leaves (program (5 ∷ 0 ∷ 1 ∷ 0 ∷ []) 1 0) [] (Err refusals.BranchLabel) []
+    ∷ print_leaves (program (0 ∷ 0 ∷ []) 1 0) (filled 9) (Err refusals.Surplus) (filled 9)
+    ∷ print_leaves (list_bit 2 16) [] (Err refusals.PublicList) []
+    ∷ print_leaves (list_bit 2 8) [] (Err refusals.Output) []
+    ∷ print_leaves (list_bit 2 8) (filled 5) (Ok 5) (only "skip")
     ∷ []

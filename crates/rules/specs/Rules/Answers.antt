@@ -1,7 +1,7 @@
 -- The number and word of each case of an answer. Refusals have the documents' numbers; stops, verdicts, the rules of F-6 and the
 -- words on a pair are numbered from 0 in the order in which the documents name them (of a stop: finished first).
 -- Assumes nothing.
-use Rattle.std.specs.Prelude.{List, [], ◌∷◌, ℕ}
+use Rattle.std.specs.Prelude.{List, [], ◌∷◌, ℕ, Result, Ok, Err}
 use Prim.Native.String.{String, [] as none, ◌∷◌ as ◌then◌}
 use Prim.Native.Char.{code}
 use Rattle.rules.specs.declared.Stop.{Stop}
@@ -14,18 +14,9 @@ use Rattle.rules.specs.declared.PairWord.{PairWord}
 use Rattle.rules.specs.declared.PairWord.TheVariants as pairs
 use Rattle.rules.specs.declared.Refusal.{Refusal}
 use Rattle.rules.specs.declared.Refusal.TheVariants as refusals
-use Rattle.rules.specs.declared.RunOutcome.TheVariants as runs
 use Rattle.rules.specs.declared.RunAnswer.{RunAnswer}
-use Rattle.rules.specs.declared.PlainOutcome.TheVariants as plains
 use Rattle.rules.specs.declared.PlainAnswer.{PlainAnswer}
-use Rattle.rules.specs.declared.PairAnswer.{PairAnswer}
-use Rattle.rules.specs.declared.PairAnswer.TheVariants as answers
-use Rattle.rules.specs.declared.TestLoadAnswer.{TestLoadAnswer}
-use Rattle.rules.specs.declared.TestLoadAnswer.TheVariants as tests
-use Rattle.rules.specs.declared.ReadAnswer.{ReadAnswer}
-use Rattle.rules.specs.declared.ReadAnswer.TheVariants as reads
-use Rattle.rules.specs.declared.PrintAnswer.{PrintAnswer}
-use Rattle.rules.specs.declared.PrintAnswer.TheVariants as prints
+use Rattle.rules.specs.Rules.Outcomes.{PairAnswer, TestLoadAnswer, ReadAnswer, PrintAnswer}
 
 -- the bytes of a text
 unfoldable pub text : String → List ℕ
@@ -94,25 +85,24 @@ refusal_number refusals.Seed = 13
 refusal_number refusals.Costs = 14
 
 -- the refusal number of a call's answer: 0 where the call was carried out
+abbrev pub refusal_of : {A : Type 0} → Result A Refusal → ℕ
+refusal_of (Err n) = refusal_number n
+refusal_of (Ok x) = 0
+
 abbrev pub run_refusal : RunAnswer → ℕ
-run_refusal r = elim r.outcome [ runs.Refused n ↦ refusal_number n | runs.Ran c v ↦ 0 ]
+run_refusal r = refusal_of r.outcome
 
 abbrev pub plain_refusal : PlainAnswer → ℕ
-plain_refusal r = elim r.outcome [ plains.Refused n ↦ refusal_number n | plains.Ran c ↦ 0 ]
+plain_refusal r = refusal_of r.outcome
 
 abbrev pub pair_refusal : PairAnswer → ℕ
-pair_refusal (answers.Refused n) = refusal_number n
-pair_refusal (answers.Compared w c d) = 0
+pair_refusal r = refusal_of r
 
 abbrev pub test_load_refusal : TestLoadAnswer → ℕ
-test_load_refusal (tests.Refused n) = refusal_number n
-test_load_refusal (tests.Undecided c) = 0
-test_load_refusal (tests.Compared w c d) = 0
+test_load_refusal r = refusal_of r
 
 abbrev pub read_refusal : ReadAnswer → ℕ
-read_refusal (reads.Refused n) = refusal_number n
-read_refusal (reads.Read k n) = 0
+read_refusal r = refusal_of r
 
 abbrev pub print_refusal : PrintAnswer → ℕ
-print_refusal (prints.Refused n) = refusal_number n
-print_refusal (prints.Printed k) = 0
+print_refusal r = refusal_of r

@@ -1,14 +1,13 @@
 -- What a run and a plain run return, and what they leave in every word that they are lent.
 -- Assumes nothing.
-use Rattle.std.specs.Prelude.{Bool, true, false, ◌&&◌, List, [], ◌∷◌, ◌++◌, ℕ, zero, suc, ◌+◌, ◌*◌, ◌/◌, leb, length, drop, replicate}
+use Rattle.std.specs.Prelude.{Bool, true, false, ◌&&◌, List, [], ◌∷◌, ◌++◌, ℕ, zero, suc, ◌+◌, ◌*◌, ◌/◌, leb, length, drop, replicate, Ok, Err}
 use Rattle.location.specs.Sets.{empty}
 use Rattle.rules.specs.declared.Refusal.{Refusal}
 use Rattle.rules.specs.declared.Refusal.TheVariants as refusals
 use Rattle.rules.specs.declared.Counts.{Counts}
-use Rattle.rules.specs.declared.RunOutcome.TheVariants as runs
 use Rattle.rules.specs.declared.RunAnswer.{RunAnswer}
-use Rattle.rules.specs.declared.PlainOutcome.TheVariants as plains
 use Rattle.rules.specs.declared.PlainAnswer.{PlainAnswer}
+use Rattle.rules.specs.Rules.Outcomes.{judged}
 use Rattle.rules.specs.Rules.Limits.{max_entries}
 use Rattle.rules.specs.Rules.Instructions.{Observation}
 use Rattle.rules.specs.Rules.Firsts.{firsts_of}
@@ -96,7 +95,7 @@ counts r = record { stop = r.stop; observations = length r.gathered.trace; steps
 -- it into D.
 unfoldable pub run_report : Job → Result → RunAnswer
 run_report job r = record {
-  outcome = runs.Ran (counts r) (verdict job r);
+  outcome = Ok (judged (counts r) (verdict job r));
   full = r.gathered.full;
   plain = r.gathered.plain;
   firsts = firsts_of r.gathered.sets;
@@ -104,7 +103,7 @@ run_report job r = record {
 
 -- "number only": nothing was observed
 unfoldable pub run_refused : Refusal → RunAnswer
-run_refused n = record { outcome = runs.Refused n; full = empty; plain = empty; firsts = firsts_of [] }
+run_refused n = record { outcome = Err n; full = empty; plain = empty; firsts = firsts_of [] }
 
 unfoldable pub run_parsed : Parsed → Areas → Called RunAnswer Areas
 run_parsed (rejected n) a = record { answer = run_refused n; areas = a }
@@ -127,12 +126,12 @@ run_call file costs a = run_parsed (tabled (parse file) costs) a
 -- steps and plain set"
 unfoldable pub plain_report : Result → PlainAnswer
 plain_report r = record {
-  outcome = plains.Ran (record { stop = r.stop; observations = length r.gathered.trace; steps = r.gathered.steps });
+  outcome = Ok (record { stop = r.stop; observations = length r.gathered.trace; steps = r.gathered.steps });
   plain = r.gathered.plain;
 }
 
 unfoldable pub plain_refused : Refusal → PlainAnswer
-plain_refused n = record { outcome = plains.Refused n; plain = empty }
+plain_refused n = record { outcome = Err n; plain = empty }
 
 unfoldable pub plain_parsed : Parsed → Areas → Called PlainAnswer Areas
 plain_parsed (rejected n) a = record { answer = plain_refused n; areas = a }

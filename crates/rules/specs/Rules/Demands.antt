@@ -2,7 +2,7 @@
 -- Theorems/ proves, of every job file and all areas, demands 2 and 3, that a refusal alters nothing, the reports, and the words on a pair;
 -- that a call is exact is proved with its code. The promises of the calls (Promises) are made of them.
 -- Assumes nothing.
-use Rattle.std.specs.Prelude.{◌≡◌, true, false, List, [], ◌∷◌, ◌++◌, ℕ, zero, suc, ◌+◌, ◌*◌, ◌<◌, ◌≤◌, length, get_or, take, drop}
+use Rattle.std.specs.Prelude.{◌≡◌, true, false, List, [], ◌∷◌, ◌++◌, ℕ, zero, suc, ◌+◌, ◌*◌, ◌<◌, ◌≤◌, length, get_or, take, drop, Ok, Err}
 use Prim.{⊥}
 use Rattle.location.specs.declared.LocationSet.{LocationSet}
 use Rattle.location.specs.Sets.{limit, empty, member, subset}
@@ -14,15 +14,10 @@ use Rattle.rules.specs.declared.Verdict.{Verdict}
 use Rattle.rules.specs.declared.Verdict.TheVariants.{Clean}
 use Rattle.rules.specs.declared.Counts.{Counts}
 use Rattle.rules.specs.declared.PlainCounts.{PlainCounts}
-use Rattle.rules.specs.declared.RunOutcome.{RunOutcome}
-use Rattle.rules.specs.declared.RunOutcome.TheVariants as runs
 use Rattle.rules.specs.declared.RunAnswer.{RunAnswer}
-use Rattle.rules.specs.declared.PlainOutcome.{PlainOutcome}
-use Rattle.rules.specs.declared.PlainOutcome.TheVariants as plains
 use Rattle.rules.specs.declared.PairWord.{PairWord}
 use Rattle.rules.specs.declared.PairWord.TheVariants as words
-use Rattle.rules.specs.declared.PairAnswer.{PairAnswer}
-use Rattle.rules.specs.declared.PairAnswer.TheVariants as pairs
+use Rattle.rules.specs.Rules.Outcomes.{PairAnswer, PlainOutcome, RunOutcome, paired, judged}
 use Rattle.rules.specs.Rules.Expressions.{Expr}
 use Rattle.rules.specs.Rules.Instructions.{Instr, load, store, jmp, beqz, Observation, start_kind, pc_kind, load_kind, store_kind}
 use Rattle.rules.specs.Rules.Firsts.{ObservedSet, no_report, held}
@@ -55,12 +50,12 @@ pub record SameLengths (a a' : Areas) : Type 0 where
 
 -- "the observation count"; a refused job observes nothing
 abbrev pub observation_count : RunOutcome → ℕ
-observation_count (runs.Refused r) = 0
-observation_count (runs.Ran n v) = n.observations
+observation_count (Err r) = 0
+observation_count (Ok x) = x.counts.observations
 
 abbrev pub plain_observation_count : PlainOutcome → ℕ
-plain_observation_count (plains.Refused r) = 0
-plain_observation_count (plains.Ran n) = n.observations
+plain_observation_count (Err r) = 0
+plain_observation_count (Ok n) = n.observations
 
 -- the words that a call writes to its trace area: "two an observation", "from the front"; by its answer and the areas after it
 unfoldable pub trace_in : RunAnswer → Areas → List ℕ
@@ -85,7 +80,7 @@ table_in f area = take table_size (drop (locations (trailer f)) area)
 -- The run's answer is r, and `after` are the areas after it; `observed` is its trace.
 pub record PlainMatch (f : List ℕ) (r : RunAnswer) (after a' : Areas) : Type 0 where
   pub counts : PlainCounts
-  pub finishes : (plain_call f a').answer.outcome ≡ plains.Ran counts
+  pub finishes : (plain_call f a').answer.outcome ≡ Ok counts
   pub stop : counts.stop ≡ Finished
   pub observed : List Observation
   pub written : trace_in r after ≡ trace_words observed
@@ -94,7 +89,7 @@ pub record PlainMatch (f : List ℕ) (r : RunAnswer) (after a' : Areas) : Type 0
   pub plain : (plain_call f a').answer.plain ≡ r.plain
 
 pub record Demand2 (f : List ℕ) (a : Areas) (r : RunAnswer) (after : Areas) : Type 0 where
-  pub finished : {n : Counts} {v : Verdict} → r.outcome ≡ runs.Ran n v → n.stop ≡ Finished
+  pub finished : {n : Counts} {v : Verdict} → r.outcome ≡ Ok (judged n v) → n.stop ≡ Finished
       → (a' : Areas) → SameLengths a a' → PlainMatch f r after a'
 
 -- ---- demand 3
@@ -146,11 +141,11 @@ pub record SameCall (f costs : List ℕ) (a : Areas) (r : RunAnswer) (after : Ar
 -- is clean, so does every state alike on the public locations." The run's answer is r, and `after` are the areas after it. "demand 3 stands
 -- for these runs" with stores outside the image; both start with nothing there. F-7: "Secrecy holds for two runs with the same table."
 pub record Demand3 (f costs : List ℕ) (a : Areas) (r : RunAnswer) (after : Areas) : Type 0 where
-  pub reported : {n : Counts} {v : Verdict} → r.outcome ≡ runs.Ran n v
+  pub reported : {n : Counts} {v : Verdict} → r.outcome ≡ Ok (judged n v)
       → (g : List ℕ) (a' : Areas) → SameButState f g → SameLengths a a'
       → AlikeOn r.full (state_of (trailer f) f) (state_of (trailer f) g)
       → SameCall f costs a r after g a'
-  pub clean : {n : Counts} → r.outcome ≡ runs.Ran n Clean
+  pub clean : {n : Counts} → r.outcome ≡ Ok (judged n Clean)
       → (g : List ℕ) (a' : Areas) → SameButState f g → SameLengths a a'
       → AlikeOn (public_of (trailer f) f) (state_of (trailer f) f) (state_of (trailer f) g)
       → SameCall f costs a r after g a'
@@ -207,7 +202,7 @@ pub record Labelled (code : Code) (x : First) : Type 0 where
 -- store) and the label of that instruction." The run's answer is r, and `after` are the areas after it.
 pub record Brought (f costs : List ℕ) (a : Areas) (r : RunAnswer) (after : Areas) : Type 0 where
   pub first : (l : ℕ) → l < limit → member r.full l ≡ true → FirstWith l (observed_in f costs a) (report_of r l)
-  pub stands : {n : Counts} {v : Verdict} → r.outcome ≡ runs.Ran n v
+  pub stands : {n : Counts} {v : Verdict} → r.outcome ≡ Ok (judged n v)
       → (l : ℕ) → l < limit → member r.full l ≡ true → Stands n (trace_in r after) (report_of r l)
   pub instruction : (job : Job) → parse f ≡ accepted job
       → (l : ℕ) → l < limit → member r.full l ≡ true → Labelled job.code (report_of r l)
@@ -269,4 +264,4 @@ Means words.LeakShown f second a n n' after =
 Means words.Equal f second a n n' after = AlikePublic f second × BothFinished n n' × SamePlain f second a × SameTraces n n' after
 
 pub record PairMeaning (f second : List ℕ) (a : PairAreas) (r : PairAnswer) (after : PairAreas) : Type 0 where
-  pub compared : {word : PairWord} {n n' : Counts} → r ≡ pairs.Compared word n n' → Means word f second a n n' after
+  pub compared : {word : PairWord} {n n' : Counts} → r ≡ Ok (paired word n n') → Means word f second a n n' after

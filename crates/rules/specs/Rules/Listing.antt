@@ -1,14 +1,13 @@
 -- The printed run, as bytes.
 -- Assumes nothing.
-use Rattle.std.specs.Prelude.{◌&&◌, cond, List, [], ◌∷◌, ◌++◌, ℕ, zero, suc, ◌+◌, ◌-◌, ◌/◌, ◌%◌, eqb, ltb, get_or}
+use Rattle.std.specs.Prelude.{◌&&◌, cond, List, [], ◌∷◌, ◌++◌, ℕ, zero, suc, ◌+◌, ◌-◌, ◌/◌, ◌%◌, eqb, ltb, get_or, Ok, Err}
 use Rattle.location.specs.declared.LocationSet.{LocationSet}
 use Rattle.location.specs.Sets.{registers, limit, member}
 use Rattle.rules.specs.declared.Verdict.{Verdict}
 use Rattle.rules.specs.declared.Counts.{Counts}
 use Rattle.rules.specs.declared.First.{First}
-use Rattle.rules.specs.declared.RunOutcome.{RunOutcome}
-use Rattle.rules.specs.declared.RunOutcome.TheVariants as runs
 use Rattle.rules.specs.declared.RunAnswer.{RunAnswer}
+use Rattle.rules.specs.Rules.Outcomes.{RunOutcome}
 use Rattle.rules.specs.Rules.Instructions.{Observation, pc_kind}
 use Rattle.rules.specs.Rules.Firsts.{no_report}
 use Rattle.rules.specs.Rules.Plain.{end_place}
@@ -82,8 +81,8 @@ first_lines s xs l (suc k) = cond (member s l) (first_line l (get_or xs l no_rep
 
 -- "A refusal prints "refused" and its number alone."
 abbrev pub outcome_lines : ℕ → List Observation → LocationSet → LocationSet → List First → RunOutcome → List ℕ
-outcome_lines n os full plain xs (runs.Refused r) = number_line (text "refused") (refusal_number r)
-outcome_lines n os full plain xs (runs.Ran c v) = trace_lines n os ++ summary c full plain v ++ first_lines full xs 0 limit
+outcome_lines n os full plain xs (Err r) = number_line (text "refused") (refusal_number r)
+outcome_lines n os full plain xs (Ok x) = trace_lines n os ++ summary x.counts full plain x.verdict ++ first_lines full xs 0 limit
 
 -- an answer with its trace, of a program with n instructions
 unfoldable pub answer_lines : ℕ → List Observation → RunAnswer → List ℕ

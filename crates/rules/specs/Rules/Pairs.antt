@@ -1,14 +1,13 @@
 -- The check of a pair of states.
 -- Assumes nothing.
-use Rattle.std.specs.Prelude.{Bool, true, false, not, ◌&&◌, ◌||◌, List, [], ◌∷◌, ℕ, suc, ◌*◌, eqb, leb, length, replicate}
+use Rattle.std.specs.Prelude.{Bool, true, false, not, ◌&&◌, ◌||◌, List, [], ◌∷◌, ℕ, suc, ◌*◌, eqb, leb, length, replicate, Ok, Err}
 use Rattle.location.specs.declared.LocationSet.{LocationSet}
 use Rattle.location.specs.Sets.{member}
 use Rattle.rules.specs.declared.PairWord.{PairWord}
 use Rattle.rules.specs.declared.PairWord.TheVariants as pairs
 use Rattle.rules.specs.declared.Refusal.{Refusal}
 use Rattle.rules.specs.declared.Refusal.TheVariants as refusals
-use Rattle.rules.specs.declared.PairAnswer.{PairAnswer}
-use Rattle.rules.specs.declared.PairAnswer.TheVariants as answers
+use Rattle.rules.specs.Rules.Outcomes.{PairAnswer, paired}
 use Rattle.rules.specs.Rules.Instructions.{Observation}
 use Rattle.rules.specs.Rules.Runs.{Job, Result, mispredicting_run, plain_run, is_finished}
 use Rattle.rules.specs.Rules.JobFile.{Parsed, accepted, rejected, parse, words_at}
@@ -74,7 +73,7 @@ pair_after r r' a = record {
 }
 
 unfoldable pub pair_refused : Refusal → PairAreas → Called PairAnswer PairAreas
-pair_refused n a = record { answer = answers.Refused n; areas = a }
+pair_refused n a = record { answer = Err n; areas = a }
 
 -- "second state not 128 + 8m bytes"
 unfoldable pub second_state_fits : Job → List ℕ → Bool
@@ -89,7 +88,7 @@ pair_accepted job vs a =
     let k = room a.first in
     let r = mispredicting_run job k in
     let r' = mispredicting_run (with_state job vs) k in
-    record { answer = answers.Compared (pair_word job vs k) (counts r) (counts r'); areas = pair_after r r' a }
+    record { answer = Ok (paired (pair_word job vs k) (counts r) (counts r')); areas = pair_after r r' a }
 
 -- what is tested after 9: of the job with its table, 14 and then 10
 unfoldable pub pair_tabled : Parsed → List ℕ → PairAreas → Called PairAnswer PairAreas

@@ -18,7 +18,7 @@ use Rattle.std.specs.Borrow.{MutBor}
 use denote.Triple.Both.{Both}
 use Rattle.rules.specs.declared.RunAnswer.{RunAnswer}
 use Rattle.rules.specs.declared.PlainAnswer.{PlainAnswer}
-use Rattle.rules.specs.declared.PairAnswer.{PairAnswer}
+use Rattle.rules.specs.Rules.Outcomes.{PairAnswer}
 use Rattle.rules.specs.Rules.Instructions.{window_costs}
 use Rattle.rules.specs.Rules.Answers.{run_refusal, plain_refusal, pair_refusal}
 use Rattle.rules.specs.Rules.Calls.{Areas, lent, fixed_run_call, run_call, plain_call}

@@ -7,17 +7,15 @@
 --   unfinished  where it has not: its own stop and counts, its trace and no state;
 --   fixed, bounded  as of a run: a table of eight ones gives every earlier answer, and any table keeps the bounds of the wrong paths.
 -- Assumes nothing.
-use Rattle.std.specs.Prelude.{◌≡◌, List, ◌≢◌, ℕ, ◌*◌, take}
+use Rattle.std.specs.Prelude.{◌≡◌, List, ◌≢◌, ℕ, ◌*◌, take, Ok}
 use Rattle.rules.specs.declared.Stop.TheVariants.{Finished}
 use Rattle.rules.specs.declared.Verdict.{Verdict}
 use Rattle.rules.specs.declared.Verdict.TheVariants as verdicts
 use Rattle.rules.specs.declared.Counts.{Counts}
-use Rattle.rules.specs.declared.RunOutcome.TheVariants as runs
 use Rattle.rules.specs.declared.PairWord.{PairWord}
 use Rattle.rules.specs.declared.PairWord.TheVariants as words
-use Rattle.rules.specs.declared.PairAnswer.TheVariants as pairs
-use Rattle.rules.specs.declared.TestLoadAnswer.{TestLoadAnswer}
-use Rattle.rules.specs.declared.TestLoadAnswer.TheVariants as answers
+use Rattle.rules.specs.declared.TestLoad.TheVariants as loads
+use Rattle.rules.specs.Rules.Outcomes.{TestLoadAnswer, paired, judged}
 use Rattle.rules.specs.Rules.Instructions.{window_costs}
 use Rattle.rules.specs.Rules.Answers.{test_load_refusal}
 use Rattle.rules.specs.Rules.JobFile.{trailer, locations, state_of}
@@ -33,7 +31,7 @@ new_bytes f after = take (8 * locations (trailer f)) after.state
 -- The counts n and the first trace are those of the job's own run by the same costs, whose verdict is v: in areas of a run, p, with as much room
 -- for the trace, the run counts the same, and with the same trace area it leaves the same there.
 pub record OwnRun (f costs : List ℕ) (before : TestLoadAreas) (n : Counts) (v : Verdict) (after : TestLoadAreas) : Type 0 where
-  pub outcome : (p : Areas) → RunAreas f before.pair p → (run_call f costs p).answer.outcome ≡ runs.Ran n v
+  pub outcome : (p : Areas) → RunAreas f before.pair p → (run_call f costs p).answer.outcome ≡ Ok (judged n v)
   pub trace : (p : Areas) → RunAreas f before.pair p → p.trace ≡ before.pair.first → (run_call f costs p).areas.trace ≡ after.pair.first
 
 -- What holds where a new state was made and run.
@@ -47,7 +45,7 @@ pub record NewStateMade (f costs : List ℕ) (before : TestLoadAreas) (word : Pa
       → AlikeOn (run_call f costs p).answer.plain (state_of (trailer f) f) (second_state f (new_bytes f after))
   -- "the plain trace of the new state is the same; the full trace may differ, and the pair check is run on it"
   pub plainly : SamePlain f (new_bytes f after) before.pair
-  pub checked : PairPromise f (new_bytes f after) costs before.pair (pairs.Compared word n n') after.pair
+  pub checked : PairPromise f (new_bytes f after) costs before.pair (Ok (paired word n n')) after.pair
   -- so that two of the words on a pair are never given
   pub comparable : word ≢ words.NotComparable
   pub same-plain : word ≢ words.PlainDiffers
@@ -64,8 +62,8 @@ pub record TestLoadPromise (f : List ℕ) (seed : ℕ) (costs : List ℕ) (befor
     : Type 0 where
   pub exact : Exact (test_load_call f seed costs before) r after
   pub unaltered : Unaltered test_load_refusal r before after
-  pub compared : {word : PairWord} {n n' : Counts} → r ≡ answers.Compared word n n' → NewStateMade f costs before word n n' after
-  pub unfinished : {n : Counts} → r ≡ answers.Undecided n → OwnRunAlone f costs before n after
+  pub compared : {word : PairWord} {n n' : Counts} → r ≡ Ok (loads.Compared (paired word n n')) → NewStateMade f costs before word n n' after
+  pub unfinished : {n : Counts} → r ≡ Ok (loads.Undecided n) → OwnRunAlone f costs before n after
   pub fixed : costs ≡ window_costs → Exact (fixed_test_load_call f seed before) r after
   pub bounded : WrongPathsBounded f costs
 

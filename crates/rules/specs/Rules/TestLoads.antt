@@ -1,14 +1,12 @@
 -- A test load that can be repeated: from a seed a new state of a job, and the check of the pair.
 -- Assumes nothing.
-use Rattle.std.specs.Prelude.{Bool, true, false, cond, List, [], ◌∷◌, ℕ, suc, ◌*◌, eqb, leb, length, replicate}
+use Rattle.std.specs.Prelude.{Bool, true, false, cond, List, [], ◌∷◌, ℕ, suc, ◌*◌, eqb, leb, length, replicate, Ok, Err}
 use Rattle.location.specs.declared.LocationSet.{LocationSet}
 use Rattle.location.specs.Sets.{union, member}
 use Rattle.rules.specs.declared.Refusal.{Refusal}
 use Rattle.rules.specs.declared.Refusal.TheVariants as refusals
-use Rattle.rules.specs.declared.PairAnswer.{PairAnswer}
-use Rattle.rules.specs.declared.PairAnswer.TheVariants as pairs
-use Rattle.rules.specs.declared.TestLoadAnswer.{TestLoadAnswer}
-use Rattle.rules.specs.declared.TestLoadAnswer.TheVariants as answers
+use Rattle.rules.specs.declared.TestLoad.TheVariants as loads
+use Rattle.rules.specs.Rules.Outcomes.{PairAnswer, TestLoadAnswer}
 use Rattle.rules.specs.Rules.Operators.{apply2, xor, shl, shr}
 use Rattle.rules.specs.Rules.Runs.{Job, Result, mispredicting_run, is_finished}
 use Rattle.rules.specs.Rules.JobFile.{Parsed, accepted, rejected, parse}
@@ -50,15 +48,15 @@ test_load_lent first second work state = record { pair = pair_lent first second 
 -- "so there the job is answered undecided with its own stop and counts alone, its trace alone is written and no state"
 unfoldable pub own_run_alone : Result → TestLoadAreas → Called TestLoadAnswer TestLoadAreas
 own_run_alone own a = record {
-  answer = answers.Undecided (counts own);
+  answer = Ok (loads.Undecided (counts own));
   areas = test_load_lent (written (trace_words own.gathered.trace) a.pair.first) a.pair.second
       (written (replicate working_words 0) a.pair.work) a.state;
 }
 
 -- an answer on a pair, as one of a test load
 abbrev pub test_load_of : PairAnswer → TestLoadAnswer
-test_load_of (pairs.Refused n) = answers.Refused n
-test_load_of (pairs.Compared w c d) = answers.Compared w c d
+test_load_of (Err n) = Err n
+test_load_of (Ok x) = Ok (loads.Compared x)
 
 -- "the pair check is run on it": vs are the words of the new state
 unfoldable pub new_state_run : Job → List ℕ → TestLoadAreas → Called TestLoadAnswer TestLoadAreas
@@ -75,7 +73,7 @@ test_load_accepted job seed a =
     elim (is_finished own.stop) [ false ↦ own_run_alone own a | true ↦ new_state_run job (new_state job own seed) a ]
 
 unfoldable pub test_load_refused : Refusal → TestLoadAreas → Called TestLoadAnswer TestLoadAreas
-test_load_refused n a = record { answer = answers.Refused n; areas = a }
+test_load_refused n a = record { answer = Err n; areas = a }
 
 -- "fewer than 128 + 8m bytes lent for the new state"
 unfoldable pub state_fits : Job → TestLoadAreas → Bool

@@ -5,11 +5,8 @@
 --   accepted   what was read is a program that 4 to 7 do not refuse: document 01's reader takes its bytes;
 --   round_trip  reading the text that was printed restores the program's bytes, and its counts.
 -- Assumes nothing.
-use Rattle.std.specs.Prelude.{◌≡◌, List, ℕ, ◌≤◌, length, take}
-use Rattle.rules.specs.declared.ReadAnswer.{ReadAnswer}
-use Rattle.rules.specs.declared.ReadAnswer.TheVariants as reads
-use Rattle.rules.specs.declared.PrintAnswer.{PrintAnswer}
-use Rattle.rules.specs.declared.PrintAnswer.TheVariants as prints
+use Rattle.std.specs.Prelude.{◌≡◌, List, ℕ, ◌≤◌, length, take, Ok}
+use Rattle.rules.specs.Rules.Outcomes.{PrintAnswer, ReadAnswer, read_as}
 use Rattle.rules.specs.Rules.Answers.{read_refusal, print_refusal}
 use Rattle.rules.specs.Rules.Instructions.{Instr}
 use Rattle.rules.specs.Rules.JobFile.{got, program, trailer}
@@ -24,7 +21,7 @@ pub record ReadsAs (bytes : List ℕ) (n : ℕ) : Type 0 where
 
 -- "or a program that 4 to 6 would refuse" is turned away: where reading gave k bytes and n instructions, the first k of the area are such bytes
 pub record Acceptable (r : ReadAnswer) (after : List ℕ) : Type 0 where
-  pub program : {k n : ℕ} → r ≡ reads.Read k n → ReadsAs (take k after) n
+  pub program : {k n : ℕ} → r ≡ Ok (read_as k n) → ReadsAs (take k after) n
 
 pub record ReadPromise (text before : List ℕ) (r : ReadAnswer) (after : List ℕ) : Type 0 where
   pub exact : Exact (read_call text before) r after
@@ -34,8 +31,8 @@ pub record ReadPromise (text before : List ℕ) (r : ReadAnswer) (after : List �
 -- "reading that text restores the program's bytes": where printing gave n bytes, the text is the first n of the area, and reading it into
 -- any area that has room for the program gives the job's own S bytes before the state and its count of instructions
 pub record RoundTrip (job : List ℕ) (r : PrintAnswer) (after : List ℕ) : Type 0 where
-  pub restores : {n : ℕ} → r ≡ prints.Printed n → (area : List ℕ) → (trailer job).state ≤ length area
-      → Exact (read_call (take n after) area) (reads.Read (trailer job).state (trailer job).count) (written (take (trailer job).state job) area)
+  pub restores : {n : ℕ} → r ≡ Ok n → (area : List ℕ) → (trailer job).state ≤ length area
+      → Exact (read_call (take n after) area) (Ok (read_as (trailer job).state (trailer job).count)) (written (take (trailer job).state job) area)
 
 pub record PrintPromise (job before : List ℕ) (r : PrintAnswer) (after : List ℕ) : Type 0 where
   pub exact : Exact (print_call job before) r after
