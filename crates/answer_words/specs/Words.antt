@@ -1,26 +1,18 @@
 -- An answer as the words that a C caller gets.
 -- Assumes nothing.
-use Rattle.std.specs.Prelude.{◌≡◌, false, List, [], ◌∷◌, ◌++◌, ℕ, ◌<◌, get_or}
+use Rattle.std.specs.Prelude.{◌≡◌, false, List, [], ◌∷◌, ◌++◌, ℕ, ◌<◌, get_or, Ok, Err}
 use Rattle.location.specs.declared.LocationSet.{LocationSet}
 use Rattle.location.specs.Sets.{limit, member}
 use Rattle.rules.specs.declared.Verdict.{Verdict}
 use Rattle.rules.specs.declared.Counts.{Counts}
 use Rattle.rules.specs.declared.PlainCounts.{PlainCounts}
 use Rattle.rules.specs.declared.First.{First}
-use Rattle.rules.specs.declared.RunOutcome.TheVariants as runs
 use Rattle.rules.specs.declared.RunAnswer.{RunAnswer}
-use Rattle.rules.specs.declared.PlainOutcome.TheVariants as plains
 use Rattle.rules.specs.declared.PlainAnswer.{PlainAnswer}
 use Rattle.rules.specs.declared.PairWord.{PairWord}
 use Rattle.rules.specs.declared.PairWord.TheVariants as words
-use Rattle.rules.specs.declared.PairAnswer.{PairAnswer}
-use Rattle.rules.specs.declared.PairAnswer.TheVariants as pairs
-use Rattle.rules.specs.declared.TestLoadAnswer.{TestLoadAnswer}
-use Rattle.rules.specs.declared.TestLoadAnswer.TheVariants as tests
-use Rattle.rules.specs.declared.ReadAnswer.{ReadAnswer}
-use Rattle.rules.specs.declared.ReadAnswer.TheVariants as reads
-use Rattle.rules.specs.declared.PrintAnswer.{PrintAnswer}
-use Rattle.rules.specs.declared.PrintAnswer.TheVariants as prints
+use Rattle.rules.specs.declared.TestLoad.TheVariants as loads
+use Rattle.rules.specs.Rules.Outcomes.{PairAnswer, TestLoadAnswer, ReadAnswer, PrintAnswer}
 use Rattle.rules.specs.Rules.Answers.{stop_number, verdict_number, cause_number, pair_number}
 use Rattle.rules.specs.Rules.Firsts.{no_report}
 
@@ -71,24 +63,24 @@ print_words bytes = bytes ∷ []
 
 -- the words of an answer, which a call writes from the first word on: none where it refuses
 abbrev pub run_answer_words : RunAnswer → List ℕ
-run_answer_words r = elim r.outcome [ runs.Refused n ↦ [] | runs.Ran c v ↦ run_words c r.full r.plain v r.firsts ]
+run_answer_words r = elim r.outcome [ Err n ↦ [] | Ok x ↦ run_words x.counts r.full r.plain x.verdict r.firsts ]
 
 abbrev pub plain_answer_words : PlainAnswer → List ℕ
-plain_answer_words r = elim r.outcome [ plains.Refused n ↦ [] | plains.Ran c ↦ plain_words c r.plain ]
+plain_answer_words r = elim r.outcome [ Err n ↦ [] | Ok c ↦ plain_words c r.plain ]
 
 abbrev pub pair_answer_words : PairAnswer → List ℕ
-pair_answer_words (pairs.Refused n) = []
-pair_answer_words (pairs.Compared w c d) = pair_words w c d
+pair_answer_words (Err n) = []
+pair_answer_words (Ok x) = pair_words x.word x.first x.second
 
 abbrev pub test_load_answer_words : TestLoadAnswer → List ℕ
-test_load_answer_words (tests.Refused n) = []
-test_load_answer_words (tests.Undecided c) = unfinished_words c
-test_load_answer_words (tests.Compared w c d) = test_load_words w c d
+test_load_answer_words (Err n) = []
+test_load_answer_words (Ok (loads.Undecided c)) = unfinished_words c
+test_load_answer_words (Ok (loads.Compared x)) = test_load_words x.word x.first x.second
 
 abbrev pub read_answer_words : ReadAnswer → List ℕ
-read_answer_words (reads.Refused n) = []
-read_answer_words (reads.Read k n) = read_words k n
+read_answer_words (Err n) = []
+read_answer_words (Ok x) = read_words x.bytes x.instructions
 
 abbrev pub print_answer_words : PrintAnswer → List ℕ
-print_answer_words (prints.Refused n) = []
-print_answer_words (prints.Printed k) = print_words k
+print_answer_words (Err n) = []
+print_answer_words (Ok k) = print_words k
