@@ -8,14 +8,14 @@ use native.Mathlib.Omega.{arith}
 use lib.ListN.{length, get_or, drop, length-drop, get_or-eq_default}
 use lib.Seq.{drop-cons}
 use borrow.Author.Tests.{lt-ltb, le-ltb, eq-eqb, ne_eqb}
+use Rattle.std.specs.Prelude.{Ok, Err}
 use Rattle.location.specs.declared.LocationSet.{LocationSet}
 use Rattle.location.specs.Sets.{registers, limit, member}
 use Rattle.rules.specs.declared.Counts.{Counts}
 use Rattle.rules.specs.declared.First.{First}
 use Rattle.rules.specs.declared.Verdict.{Verdict}
 use Rattle.rules.specs.declared.Refusal.{Refusal}
-use Rattle.rules.specs.declared.RunOutcome.{RunOutcome}
-use Rattle.rules.specs.declared.RunOutcome.TheVariants as runs
+use Rattle.rules.specs.Rules.Outcomes.{RunOutcome, judged}
 use Rattle.rules.specs.declared.RunAnswer.{RunAnswer}
 use Rattle.rules.specs.Rules.Instructions.{observed, start_kind, rollback_kind, pc_kind, load_kind, store_kind, pc}
 use Rattle.rules.specs.Rules.Firsts.{no_report}
@@ -130,11 +130,11 @@ reports-next s xs (suc k) h r =
 
 -- ---- an answer by its outcome
 module _ (n : ℕ) (a : RunAnswer) (trace : List ℕ) where
-  pub printed_refusal : (cause : Refusal) → a.outcome ≡ runs.Refused cause → printed n a trace ≡ number_line (text "refused") (refusal_number cause)
+  pub printed_refusal : (cause : Refusal) → a.outcome ≡ Err cause → printed n a trace ≡ number_line (text "refused") (refusal_number cause)
   unfolding printed answer_lines
   printed_refusal cause e = ap (λ (o : RunOutcome). outcome_lines n (observations_in (observation_count o) trace) a.full a.plain a.firsts o) e
 
-  pub printed-run : (c : Counts) (v : Verdict) → a.outcome ≡ runs.Ran c v
+  pub printed-run : (c : Counts) (v : Verdict) → a.outcome ≡ Ok (judged c v)
       → printed n a trace
       ≡ trace_lines n (observations_in c.observations trace) ++ summary c a.full a.plain v ++ first_lines a.full a.firsts 0 limit
   unfolding printed answer_lines

@@ -1,7 +1,7 @@
 -- How long a printed run can be: at most 30 bytes a line of the trace, and 31,086 bytes after them: 11,374 to the verdict, and 77 for each
 -- of 256 locations.
 -- Assumes nothing.
-use Rattle.std.specs.Prelude.{◌≡◌, ◌&&◌, cond, List, [], ◌∷◌, ◌++◌, ℕ, zero, suc, ◌+◌, ◌-◌, ◌*◌, ◌≤◌, eqb, ltb, length, get_or}
+use Rattle.std.specs.Prelude.{◌≡◌, ◌&&◌, cond, List, [], ◌∷◌, ◌++◌, ℕ, zero, suc, ◌+◌, ◌-◌, ◌*◌, ◌≤◌, eqb, ltb, length, get_or, Ok, Err}
 use Rattle.std.proofs.Common.{arith, length-append}
 use Rattle.location.specs.declared.LocationSet.{LocationSet}
 use Rattle.location.specs.Sets.{registers, limit, member}
@@ -13,8 +13,7 @@ use Rattle.rules.specs.declared.Cause.{Cause}
 use Rattle.rules.specs.declared.Cause.TheVariants as causes
 use Rattle.rules.specs.declared.Counts.{Counts}
 use Rattle.rules.specs.declared.First.{First}
-use Rattle.rules.specs.declared.RunOutcome.{RunOutcome}
-use Rattle.rules.specs.declared.RunOutcome.TheVariants as runs
+use Rattle.rules.specs.Rules.Outcomes.{RunOutcome}
 use Rattle.rules.specs.declared.RunAnswer.{RunAnswer}
 use Rattle.rules.specs.Rules.Instructions.{Observation, pc_kind}
 use Rattle.rules.specs.Rules.Firsts.{no_report}
@@ -176,14 +175,14 @@ first-lines_bound s xs = omega (arith, first-lines_length s xs 0 limit)
 outcome-bound : (n : ℕ) (os : List Observation) (full plain : LocationSet) (xs : List First) (o : RunOutcome)
     → length (outcome_lines n os full plain xs o) ≤ 30 * length os + 31086
 unfolding text
-outcome-bound n os full plain xs (runs.Refused r) = omega (arith, number-line_bound (text "refused") (refusal_number r))
-outcome-bound n os full plain xs (runs.Ran c v) =
+outcome-bound n os full plain xs (Err r) = omega (arith, number-line_bound (text "refused") (refusal_number r))
+outcome-bound n os full plain xs (Ok x) =
     omega (
       arith,
-      length-append (trace_lines n os ++ summary c full plain v) (first_lines full xs 0 limit),
-      length-append (trace_lines n os) (summary c full plain v),
+      length-append (trace_lines n os ++ summary x.counts full plain x.verdict) (first_lines full xs 0 limit),
+      length-append (trace_lines n os) (summary x.counts full plain x.verdict),
       trace-length n os,
-      summary-bound c full plain v,
+      summary-bound x.counts full plain x.verdict,
       first-lines_bound full xs,
     )
 

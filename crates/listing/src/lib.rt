@@ -13,7 +13,7 @@ ghost use Rattle.listing.specs.Lines.{observations_in, member_text, report_text,
 
 use location::{Location, LocationSet};
 use rules::observation::{LOAD, PC, ROLLBACK, START};
-use rules::{Cause, Counts, First, RunAnswer, RunOutcome, Stop, Verdict};
+use rules::{Cause, Counts, First, RunAnswer, Stop, Verdict};
 
 // Cells are numbered after the registers.
 const REGISTERS: usize = Location::REGISTERS as usize;
@@ -228,19 +228,20 @@ fn put_firsts(
 pub fn write_answer(n: usize, answer: RunAnswer, trace: &[u64], out: &mut [u8]) -> usize
     ensures { Put out.old 0 (printed n answer trace.now) out.new result }
 {
-    let outcome = answer.outcome;
-    match outcome {
-        RunOutcome::Refused(cause) => {
-            let number = answer_words::refusal_number(cause);
-            put_number_line(out, 0, b"refused", number as u64)
-        }
-        RunOutcome::Ran(counts, verdict) => {
+    match answer.outcome {
+        Err(refusal) => put_number_line(out, 0, b"refused", u32::from(refusal) as u64),
+        Ok(ran) => {
             let full = answer.full;
-            let plain = answer.plain;
-            let firsts = answer.firsts;
-            let after_trace = put_trace(out, 0, n as u64, counts.observations, trace);
-            let after_summary = put_summary(out, after_trace, counts, full, plain, verdict);
-            put_firsts(out, after_summary, full, firsts)
+            let after_trace = put_trace(out, 0, n as u64, ran.counts.observations, trace);
+            let after_summary = put_summary(
+                out,
+                after_trace,
+                ran.counts,
+                full,
+                answer.plain,
+                ran.verdict,
+            );
+            put_firsts(out, after_summary, full, answer.firsts)
         }
     }
 }

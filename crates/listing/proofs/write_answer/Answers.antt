@@ -10,12 +10,12 @@ use Rattle.listing.proofs.write_answer.Goals as goal
 
 pub put_number_line-requires : goal.put_number_line-requires
 unfolding text
-put_number_line-requires c = omega (arith, number-line_bound (text "refused") c.refusal_number-number.result)
+put_number_line-requires c = omega (arith, number-line_bound (text "refused") c.from.result)
 
 pub put_trace-after_trace-requires : goal.put_trace-after_trace-requires
 put_trace-after_trace-requires c =
     let a = c.args in
-    let k = c.in-Ran.counts.observations in
+    let k = c.in-Ok.ran.counts.observations in
     omega (
       arith,
       trace-length a.n (observations_in k a.trace.now),
@@ -26,12 +26,12 @@ put_trace-after_trace-requires c =
 pub put_summary-after_summary-requires : goal.put_summary-after_summary-requires
 put_summary-after_summary-requires c =
     let a = c.args in
-    let k = c.in-Ran.counts in
+    let k = c.in-Ok.ran.counts in
     omega (
       arith,
       trace-length a.n (observations_in k.observations a.trace.now),
       observations-length k.observations a.trace.now,
-      summary-bound k a.answer.full a.answer.plain c.in-Ran.verdict,
+      summary-bound k a.answer.full a.answer.plain c.in-Ok.ran.verdict,
       c.well_formed,
       c.put_trace-after_trace.ensures.place,
     )
@@ -39,29 +39,28 @@ put_summary-after_summary-requires c =
 pub put_firsts-requires : goal.put_firsts-requires
 put_firsts-requires c =
     let a = c.args in
-    let k = c.in-Ran.counts in
+    let k = c.in-Ok.ran.counts in
     omega (
       arith,
       trace-length a.n (observations_in k.observations a.trace.now),
       observations-length k.observations a.trace.now,
-      summary-bound k a.answer.full a.answer.plain c.in-Ran.verdict,
+      summary-bound k a.answer.full a.answer.plain c.in-Ok.ran.verdict,
       first-lines_bound a.answer.full a.answer.firsts,
       c.well_formed,
       c.put_trace-after_trace.ensures.place,
       c.put_summary-after_summary.ensures.place,
     )
 
-pub returns-in-Refused : goal.returns-in-Refused
+pub returns-in-Err : goal.returns-in-Err
 unfolding text
-returns-in-Refused c =
+returns-in-Err c =
     let a = c.args in
-    let n = c.refusal_number-number in
-    rw (printed_refusal a.n a.answer a.trace.now c.in-Refused.cause c.in-Refused.is, ← n.ensures) c.put_number_line.ensures
+    rw (printed_refusal a.n a.answer a.trace.now c.in-Err.refusal c.in-Err.is, ← c.from.ensures) c.put_number_line.ensures
 
-pub returns-in-Ran : goal.returns-in-Ran
-returns-in-Ran c =
+pub returns-in-Ok : goal.returns-in-Ok
+returns-in-Ok c =
     let a = c.args in
-    rw (printed-run a.n a.answer a.trace.now c.in-Ran.counts c.in-Ran.verdict c.in-Ran.is)
+    rw (printed-run a.n a.answer a.trace.now c.in-Ok.ran.counts c.in-Ok.ran.verdict c.in-Ok.is)
     (put-append
     (put-append c.put_trace-after_trace.ensures c.put_summary-after_summary.ensures)
     c.put_firsts.ensures)
