@@ -7,9 +7,9 @@ use Prim.Native.Nat.{ℕ, ◌<◌, ◌≤◌}
 use native.Mathlib.Omega.{arith}
 use borrow.Author.Tests.{le-leb, lt-leb, eq-eqb, ne_eqb}
 use lib.ListN.{length}
+use Rattle.std.specs.Prelude.{Ok, Err}
 use Rattle.rules.specs.declared.Refusal.TheVariants as refusals
-use Rattle.rules.specs.declared.ReadAnswer.{ReadAnswer}
-use Rattle.rules.specs.declared.ReadAnswer.TheVariants as reads
+use Rattle.rules.specs.Rules.Outcomes.{ReadAnswer, read_as}
 use Rattle.rules.specs.Rules.Instructions.{Instr}
 use Rattle.rules.specs.Rules.Encoding.{instr_bytes, program_bytes}
 use Rattle.rules.specs.Rules.Calls.{Called, written}
@@ -51,26 +51,26 @@ module _ (t out : List ℕ) where
         areas = h ∙ sym (ap (λ (d : Called ReadAnswer (List ℕ)). d.areas) e);
       })
 
-  unread_call : read_text t ≡ none → read_call t out ≡ record { answer = reads.Refused refusals.Text; areas = out }
+  unread_call : read_text t ≡ none → read_call t out ≡ record { answer = Err refusals.Text; areas = out }
   unfolding read_call read_program
   unread_call e = ap (λ (R : Option (List Instr)). read_program R out) e
 
-  short_call : (r : ReadAs t) → length out < length (program_bytes r.instrs) → read_call t out ≡ record { answer = reads.Refused refusals.Output; areas = out }
+  short_call : (r : ReadAs t) → length out < length (program_bytes r.instrs) → read_call t out ≡ record { answer = Err refusals.Output; areas = out }
   unfolding read_call read_program
   short_call r h =
       let xs = r.instrs in
       ap (λ (R : Option (List Instr)). read_program R out) r.read
-      ∙ output_short (reads.Refused refusals.Output) (reads.Read (length (program_bytes xs)) (length xs)) (program_bytes xs) out
+      ∙ output_short (Err refusals.Output) (Ok (read_as (length (program_bytes xs)) (length xs))) (program_bytes xs) out
       (lt-leb (length (program_bytes xs)) (length out) h)
 
   read-call : (r : ReadAs t) → length (program_bytes r.instrs) ≤ length out
       → read_call t out
-      ≡ record { answer = reads.Read (length (program_bytes r.instrs)) (length r.instrs); areas = written (program_bytes r.instrs) out }
+      ≡ record { answer = Ok (read_as (length (program_bytes r.instrs)) (length r.instrs)); areas = written (program_bytes r.instrs) out }
   unfolding read_call read_program
   read-call r h =
       let xs = r.instrs in
       ap (λ (R : Option (List Instr)). read_program R out) r.read
-      ∙ output_done (reads.Refused refusals.Output) (reads.Read (length (program_bytes xs)) (length xs)) (program_bytes xs) out
+      ∙ output_done (Err refusals.Output) (Ok (read_as (length (program_bytes xs)) (length xs))) (program_bytes xs) out
       (le-leb (length (program_bytes xs)) (length out) h)
 
 -- a part without length that was lent leaves the area as it was
@@ -103,11 +103,11 @@ module _ (t : List ℕ) {k : Counted} (counted : CountTold t k) where
 
   -- the answers
   module _ (out : List ℕ) {after : List ℕ} (same : after ≡ out) where
-    pub empty-text : k.held ≡ 0 → ReadPromise t out (reads.Refused refusals.Text) after
+    pub empty-text : k.held ≡ 0 → ReadPromise t out (Err refusals.Text) after
     empty-text z = answered t out (unread_call t out (empty-unread t (none-held z))) same
 
     module _ {a b : List ℕ} {r : Scanned} (s : ScanTold t k.held a b r) where
-      pub faulty-text : (r.fault ≡ 0 → ⊥) → ReadPromise t out (reads.Refused refusals.Text) after
+      pub faulty-text : (r.fault ≡ 0 → ⊥) → ReadPromise t out (Err refusals.Text) after
       faulty-text f = answered t out (unread_call t out (fault-unread t (λ e. f (scanned_fault s ∙ e)))) same
 
       module _ (some-lines : k.held ≡ 0 → ⊥) (sound : r.fault ≡ 0) where
@@ -120,15 +120,15 @@ module _ (t : List ℕ) {k : Counted} (counted : CountTold t k) where
         size : r.to ≡ length (program_bytes program.instrs)
         size = put_next (s.kept sound).put ∙ ap length bytes
 
-        pub short_area : length after < r.to → ReadPromise t out (reads.Refused refusals.Output) after
+        pub short_area : length after < r.to → ReadPromise t out (Err refusals.Output) after
         short_area h = answered t out (short_call t out program (omega (arith, size, ap length same))) same
 
         -- the second reading writes
         pub text-read : {d : List ℕ} {q : Scanned} → r.to ≤ length after → ScanTold t k.held after d q
-            → ReadPromise t out (reads.Read q.to q.count) d
+            → ReadPromise t out (Ok (read_as q.to q.count)) d
         text-read {d} {q} h u = go (rw same at u)
           where
-            go : ScanTold t k.held out d q → ReadPromise t out (reads.Read q.to q.count) d
+            go : ScanTold t k.held out d q → ReadPromise t out (Ok (read_as q.to q.count)) d
             go v =
                 let kept = v.kept (scanned_fault v ∙ sym (scanned_fault s) ∙ sound) in
                 let to : q.to ≡ length (program_bytes program.instrs) = put_next kept.put ∙ ap length bytes in

@@ -15,7 +15,7 @@ use lexer::{Part, Place};
 use names::{NO_REGISTER, Number};
 use operand::WholeRead;
 use rules::limits::MAX_INSTRUCTIONS;
-use rules::{ReadAnswer, Refusal};
+use rules::{ReadAnswer, ReadProgram, Refusal};
 
 // The kinds of instruction by which fields are told apart: set, load and store, 1 to 3, have the same.
 const SET: u8 = 1;
@@ -329,17 +329,20 @@ pub fn read_text(text: &[u8], out: &mut [u8]) -> ReadAnswer
     let counted = count_lines(text);
     let n = counted.held;
     if n == 0 {
-        return ReadAnswer::Refused(Refusal::Text);
+        return Err(Refusal::Text);
     }
     let first = read_lines(text, n, &mut out[0..0]);
     if first.fault != 0 {
-        return ReadAnswer::Refused(Refusal::Text);
+        return Err(Refusal::Text);
     }
     if out.len() < first.to {
-        return ReadAnswer::Refused(Refusal::Output);
+        return Err(Refusal::Output);
     }
-    let second = read_lines(text, n, &mut out[..]);
-    ReadAnswer::Read(second.to, second.count)
+    let second = read_lines(text, n, out);
+    Ok(ReadProgram {
+        bytes: second.to,
+        instructions: second.count,
+    })
 }
 
 // Where a text is refused, for people: the line of the first fault, counted from 1; 0 where there is none.
