@@ -8,11 +8,11 @@ use native.Mathlib.Omega.{arith}
 use lib.Dec.{leb}
 use lib.ListN.{length, take}
 use borrow.Author.Tests.{le-leb, lt-leb}
+use Rattle.std.specs.Prelude.{Ok, Err}
 use Rattle.rules.specs.declared.Trailer.{Trailer}
 use Rattle.rules.specs.declared.Refusal.{Refusal}
 use Rattle.rules.specs.declared.Refusal.TheVariants as refusals
-use Rattle.rules.specs.declared.PrintAnswer.{PrintAnswer}
-use Rattle.rules.specs.declared.PrintAnswer.TheVariants as prints
+use Rattle.rules.specs.Rules.Outcomes.{PrintAnswer}
 use Rattle.rules.specs.Rules.Limits.{max_instructions}
 use Rattle.rules.specs.Rules.JobFile.{rejected, got, program, program_of, trailer, parse}
 use Rattle.rules.specs.Rules.Calls.{Called, written}
@@ -30,24 +30,24 @@ module _ (bytes area : List ℕ) {n : ℕ} (counted : n ≡ length bytes) where
   by : Bool → Called PrintAnswer (List ℕ)
   by b =
       elim b [
-        | true ↦ record { answer = prints.Printed (length bytes); areas = written bytes area }
-        | false ↦ record { answer = prints.Refused refusals.Output; areas = area }
+        | true ↦ record { answer = Ok (length bytes); areas = written bytes area }
+        | false ↦ record { answer = Err refusals.Output; areas = area }
       ]
 
   printed-by : (b : Bool) → leb (length bytes) (length area) ≡ b → printed bytes area ≡ by b
   unfolding printed output by
   printed-by b e = ap by e
 
-  pub printed_short : length area < n → Exact (printed bytes area) (prints.Refused refusals.Output) area
+  pub printed_short : length area < n → Exact (printed bytes area) (Err refusals.Output) area
   unfolding by
   printed_short l =
       rw (printed-by false (lt-leb (length bytes) (length area) (omega arith))) record { answer = refl; areas = refl }
 
-  pub printed-whole : {after : List ℕ} {m : ℕ} → n ≤ length area → Put area 0 bytes after m → Exact (printed bytes area) (prints.Printed n) after
+  pub printed-whole : {after : List ℕ} {m : ℕ} → n ≤ length area → Put area 0 bytes after m → Exact (printed bytes area) (Ok n) after
   unfolding by
   printed-whole {after} {m} l p =
       let fits : length bytes ≤ length area = omega arith in
-      rw (printed-by true (le-leb (length bytes) (length area) fits)) record { answer = ap prints.Printed counted; areas = put-fits p fits }
+      rw (printed-by true (le-leb (length bytes) (length area) fits)) record { answer = ap (λ (k : ℕ). Ok k) counted; areas = put-fits p fits }
 
 -- ---- a job that was accepted: its program was read, and printing it is printing the job
 module _ {bs : List ℕ} {t : Trailer} (a : Accepts bs t) where
@@ -73,6 +73,6 @@ module _ {bs : List ℕ} {t : Trailer} (a : Accepts bs t) where
   accepted_call area = rw (a.parsed, program-read)
 
 -- ---- a refused job
-pub refused-call : (bs : List ℕ) (r : Refusal) → parse bs ≡ rejected r → (area : List ℕ) → Exact (print_call bs area) (prints.Refused r) area
+pub refused-call : (bs : List ℕ) (r : Refusal) → parse bs ≡ rejected r → (area : List ℕ) → Exact (print_call bs area) (Err r) area
 unfolding print_call print_parsed
 refused-call bs r e area = rw e record { answer = refl; areas = refl }

@@ -1,9 +1,8 @@
 -- The text of an accepted program by its bytes.
 -- Assumes nothing.
-use Rattle.std.specs.Prelude.{List, [], ℕ, length, get_or}
+use Rattle.std.specs.Prelude.{List, [], ℕ, length, get_or, Ok, Err}
 use Rattle.rules.specs.declared.Refusal.TheVariants as refusals
-use Rattle.rules.specs.declared.PrintAnswer.{PrintAnswer}
-use Rattle.rules.specs.declared.PrintAnswer.TheVariants as prints
+use Rattle.rules.specs.Rules.Outcomes.{PrintAnswer}
 use Rattle.rules.specs.Rules.Instructions.{Instr, skip, assign, load, store, jmp, beqz, cassign, spbarr, kind}
 use Rattle.rules.specs.Rules.JobFile.{program}
 use Rattle.rules.specs.Rules.Calls.{Called}
@@ -34,4 +33,4 @@ word_text x = get_or instruction_words (kind x) []
 
 -- what printing gives of an accepted program's text
 unfoldable pub printed : List ℕ → List ℕ → Called PrintAnswer (List ℕ)
-printed bytes area = output (prints.Refused refusals.Output) (prints.Printed (length bytes)) bytes area
+printed bytes area = output (Err refusals.Output) (Ok (length bytes)) bytes area

@@ -281,10 +281,10 @@ fn print_program(p: &[u8], n: usize, out: &mut [u8]) -> PrintAnswer
     let mut none = [0u8; 0];
     let length = put_program(p, n, &mut none);
     if out.len() < length {
-        return PrintAnswer::Refused(Refusal::Output);
+        return Err(Refusal::Output);
     }
     put_program(p, n, out);
-    PrintAnswer::Printed(length)
+    Ok(length)
 }
 
 // The program of an accepted job stands before its state.
@@ -292,8 +292,7 @@ fn print_accepted(job: &[u8], t: Trailer, out: &mut [u8]) -> PrintAnswer
     requires { Accepts job.now t }
     ensures { Exact (print_call job.now out.old) result out.new }
 {
-    let s = t.state;
-    print_program(&job[0..s], t.count, out)
+    print_program(&job[..t.state], t.count, out)
 }
 
 // The program of a job as text, from the front of the area, or a refusal: 1 to 8 of the job, then 12. Any bytes and any area will do.
@@ -305,6 +304,6 @@ pub fn print_text(job: &[u8], out: &mut [u8]) -> PrintAnswer
     let outcome = read.outcome;
     match outcome {
         JobOutcome::Accepted(t) => print_accepted(job, t, out),
-        JobOutcome::Refused(r) => PrintAnswer::Refused(r),
+        JobOutcome::Refused(r) => Err(r),
     }
 }
