@@ -1,26 +1,23 @@
 -- What the answers of this crate's code mean in the rules: an instruction, and what a reader found.
 -- Assumes nothing.
-use Rattle.std.specs.Prelude.{◌≡◌, cond, List, ℕ, eqb}
+use Rattle.std.specs.Prelude.{◌≡◌, cond, List, ℕ, eqb, Result, Ok, Err}
+use Rattle.location.specs.declared.Label.{Label}
+use Rattle.rules.specs.declared.Refusal.{Refusal}
 use Rattle.rules.specs.Rules.Expressions.{Expr}
 use Rattle.rules.specs.Rules.Instructions.{Instr, skip, assign, load, store, jmp, beqz, cassign, spbarr}
 use Rattle.rules.specs.Rules.JobFile.{Read, got, refused, postfix}
 use Rattle.token.specs.Meaning.{tokens_of}
-use Rattle.instruction.specs.declared.RegisterRead.{RegisterRead}
-use Rattle.instruction.specs.declared.RegisterRead.TheVariants as register-read
-use Rattle.instruction.specs.declared.LabelRead.{LabelRead}
-use Rattle.instruction.specs.declared.LabelRead.TheVariants as label-read
+use Rattle.instruction.specs.declared.Decoded.{Decoded}
 use Rattle.instruction.specs.declared.Instruction.{Instruction}
 use Rattle.instruction.specs.declared.Instruction.TheVariants.{Skip, Assign, Load, Store, Jump, BranchZero, AssignIf, Barrier}
-use Rattle.instruction.specs.declared.InstructionRead.{InstructionRead}
-use Rattle.instruction.specs.declared.InstructionRead.TheVariants as instruction-read
 
-abbrev pub register_read_meaning : RegisterRead → Read ℕ
-register_read_meaning (register-read.Found r q) = got r q
-register_read_meaning (register-read.Refused r) = refused r
+abbrev pub register_read_meaning : Result (ℕ × ℕ) Refusal → Read ℕ
+register_read_meaning (Ok (r, q)) = got r q
+register_read_meaning (Err r) = refused r
 
-abbrev pub label_read_meaning : LabelRead → Read ℕ
-label_read_meaning (label-read.Found l q) = got l.0 q
-label_read_meaning (label-read.Refused r) = refused r
+abbrev pub label_read_meaning : Result (Label × ℕ) Refusal → Read ℕ
+label_read_meaning (Ok (l, q)) = got l.0 q
+label_read_meaning (Err r) = refused r
 
 -- the instruction of the bytes p
 abbrev pub meaning : List ℕ → Instruction → Instr
@@ -37,11 +34,11 @@ meaning p Barrier = spbarr
 abbrev pub with_register_of : ℕ → ℕ → Expr → Instr
 with_register_of k = cond (eqb k 1) assign (cond (eqb k 2) load store)
 
-abbrev pub instruction_read_meaning : List ℕ → InstructionRead → Read Instr
-instruction_read_meaning p (instruction-read.Found d) = got (meaning p d.instruction) d.next
-instruction_read_meaning p (instruction-read.Refused r) = refused r
+abbrev pub instruction_read_meaning : List ℕ → Result Decoded Refusal → Read Instr
+instruction_read_meaning p (Ok d) = got (meaning p d.instruction) d.next
+instruction_read_meaning p (Err r) = refused r
 
 -- an instruction that was found comes with its answer to the postfix rule
-abbrev pub InstructionTested : List ℕ → InstructionRead → Type 0
-InstructionTested p (instruction-read.Found d) = d.sound ≡ postfix (meaning p d.instruction)
-InstructionTested p (instruction-read.Refused r) = Unit {0}
+abbrev pub InstructionTested : List ℕ → Result Decoded Refusal → Type 0
+InstructionTested p (Ok d) = d.sound ≡ postfix (meaning p d.instruction)
+InstructionTested p (Err r) = Unit {0}

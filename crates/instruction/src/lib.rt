@@ -11,50 +11,29 @@ ghost use Rattle.instruction.specs.Meaning.{register_read_meaning, label_read_me
 
 use location::{Label, Location};
 use rules::Refusal;
-use token::{Expression, ExpressionRead};
+use token::Expression;
 
 const REGISTERS: u8 = Location::REGISTERS as u8;
 
 // A register with the offset after it.
-#[derive(Drop)]
-pub enum RegisterRead {
-    Found(u8, usize),
-    Refused(Refusal),
-}
-
-fn read_register(p: &[u8], at: usize) -> RegisterRead
+fn read_register(p: &[u8], at: usize) -> Result<(u8, usize), Refusal>
     ensures { register_read_meaning result ≡ register p.now at }
 {
-    if p.len() <= at {
-        return RegisterRead::Refused(Refusal::Encoding);
+    if at < p.len() && p[at] < REGISTERS {
+        return Ok((p[at], at + 1));
     }
-    let r = p[at];
-    let next = at + 1;
-    if r < REGISTERS {
-        return RegisterRead::Found(r, next);
-    }
-    RegisterRead::Refused(Refusal::Encoding)
+    Err(Refusal::Encoding)
 }
 
 // A label with the offset after it.
-#[derive(Drop)]
-pub enum LabelRead {
-    Found(Label, usize),
-    Refused(Refusal),
-}
-
-fn read_label(p: &[u8], at: usize) -> LabelRead
+fn read_label(p: &[u8], at: usize) -> Result<(Label, usize), Refusal>
     ensures { label_read_meaning result ≡ word_of 2 p.now at }
 {
-    if p.len() <= at {
-        return LabelRead::Refused(Refusal::Encoding);
-    }
-    if p.len() - at < 2 {
-        return LabelRead::Refused(Refusal::Encoding);
+    if p.len() <= at || p.len() - at < 2 {
+        return Err(Refusal::Encoding);
     }
     let label = Label::new(token::two_bytes(p, at) as usize);
-    let next = at + 2;
-    LabelRead::Found(label, next)
+    Ok((label, at + 2))
 }
 
 // The eight instructions, each with its own fields; a register is its number.
@@ -71,17 +50,11 @@ pub enum Instruction {
 }
 
 // An instruction with the offset of the next; `sound` says whether its expressions keep the postfix rule.
-#[derive(Drop)]
+#[derive(Clone, Copy)]
 pub struct Decoded {
     pub instruction: Instruction,
     pub next: usize,
     pub sound: bool,
-}
-
-#[derive(Drop)]
-pub enum InstructionRead {
-    Found(Decoded),
-    Refused(Refusal),
 }
 
 // The instruction of a kind, 1 to 3, with a register and an expression.
@@ -97,94 +70,65 @@ pub fn with_register(kind: u8, r: u8, e: Expression) -> Instruction
     Instruction::Store(r, e)
 }
 
-fn read_with_register(p: &[u8], at: usize, kind: u8) -> InstructionRead
+fn read_with_register(p: &[u8], at: usize, kind: u8) -> Result<Decoded, Refusal>
     ensures { (instruction_read_meaning p.now result ≡ with_register (with_register_of kind) p.now at)
         × InstructionTested p.now result }
 {
-    match read_register(p, at) {
-        RegisterRead::Found(r, start) => match token::read_expression(p, start) {
-            ExpressionRead::Found(e, next, sound) => {
-                let instruction = with_register(kind, r, e);
-                InstructionRead::Found(Decoded {
-                    instruction,
-                    next,
-                    sound,
-                })
-            }
-            ExpressionRead::Refused(n) => InstructionRead::Refused(n),
-        },
-        RegisterRead::Refused(n) => InstructionRead::Refused(n),
-    }
+    let (r, start) = read_register(p, at)?;
+    let e = token::read_expression(p, start)?;
+    Ok(Decoded {
+        instruction: with_register(kind, r, e.expression),
+        next: e.next,
+        sound: e.sound,
+    })
 }
 
-fn read_jump(p: &[u8], at: usize) -> InstructionRead
+fn read_jump(p: &[u8], at: usize) -> Result<Decoded, Refusal>
     ensures { (instruction_read_meaning p.now result ≡ jump p.now at) × InstructionTested p.now result }
 {
-    match token::read_expression(p, at) {
-        ExpressionRead::Found(e, next, sound) => {
-            let instruction = Instruction::Jump(e);
-            InstructionRead::Found(Decoded {
-                instruction,
-                next,
-                sound,
-            })
-        }
-        ExpressionRead::Refused(n) => InstructionRead::Refused(n),
-    }
+    let e = token::read_expression(p, at)?;
+    Ok(Decoded {
+        instruction: Instruction::Jump(e.expression),
+        next: e.next,
+        sound: e.sound,
+    })
 }
 
-fn read_branch(p: &[u8], at: usize) -> InstructionRead
+fn read_branch(p: &[u8], at: usize) -> Result<Decoded, Refusal>
     ensures { (instruction_read_meaning p.now result ≡ branch p.now at) × InstructionTested p.now result }
 {
-    match read_register(p, at) {
-        RegisterRead::Found(r, start) => match read_label(p, start) {
-            LabelRead::Found(l, next) => {
-                let instruction = Instruction::BranchZero(r, l);
-                InstructionRead::Found(Decoded {
-                    instruction,
-                    next,
-                    sound: true,
-                })
-            }
-            LabelRead::Refused(n) => InstructionRead::Refused(n),
-        },
-        RegisterRead::Refused(n) => InstructionRead::Refused(n),
-    }
+    let (r, start) = read_register(p, at)?;
+    let (label, next) = read_label(p, start)?;
+    Ok(Decoded {
+        instruction: Instruction::BranchZero(r, label),
+        next,
+        sound: true,
+    })
 }
 
-fn read_conditional(p: &[u8], at: usize) -> InstructionRead
+fn read_conditional(p: &[u8], at: usize) -> Result<Decoded, Refusal>
     ensures { (instruction_read_meaning p.now result ≡ conditional p.now at) × InstructionTested p.now result }
 {
-    match read_register(p, at) {
-        RegisterRead::Found(r, start) => match token::read_expression(p, start) {
-            ExpressionRead::Found(c, middle, first) => match token::read_expression(p, middle) {
-                ExpressionRead::Found(e, next, second) => {
-                    let instruction = Instruction::AssignIf(r, c, e);
-                    InstructionRead::Found(Decoded {
-                        instruction,
-                        next,
-                        sound: first & second,
-                    })
-                }
-                ExpressionRead::Refused(n) => InstructionRead::Refused(n),
-            },
-            ExpressionRead::Refused(n) => InstructionRead::Refused(n),
-        },
-        RegisterRead::Refused(n) => InstructionRead::Refused(n),
-    }
+    let (r, start) = read_register(p, at)?;
+    let c = token::read_expression(p, start)?;
+    let e = token::read_expression(p, c.next)?;
+    Ok(Decoded {
+        instruction: Instruction::AssignIf(r, c.expression, e.expression),
+        next: e.next,
+        sound: c.sound & e.sound,
+    })
 }
 
 // The instruction at an offset.
-pub fn decode(p: &[u8], at: usize) -> InstructionRead
+pub fn decode(p: &[u8], at: usize) -> Result<Decoded, Refusal>
     ensures { (instruction_read_meaning p.now result ≡ instr p.now at) × InstructionTested p.now result }
 {
     if p.len() <= at {
-        return InstructionRead::Refused(Refusal::Encoding);
+        return Err(Refusal::Encoding);
     }
-    let k = p[at];
     let next = at + 1;
-    match k {
-        0 => InstructionRead::Found(Decoded {
+    match p[at] {
+        0 => Ok(Decoded {
             instruction: Instruction::Skip,
             next,
             sound: true,
@@ -195,16 +139,14 @@ pub fn decode(p: &[u8], at: usize) -> InstructionRead
         4 => read_jump(p, next),
         5 => read_branch(p, next),
         6 => read_conditional(p, next),
-        7 => InstructionRead::Found(Decoded {
+        7 => Ok(Decoded {
             instruction: Instruction::Barrier,
             next,
             sound: true,
         }),
-        _ => InstructionRead::Refused(Refusal::Encoding),
+        _ => Err(Refusal::Encoding),
     }
 }
-
-const BARRIER: usize = 7;
 
 // The kind's number, as in the kind byte.
 pub fn kind(i: Instruction) -> usize
@@ -228,11 +170,8 @@ pub fn kind(i: Instruction) -> usize
 pub fn lowered(cost: u64, window: u64, i: Instruction) -> u64
     ensures { (p : List ℕ) (code : Code) → cost ≡ get_or code.costs (kind (meaning p i)) 0 → result ≡ remaining code (meaning p i) window }
 {
-    if kind(i) == BARRIER {
-        return 0;
+    match i {
+        Instruction::Barrier => 0,
+        _ => window.saturating_sub(cost),
     }
-    if cost < window {
-        return window - cost;
-    }
-    0
 }

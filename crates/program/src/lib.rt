@@ -11,7 +11,7 @@ ghost use Rattle.rules.specs.Theorems.Readers.{readable};
 ghost use Rattle.program.specs.Words.{words_from};
 
 use descriptor::Descriptor;
-use instruction::{Instruction, InstructionRead};
+use instruction::Instruction;
 use location::Label;
 use rules::Refusal;
 
@@ -21,77 +21,38 @@ fn branch_label_holds(i: Instruction, n: usize, label: usize) -> bool
     ensures { (p : List ℕ) → result ≡ branch_label_holds n label (meaning p i) }
 {
     match i {
-        Instruction::Skip => true,
-        Instruction::Assign(_, _) => true,
-        Instruction::Load(_, _) => true,
-        Instruction::Store(_, _) => true,
-        Instruction::Jump(_) => true,
-        Instruction::BranchZero(_, l) => {
-            let to = l.index();
-            if n < to {
-                return false;
-            }
-            let next = label + 1;
-            if to == next {
-                return false;
-            }
-            true
-        }
-        Instruction::AssignIf(_, _, _) => true,
-        Instruction::Barrier => true,
+        Instruction::BranchZero(_, to) => to.index() <= n && to.index() != label + 1,
+        _ => true,
     }
 }
 
-// The offset after what was read and passed its tests, or a refusal.
-#[derive(Drop)]
-pub enum Checked {
-    Next(usize),
-    Refused(Refusal),
-}
-
-fn check_instruction(p: &[u8], at: usize, n: usize, label: usize) -> Checked
+// The offset after an instruction that passed its tests, or the refusal: 4, then 5, then 6.
+fn check_instruction(p: &[u8], at: usize, n: usize, label: usize) -> Result<usize, Refusal>
     requires { label < n }
     ensures { result ≡ checked_of (instruction n label p.now at) }
 {
-    match instruction::decode(p, at) {
-        InstructionRead::Found(d) => {
-            let i = d.instruction;
-            if d.sound {
-                if branch_label_holds(i, n, label) {
-                    Checked::Next(d.next)
-                } else {
-                    Checked::Refused(Refusal::BranchLabel)
-                }
-            } else {
-                Checked::Refused(Refusal::Postfix)
-            }
-        }
-        InstructionRead::Refused(r) => Checked::Refused(r),
+    let d = instruction::decode(p, at)?;
+    if !d.sound {
+        return Err(Refusal::Postfix);
     }
+    if !branch_label_holds(d.instruction, n, label) {
+        return Err(Refusal::BranchLabel);
+    }
+    Ok(d.next)
 }
 
 // A program of n instructions: 4, 5 and 6 on each in turn, then 7.
-pub fn check_program(p: &[u8], n: usize) -> Checked
+pub fn check_program(p: &[u8], n: usize) -> Result<usize, Refusal>
     ensures { result ≡ checked_of (program n n 0 p.now 0) }
 {
     let mut at = 0;
-    let mut i = 0;
-    while i < n {
-        match check_instruction(p, at, n, i) {
-            Checked::Next(next) => {
-                at = next;
-                i += 1;
-            }
-            Checked::Refused(r) => {
-                return Checked::Refused(r);
-            }
-        }
+    for label in 0..n {
+        at = check_instruction(p, at, n, label)?;
     }
-    if at == p.len() {
-        Checked::Next(at)
-    } else {
-        Checked::Refused(Refusal::Surplus)
+    if at != p.len() {
+        return Err(Refusal::Surplus);
     }
+    Ok(at)
 }
 
 // Writes the words of the n instructions of an accepted program to a table, from a base on.
@@ -100,11 +61,9 @@ pub fn write_words(p: &[u8], n: usize, table: &mut [u64], base: usize)
     ensures { table.new ≡ sets table.old base (words_from n p.now 0) }
 {
     let mut at: usize = 0;
-    let mut i = 0;
-    while i < n {
-        table[base + i] = descriptor::word_at(p, at);
+    for label in 0..n {
+        table[base + label] = descriptor::word_at(p, at);
         at = descriptor::next_offset(p, at);
-        i += 1;
     }
 }
 

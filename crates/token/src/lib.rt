@@ -8,13 +8,8 @@ ghost use Rattle.rules.specs.Rules.JobFile.{got, little, token, tokens, expr};
 ghost use Rattle.rules.specs.Theorems.Readers.{readable, next_offset};
 ghost use Rattle.token.specs.Meaning.{token_meaning, token_read_meaning, scan_of, expression_read_meaning, ExpressionTested};
 
+use rules::limits::MAX_TOKENS;
 use rules::Refusal;
-
-fn wide(b: u8) -> u64
-    ensures { (result ≡ b) × (result < 256) }
-{
-    b as u64
-}
 
 // The number in two bytes at an offset, the lowest first. A sum of two reads is one load to the compiler, whatever uses the number; what a
 // loop over the bytes gives is one only while no use needs a single byte.
@@ -22,7 +17,7 @@ pub fn two_bytes(s: &[u8], at: usize) -> u64
     requires { at + 2 ≤ length s.now }
     ensures { (result ≡ little s.now at 2) × (result < 2 ^ 16) }
 {
-    wide(s[at]) + 256 * wide(s[at + 1])
+    u64::from(s[at]) + 256 * u64::from(s[at + 1])
 }
 
 // The number in four bytes.
@@ -93,39 +88,17 @@ pub fn token_at(p: &[u8], at: usize) -> TokenAt
 fn stands(p: &[u8], at: usize) -> bool
     ensures { result ≡ readable (token p.now at) }
 {
-    if p.len() <= at {
-        return false;
-    }
-    let byte = p[at];
-    if 28 < byte {
-        return false;
-    }
-    if byte != 16 {
-        return true;
-    }
-    if p.len() - at < 9 {
-        return false;
-    }
-    true
-}
-
-// A token with the offset after it, or a refusal.
-#[derive(Drop)]
-enum TokenRead {
-    Found(Token, usize),
-    Refused(Refusal),
+    at < p.len() && p[at] <= 28 && (p[at] != 16 || 9 <= p.len() - at)
 }
 
 // The token at an offset of any bytes.
-fn read_token(p: &[u8], at: usize) -> TokenRead
+fn read_token(p: &[u8], at: usize) -> Result<TokenAt, Refusal>
     ensures { token_read_meaning result ≡ token p.now at }
 {
     if stands(p, at) {
-        let read = token_at(p, at);
-        let t = read.token;
-        return TokenRead::Found(t, read.next);
+        return Ok(token_at(p, at));
     }
-    TokenRead::Refused(Refusal::Encoding)
+    Err(Refusal::Encoding)
 }
 
 // How many operands a token takes.
@@ -133,8 +106,7 @@ fn taken(t: Token) -> usize
     ensures { result ≡ takes (token_meaning t) }
 {
     match t {
-        Token::Register(_) => 0,
-        Token::Constant(_) => 0,
+        Token::Register(_) | Token::Constant(_) => 0,
         Token::Unary(_) => 1,
         Token::Binary(_) => 2,
     }
@@ -144,44 +116,30 @@ fn taken(t: Token) -> usize
 pub fn held_after(held: usize, k: usize) -> usize
     ensures { result ≡ after held k }
 {
-    if 8 < held {
-        return 9;
-    }
-    if held < k {
-        return 9;
-    }
-    if 7 < held - k {
+    if 8 < held || held < k || 7 < held - k {
         return 9;
     }
     held - k + 1
 }
 
 // The tokens of an expression: the offset after them, and the values held after them.
-#[derive(Drop)]
-enum Scan {
-    Past(usize, usize),
-    Refused(Refusal),
+#[derive(Clone, Copy)]
+struct Scan {
+    next: usize,
+    held: usize,
 }
 
-fn scan_tokens(p: &[u8], at: usize, count: usize) -> Scan
+fn scan_tokens(p: &[u8], at: usize, count: usize) -> Result<Scan, Refusal>
     ensures { result ≡ scan_of 0 (tokens count p.now at) }
 {
     let mut held = 0;
-    let mut offset = at;
-    let mut i = 0;
-    while i < count {
-        match read_token(p, offset) {
-            TokenRead::Found(t, next) => {
-                held = held_after(held, taken(t));
-                offset = next;
-                i += 1;
-            }
-            TokenRead::Refused(r) => {
-                return Scan::Refused(r);
-            }
-        }
+    let mut next = at;
+    for _ in 0..count {
+        let read = read_token(p, next)?;
+        held = held_after(held, taken(read.token));
+        next = read.next;
     }
-    Scan::Past(offset, held)
+    Ok(Scan { next, held })
 }
 
 // An expression in the bytes: where its tokens start, and how many there are.
@@ -191,35 +149,32 @@ pub struct Expression {
     pub count: usize,
 }
 
-// An expression with the offset after it, and whether it keeps the postfix rule.
-#[derive(Drop)]
-pub enum ExpressionRead {
-    Found(Expression, usize, bool),
-    Refused(Refusal),
+// An expression with the offset after it; `sound` says whether it keeps the postfix rule.
+#[derive(Clone, Copy)]
+pub struct ExpressionRead {
+    pub expression: Expression,
+    pub next: usize,
+    pub sound: bool,
 }
 
 // The expression at an offset: its tokens are read once, for their extent and for the postfix rule.
-pub fn read_expression(p: &[u8], at: usize) -> ExpressionRead
+pub fn read_expression(p: &[u8], at: usize) -> Result<ExpressionRead, Refusal>
     ensures { (expression_read_meaning p.now result ≡ expr p.now at) × ExpressionTested p.now result }
 {
     if p.len() <= at {
-        return ExpressionRead::Refused(Refusal::Encoding);
+        return Err(Refusal::Encoding);
     }
-    let count = wide(p[at]) as usize;
+    let count = usize::from(p[at]);
+    if count < 1 || MAX_TOKENS < count {
+        return Err(Refusal::Encoding);
+    }
     let start = at + 1;
-    if count < 1 {
-        return ExpressionRead::Refused(Refusal::Encoding);
-    }
-    if 16 < count {
-        return ExpressionRead::Refused(Refusal::Encoding);
-    }
-    match scan_tokens(p, start, count) {
-        Scan::Past(next, held) => {
-            let e = Expression { at: start, count };
-            ExpressionRead::Found(e, next, held == 1)
-        }
-        Scan::Refused(r) => ExpressionRead::Refused(r),
-    }
+    let scan = scan_tokens(p, start, count)?;
+    Ok(ExpressionRead {
+        expression: Expression { at: start, count },
+        next: scan.next,
+        sound: scan.held == 1,
+    })
 }
 
 // The expression at an offset where one can be read, as it stands: no token is read.
@@ -227,7 +182,7 @@ pub fn expression_at(p: &[u8], at: usize) -> Expression
     requires { readable (expr p.now at) ≡ true }
     ensures { tokens result.count p.now result.at ≡ expr p.now at }
 {
-    let count = wide(p[at]) as usize;
+    let count = usize::from(p[at]);
     Expression { at: at + 1, count }
 }
 
@@ -248,11 +203,8 @@ fn tokens_end(p: &[u8], e: Expression) -> usize
     ensures { result ≡ next_offset (tokens e.count p.now e.at) }
 {
     let mut offset = e.at;
-    let count = e.count;
-    let mut i = 0;
-    while i < count {
+    for _ in 0..e.count {
         offset = token_end(p, offset);
-        i += 1;
     }
     offset
 }
@@ -262,6 +214,5 @@ pub fn expression_end(p: &[u8], at: usize) -> usize
     requires { readable (expr p.now at) ≡ true }
     ensures { result ≡ next_offset (expr p.now at) }
 {
-    let e = expression_at(p, at);
-    tokens_end(p, e)
+    tokens_end(p, expression_at(p, at))
 }
