@@ -2,6 +2,9 @@
 -- Assumes nothing.
 use mathlib.Core.Path.{◌≡◌, refl, ap}
 use mathlib.Core.List.{List, [], ◌∷◌}
+use Rattle.std.specs.Prelude.{◌⊎◌, Ok, Err}
+use Rattle.std.proofs.lemmas.Bool.Decides.{nat_tests}
+use Rattle.rules.specs.declared.Refusal.TheVariants as refusals
 use Prim.Native.Nat.{ℕ, zero, suc, ◌+◌, ◌*◌, ◌^◌, ◌<◌, ◌≤◌}
 use native.Mathlib.Nat.{pow-suc, mul_assoc, mul_comm}
 use native.Mathlib.Omega.{arith}
@@ -11,7 +14,7 @@ use Rattle.rules.specs.declared.Refusal.{Refusal}
 use Rattle.rules.specs.Rules.Expressions.{Token, Expr, takes, after, held}
 use Rattle.rules.specs.Rules.JobFile.{Read, got, refused, and_then, little, token, tokens, expr}
 use Rattle.rules.specs.Theorems.Readers.{value_or}
-use Rattle.token.specs.declared.Scan.TheVariants as scan
+use Rattle.token.specs.declared.Scan.{Scan}
 use Rattle.token.specs.Bytes.{byte-got}
 use Rattle.token.specs.Meaning.{scan_of}
 
@@ -42,7 +45,7 @@ unfolding tokens
 tokens-got k p at d q t e = rw (← e) (cons (tokens k p q) t d)
 
 pub tokens-refused : (k : ℕ) (p : List ℕ) (at d : ℕ) (r : Refusal) → refused r ≡ token p at
-    → scan_of d (tokens (suc k) p at) ≡ scan.Refused r
+    → scan_of d (tokens (suc k) p at) ≡ Err r
 unfolding tokens
 tokens-refused k p at d r e = rw (← e)
 
@@ -51,15 +54,20 @@ pub expr-tokens : (p : List ℕ) (at k : ℕ) → at < length p → k ≡ get_or
 unfolding expr
 expr-tokens p at k h e l u = rw (byte-got p at h, ← e, le-leb 1 k l, le-leb k 16 u)
 
--- ---- what a scan says of the tokens
-pub scan_got : (R : Read Expr) (d q h : ℕ) → scan.Past q h ≡ scan_of d R → got (value_or [] R) q ≡ R
-scan_got (got ts q') d q h e = let e₁ : q ≡ q' = cc in ap (got ts) e₁
-scan_got (refused r) d q h e = absurd (let z : ◌≡◌ {A = ℕ} 0 1 = cc in omega arith)
+-- a count that is not allowed
+pub expr_refused : (p : List ℕ) (at k : ℕ) → at < length p → k ≡ get_or p at 0 → (k < 1) ⊎ ((1 ≤ k) × (16 < k)) → expr p at ≡ refused refusals.Encoding
+unfolding expr
+expr_refused p at k h e n = rw (byte-got p at h, ← e) (grind (arith, nat_tests, n))
 
-pub scan_held : (R : Read Expr) (d q h : ℕ) → scan.Past q h ≡ scan_of d R → h ≡ held d (value_or [] R)
-scan_held (got ts q') d q h e = cc
-scan_held (refused r) d q h e = absurd (let z : ◌≡◌ {A = ℕ} 0 1 = cc in omega arith)
+-- ---- what a scan s says of the tokens
+pub scan_got : (R : Read Expr) (d : ℕ) (s : Scan) → Ok s ≡ scan_of d R → got (value_or [] R) s.next ≡ R
+scan_got (got ts q) d s e = let e₁ : s ≡ record { next = q; held = held d ts } = cc in ap (λ (x : Scan). got ts x.next) e₁
+scan_got (refused r) d s e = absurd (cc)
 
-pub scan_refused : (R : Read Expr) (d : ℕ) (r : Refusal) → scan.Refused r ≡ scan_of d R → refused r ≡ R
-scan_refused (got ts q') d r e = absurd (let z : ◌≡◌ {A = ℕ} 0 1 = cc in omega arith)
+pub scan_held : (R : Read Expr) (d : ℕ) (s : Scan) → Ok s ≡ scan_of d R → s.held ≡ held d (value_or [] R)
+scan_held (got ts q) d s e = let e₁ : s ≡ record { next = q; held = held d ts } = cc in ap (λ (x : Scan). x.held) e₁
+scan_held (refused r) d s e = absurd (cc)
+
+pub scan_refused : (R : Read Expr) (d : ℕ) (r : Refusal) → Err r ≡ scan_of d R → refused r ≡ R
+scan_refused (got ts q) d r e = absurd (cc)
 scan_refused (refused r') d r e = let e₁ : r ≡ r' = cc in ap refused e₁

@@ -8,8 +8,8 @@ ghost use Rattle.rules.specs.Rules.JobFile.{got, little, token, tokens, expr};
 ghost use Rattle.rules.specs.Theorems.Readers.{readable, next_offset};
 ghost use Rattle.token.specs.Meaning.{token_meaning, token_read_meaning, scan_of, expression_read_meaning, ExpressionTested};
 
-use rules::limits::MAX_TOKENS;
 use rules::Refusal;
+use rules::limits::MAX_TOKENS;
 
 // The number in two bytes at an offset, the lowest first. A sum of two reads is one load to the compiler, whatever uses the number; what a
 // loop over the bytes gives is one only while no use needs a single byte.
@@ -88,7 +88,11 @@ pub fn token_at(p: &[u8], at: usize) -> TokenAt
 fn stands(p: &[u8], at: usize) -> bool
     ensures { result ≡ readable (token p.now at) }
 {
-    at < p.len() && p[at] <= 28 && (p[at] != 16 || 9 <= p.len() - at)
+    match p.get(at) {
+        Some(16) => 9 <= p.len() - at,
+        Some(byte) => *byte <= 28,
+        None => false,
+    }
 }
 
 // The token at an offset of any bytes.

@@ -13,4 +13,4 @@ overflow_add-result c =
 
 pub returns : goal.returns
 returns c =
-    let a = c.args in rw c.wide-count.ensures.0 (sym (expr-read a.p.now a.at c.requires).1)
+    let a = c.args in rw c.from-count.ensures (sym (expr-read a.p.now a.at c.requires).1)

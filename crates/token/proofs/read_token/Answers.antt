@@ -3,8 +3,8 @@ use mathlib.Core.Path.{sym, ◌∙◌}
 use Rattle.token.specs.Readable.{unreadable-refused}
 use Rattle.token.proofs.read_token.Goals as goal
 
-pub token_at-read-requires : goal.token_at-read-requires
-token_at-read-requires c = sym c.stands.ensures ∙ c.if-stands.true
+pub token_at-requires : goal.token_at-requires
+token_at-requires c = sym c.stands.ensures ∙ c.if-stands.true
 
 pub returns : goal.returns
 returns c =

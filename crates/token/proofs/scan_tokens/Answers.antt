@@ -1,46 +1,31 @@
 -- `token::scan_tokens` meets its contract. The invariant: scanning the tokens left, from the values held now, is the whole scan.
 -- Assumes nothing.
 use mathlib.Core.Path.{◌≡◌, sym, ◌∙◌}
-use Prim.Native.Nat.{suc, zero-le, ◌+◌, ◌-◌}
-use native.Mathlib.Nat.{sub-zero}
+use Prim.Native.Nat.{suc, ◌+◌, ◌-◌}
 use native.Mathlib.Omega.{arith}
+use Rattle.std.proofs.lemmas.Result.{err_from_is_err_and}
 use Rattle.rules.specs.Rules.JobFile.{tokens}
 use Rattle.rules.specs.Rules.Expressions.{held}
 use Rattle.token.proofs.Laws.{tokens-got, tokens-refused}
 use Rattle.token.proofs.scan_tokens.Goals as goal
 
-pub loop-i-init : goal.loop-i-init
-loop-i-init c = (zero-le, rw sub-zero)
-
-pub read_token-requires : goal.read_token-requires
-read_token-requires c = tt
-
-pub taken-requires : goal.taken-requires
-taken-requires c = tt
-
-pub held_after-held-requires : goal.held_after-held-requires
-held_after-held-requires c = tt
-
-pub loop-i-preserved : goal.loop-i-preserved
-loop-i-preserved c =
+pub loop-preserved : goal.loop-preserved
+loop-preserved c =
     let a = c.args in
-    let v = c.loop-i in
-    let e : a.count - v.i ≡ suc (a.count - (v.i + 1)) = omega arith in
-    let t = (rw c.in-Found.is at c.read_token.ensures) in (
-      omega arith,
-      rw (c.held_after-held.ensures, c.taken.ensures)
-          (sym (tokens-got _ a.p.now v.offset v.held _ _ t) ∙ (rw e at v.invariant.1)),
-    )
+    let v = c.loop in
+    let e : a.count - v.counter ≡ suc (a.count - (v.counter + 1)) = omega arith in
+    let t = rw c.in_ok-read.was at c.read_token.ensures in
+    rw (c.held_after-held.ensures, c.taken.ensures) (sym (tokens-got _ a.p.now v.next v.held _ _ t) ∙ (rw e at v.invariant))
 
-pub returns-in-Refused : goal.returns-in-Refused
-returns-in-Refused c =
+pub returns-in_err-read : goal.returns-in_err-read
+returns-in_err-read c =
     let a = c.args in
-    let v = c.loop-i in
-    let e : a.count - v.i ≡ suc (a.count - (v.i + 1)) = omega arith in
-    let t = (rw c.in-Refused.is at c.read_token.ensures) in
-    sym (tokens-refused _ a.p.now v.offset v.held _ t) ∙ (rw e at v.invariant.1)
+    let v = c.loop in
+    let e : a.count - v.counter ≡ suc (a.count - (v.counter + 1)) = omega arith in
+    let t = rw c.in_err-read.was at c.read_token.ensures in
+    let r = err_from_is_err_and c.from_residual.result c.from_residual.ensures.1 in
+    rw (r.1, r.2) (sym (tokens-refused _ a.p.now v.next v.held _ t) ∙ (rw e at v.invariant))
 
 pub returns : goal.returns
 unfolding tokens held
-returns c =
-    let v = c.loop-i in let a = c.args in let e : a.count - v.i ≡ 0 = omega arith in rw e at v.invariant.1
+returns c = let v = c.loop in let a = c.args in let e : a.count - v.counter ≡ 0 = omega arith in rw e at v.invariant

@@ -2,14 +2,11 @@
 -- Assumes nothing.
 use mathlib.Core.Path.{◌≡◌}
 use mathlib.Core.Bool.{true}
-use Prim.Native.Nat.{◌-◌, ◌≤◌}
+use Prim.Native.Nat.{◌-◌}
 use Rattle.rules.specs.Rules.JobFile.{tokens}
 use Rattle.rules.specs.Theorems.Readers.{readable, next_offset}
 use Rattle.token.proofs.tokens_end.Given as goal
 
-abbrev pub invariant-loop-i : goal.invariant-loop-i
-invariant-loop-i l =
-    (l.i ≤ l.count) × (readable (tokens (l.count - l.i) l.p l.offset) ≡ true) × (next_offset (tokens (l.count - l.i) l.p l.offset) ≡ next_offset (tokens l.count l.p l.initial.offset))
-
-abbrev pub decreases-loop-i : goal.decreases-loop-i
-decreases-loop-i l = l.count - l.i
+abbrev pub invariant-loop : goal.invariant-loop
+invariant-loop l =
+    (readable (tokens (l.end - l.counter) l.p l.offset) ≡ true) × (next_offset (tokens (l.end - l.counter) l.p l.offset) ≡ next_offset (tokens l.end l.p l.initial.offset))
