@@ -5,10 +5,11 @@
 #![tactic(auto)]
 
 ghost use Rattle.std.specs.Prelude.{◌≡◌, true, List, ℕ, ◌+◌, ◌-◌, ◌^◌, ◌<◌, ◌≤◌, length, get_or};
-ghost use Rattle.rules.specs.Rules.Instructions.{skip};
+ghost use Rattle.rules.specs.Rules.Expressions.{Expr};
+ghost use Rattle.rules.specs.Rules.Instructions.{Instr, skip};
 ghost use Rattle.rules.specs.Rules.JobFile.{little, tokens, expr, with_register, jump, conditional, instr};
 ghost use Rattle.rules.specs.Theorems.Readers.{readable, next_offset, value_or};
-ghost use Rattle.instruction.specs.Meaning.{meaning, with_register_of};
+ghost use Rattle.instruction.specs.Meaning.{meaning, Makes};
 ghost use Rattle.descriptor.specs.Descriptors.{one_shape, three_shape, expression_shape, jump_shape, shape_at, first_at, target_at, extra_at, count_at};
 ghost use Rattle.descriptor.specs.Descriptors.{offsets, word_at, descriptor_in, constant_place, operator_place, bare, is_skip, is_bare, instruction_in};
 ghost use Rattle.descriptor.specs.Descriptors.{WithExpression, SecondAt, Valid};
@@ -317,13 +318,18 @@ pub fn expression_of(p: &[u8], d: Descriptor) -> Expression
     token::expression_at(p, count_at(p, d.at))
 }
 
-fn with_register_at(p: &[u8], at: usize, kind: u8) -> Instruction
-    requires { readable (with_register (with_register_of kind) p.now at) ≡ true }
-    ensures { meaning p.now result ≡ value_or skip (with_register (with_register_of kind) p.now at) }
+// The instruction that `make` makes of a register and the expression after it.
+fn with_register_at<F: Fn(u8, Expression) -> Instruction>(
+    p: &[u8],
+    at: usize,
+    make: F,
+) -> Instruction
+    requires callable { F.IsAlwaysCallable make }
+    requires stands { (at < length p.now) × (readable (expr p.now (at + 1)) ≡ true) }
+    ensures { (f : ℕ → Expr → Instr) → Makes p.now (F.post make) f → readable (with_register f p.now at) ≡ true
+        → meaning p.now result ≡ value_or skip (with_register f p.now at) }
 {
-    let r = p[at];
-    let e = token::expression_at(p, at + 1);
-    instruction::with_register(kind, r, e)
+    make(p[at], token::expression_at(p, at + 1))
 }
 
 fn jump_at(p: &[u8], at: usize) -> Instruction
@@ -353,9 +359,9 @@ fn instruction_at(p: &[u8], at: usize, second: usize) -> Instruction
     let k = p[at];
     let next = at + 1;
     match k {
-        1 => with_register_at(p, next, 1),
-        2 => with_register_at(p, next, 2),
-        3 => with_register_at(p, next, 3),
+        1 => with_register_at(p, next, |r, e| Instruction::Assign(r, e)),
+        2 => with_register_at(p, next, |r, e| Instruction::Load(r, e)),
+        3 => with_register_at(p, next, |r, e| Instruction::Store(r, e)),
         4 => jump_at(p, next),
         _ => conditional_at(p, next, second),
     }

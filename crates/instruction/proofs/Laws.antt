@@ -1,41 +1,30 @@
--- How the match on the kind byte, the postfix rule and the lowering of a window meet the rules.
+-- How the lowering of a window meets the rules.
 -- Assumes nothing.
 use mathlib.Core.Path.{◌≡◌, refl}
-use mathlib.Core.Bool.{Bool, true, false, cond}
-use Prim.Native.Nat.{ℕ, zero-le, ◌+◌, ◌-◌, ◌≤◌}
-use native.Mathlib.Omega.{arith}
+use mathlib.Core.Bool.{false}
+use mathlib.Core.List.{List}
+use Prim.Native.Nat.{ℕ, ◌-◌}
 use lib.Dec.{eqb}
 use lib.ListN.{get_or}
-use borrow.Author.Tests.{ne_eqb}
-use Rattle.rules.specs.Rules.Expressions.{Expr, sound}
-use Rattle.rules.specs.Rules.Instructions.{Instr, assign, load, store, kind}
-use Rattle.rules.specs.Rules.JobFile.{postfix}
+use Rattle.rules.specs.Rules.Instructions.{kind}
 use Rattle.rules.specs.Rules.Plain.{Code}
 use Rattle.rules.specs.Rules.Mispredicting.{remaining}
-use Rattle.instruction.specs.Meaning.{with_register_of}
+use Rattle.instruction.specs.declared.Instruction.{Instruction}
+use Rattle.instruction.specs.declared.Instruction.TheVariants.{Skip, Assign, Load, Store, Jump, BranchZero, AssignIf, Barrier}
+use Rattle.instruction.specs.Meaning.{meaning}
 
--- ---- the kind byte: a number that is none of the eight kinds
-more : (j k : ℕ) → j ≤ k → (k ≡ j → ⊥) → j + 1 ≤ k
-more j k h n = omega arith
+-- ---- windows: c is the entry of the instruction i in the table of costs
+other_kind : (p : List ℕ) (i : Instruction) → (i ≡ Barrier → ⊥) → eqb (kind (meaning p i)) 7 ≡ false
+other_kind p Skip n = refl
+other_kind p (Assign r e) n = refl
+other_kind p (Load r e) n = refl
+other_kind p (Store r e) n = refl
+other_kind p (Jump e) n = refl
+other_kind p (BranchZero r l) n = refl
+other_kind p (AssignIf r c e) n = refl
+other_kind p Barrier n = absurd (n refl)
 
-pub beyond : (k : ℕ) → (k ≡ 0 → ⊥) → (k ≡ 1 → ⊥) → (k ≡ 2 → ⊥) → (k ≡ 3 → ⊥)
-    → (k ≡ 4 → ⊥) → (k ≡ 5 → ⊥) → (k ≡ 6 → ⊥) → (k ≡ 7 → ⊥) → 8 ≤ k
-beyond k a b c d e f g h = more 7 k (more 6 k (more 5 k (more 4 k (more 3 k (more 2 k (more 1 k (more 0 k zero-le a) b) c) d) e) f) g) h
-
--- ---- the postfix rule of an instruction with a register and an expression
-pub postfix_with : (k r : ℕ) (e : Expr) → postfix (with_register_of k r e) ≡ sound e
-postfix_with k r e = go (eqb k 1) (eqb k 2)
-  where
-    go : (a b : Bool) → postfix (cond a assign (cond b load store) r e) ≡ sound e
-    go true b = refl
-    go false true = refl
-    go false false = refl
-
--- ---- windows: k is the kind of the instruction i, c its entry in the table of costs
-pub remaining_barrier : (code : Code) (i : Instr) (v k : ℕ) → k ≡ kind i → k ≡ 7 → 0 ≡ remaining code i v
+pub remaining-other : (p : List ℕ) (i : Instruction) (code : Code) (v c : ℕ) → (i ≡ Barrier → ⊥) → c ≡ get_or code.costs (kind (meaning p i)) 0
+    → v - c ≡ remaining code (meaning p i) v
 unfolding remaining
-remaining_barrier code i v k e h = rw (← e, h)
-
-pub remaining-other : (code : Code) (i : Instr) (v k c : ℕ) → k ≡ kind i → (k ≡ 7 → ⊥) → c ≡ get_or code.costs (kind i) 0 → v - c ≡ remaining code i v
-unfolding remaining
-remaining-other code i v k c e h g = rw (← g, ← e, ne_eqb k 7 h)
+remaining-other p i code v c n e = rw (← e, other_kind p i n)

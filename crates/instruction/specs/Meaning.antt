@@ -1,11 +1,12 @@
 -- What the answers of this crate's code mean in the rules: an instruction, and what a reader found.
 -- Assumes nothing.
-use Rattle.std.specs.Prelude.{◌≡◌, cond, List, ℕ, eqb, Result, Ok, Err}
+use Rattle.std.specs.Prelude.{◌≡◌, List, ℕ, Result, Ok, Err}
 use Rattle.location.specs.declared.Label.{Label}
 use Rattle.rules.specs.declared.Refusal.{Refusal}
-use Rattle.rules.specs.Rules.Expressions.{Expr}
+use Rattle.rules.specs.Rules.Expressions.{Expr, sound}
 use Rattle.rules.specs.Rules.Instructions.{Instr, skip, assign, load, store, jmp, beqz, cassign, spbarr}
 use Rattle.rules.specs.Rules.JobFile.{Read, got, refused, postfix}
+use Rattle.token.specs.declared.Expression.{Expression}
 use Rattle.token.specs.Meaning.{tokens_of}
 use Rattle.instruction.specs.declared.Decoded.{Decoded}
 use Rattle.instruction.specs.declared.Instruction.{Instruction}
@@ -30,9 +31,10 @@ meaning p (BranchZero r l) = beqz r l.0
 meaning p (AssignIf r c e) = cassign r (tokens_of p c) (tokens_of p e)
 meaning p Barrier = spbarr
 
--- the instruction of a kind, 1 to 3
-abbrev pub with_register_of : ℕ → ℕ → Expr → Instr
-with_register_of k = cond (eqb k 1) assign (cond (eqb k 2) load store)
+-- what is made of a register and an expression is the rules' instruction f of them
+pub record Makes (p : List ℕ) (made : ℕ → Expression → Instruction → Type 0) (f : ℕ → Expr → Instr) : Type 0 where
+  pub means : (r : ℕ) (e : Expression) (i : Instruction) → made r e i → meaning p i ≡ f r (tokens_of p e)
+  pub tested : (r : ℕ) (e : Expr) → postfix (f r e) ≡ sound e
 
 abbrev pub instruction_read_meaning : List ℕ → Result Decoded Refusal → Read Instr
 instruction_read_meaning p (Ok d) = got (meaning p d.instruction) d.next

@@ -2,12 +2,13 @@
 #![tactic(auto)]
 
 ghost use Rattle.std.specs.Prelude.{◌≡◌, List, ℕ, ◌<◌, get_or};
-ghost use Rattle.rules.specs.Rules.Instructions.{kind};
+ghost use Rattle.rules.specs.Rules.Expressions.{Expr};
+ghost use Rattle.rules.specs.Rules.Instructions.{Instr, kind};
 ghost use Rattle.rules.specs.Rules.JobFile.{word_of, register, with_register, jump, branch, conditional, instr};
 ghost use Rattle.rules.specs.Rules.Plain.{Code};
 ghost use Rattle.rules.specs.Rules.Mispredicting.{remaining};
 ghost use Rattle.token.specs.Meaning.{tokens_of};
-ghost use Rattle.instruction.specs.Meaning.{register_read_meaning, label_read_meaning, meaning, with_register_of, instruction_read_meaning, InstructionTested};
+ghost use Rattle.instruction.specs.Meaning.{register_read_meaning, label_read_meaning, meaning, instruction_read_meaning, InstructionTested, Makes};
 
 use location::{Label, Location};
 use rules::Refusal;
@@ -57,27 +58,20 @@ pub struct Decoded {
     pub sound: bool,
 }
 
-// The instruction of a kind, 1 to 3, with a register and an expression.
-pub fn with_register(kind: u8, r: u8, e: Expression) -> Instruction
-    ensures { (p : List ℕ) → meaning p result ≡ with_register_of kind r (tokens_of p e) }
-{
-    if kind == 1 {
-        return Instruction::Assign(r, e);
-    }
-    if kind == 2 {
-        return Instruction::Load(r, e);
-    }
-    Instruction::Store(r, e)
-}
-
-fn read_with_register(p: &[u8], at: usize, kind: u8) -> Result<Decoded, Refusal>
-    ensures { (instruction_read_meaning p.now result ≡ with_register (with_register_of kind) p.now at)
-        × InstructionTested p.now result }
+// The fields of an instruction with a register and an expression, which `make` makes of them.
+fn read_with_register<F: Fn(u8, Expression) -> Instruction>(
+    p: &[u8],
+    at: usize,
+    make: F,
+) -> Result<Decoded, Refusal>
+    requires { F.IsAlwaysCallable make }
+    ensures { (f : ℕ → Expr → Instr) → Makes p.now (F.post make) f
+        → (instruction_read_meaning p.now result ≡ with_register f p.now at) × InstructionTested p.now result }
 {
     let (r, start) = read_register(p, at)?;
     let e = token::read_expression(p, start)?;
     Ok(Decoded {
-        instruction: with_register(kind, r, e.expression),
+        instruction: make(r, e.expression),
         next: e.next,
         sound: e.sound,
     })
@@ -133,9 +127,9 @@ pub fn decode(p: &[u8], at: usize) -> Result<Decoded, Refusal>
             next,
             sound: true,
         }),
-        1 => read_with_register(p, next, 1),
-        2 => read_with_register(p, next, 2),
-        3 => read_with_register(p, next, 3),
+        1 => read_with_register(p, next, |r, e| Instruction::Assign(r, e)),
+        2 => read_with_register(p, next, |r, e| Instruction::Load(r, e)),
+        3 => read_with_register(p, next, |r, e| Instruction::Store(r, e)),
         4 => read_jump(p, next),
         5 => read_branch(p, next),
         6 => read_conditional(p, next),

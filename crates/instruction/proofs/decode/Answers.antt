@@ -1,7 +1,8 @@
 -- `instruction::decode` meets its contract, by the kind byte. Assumes nothing.
 use mathlib.Core.Path.{refl, sym, ◌∙◌}
 use Rattle.instruction.specs.Fields.{instr-kind, instr_unknown}
-use Rattle.instruction.proofs.Laws.{beyond}
+use Rattle.std.proofs.Common.{rules, arith}
+use Rattle.rules.specs.Rules.Instructions.{assign, load, store}
 use Rattle.rules.specs.Rules.JobFile.{instr, fields}
 use Rattle.token.specs.Bytes.{byte_past}
 use Rattle.instruction.proofs.decode.Goals as goal
@@ -19,29 +20,23 @@ returns-in-0 c =
 pub returns-in-1 : goal.returns-in-1
 unfolding fields
 returns-in-1 c =
-    let a = c.args in (
-      c.read_with_register.ensures.0 ∙ sym
-          (instr-kind a.p.now a.at 1 c.if-p-at.false c.in-1.is),
-      c.read_with_register.ensures.1,
-    )
+    let a = c.args in
+    let r = c.read_with_register.ensures assign (record { means = λ r e i m. search rules; tested = λ r e. refl }) in
+    (r.0 ∙ sym (instr-kind a.p.now a.at 1 c.if-p-at.false c.in-1.is), r.1)
 
 pub returns-in-2 : goal.returns-in-2
 unfolding fields
 returns-in-2 c =
-    let a = c.args in (
-      c.read_with_register-in-2.ensures.0 ∙ sym
-          (instr-kind a.p.now a.at 2 c.if-p-at.false c.in-2.is),
-      c.read_with_register-in-2.ensures.1,
-    )
+    let a = c.args in
+    let r = c.read_with_register-in-2.ensures load (record { means = λ r e i m. search rules; tested = λ r e. refl }) in
+    (r.0 ∙ sym (instr-kind a.p.now a.at 2 c.if-p-at.false c.in-2.is), r.1)
 
 pub returns-in-3 : goal.returns-in-3
 unfolding fields
 returns-in-3 c =
-    let a = c.args in (
-      c.read_with_register-in-3.ensures.0 ∙ sym
-          (instr-kind a.p.now a.at 3 c.if-p-at.false c.in-3.is),
-      c.read_with_register-in-3.ensures.1,
-    )
+    let a = c.args in
+    let r = c.read_with_register-in-3.ensures store (record { means = λ r e i m. search rules; tested = λ r e. refl }) in
+    (r.0 ∙ sym (instr-kind a.p.now a.at 3 c.if-p-at.false c.in-3.is), r.1)
 
 pub returns-in-4 : goal.returns-in-4
 unfolding fields
@@ -71,11 +66,4 @@ returns-in-7 c =
     (sym (instr-kind a.p.now a.at 7 c.if-p-at.false c.in-7.is), refl)
 
 pub returns-in_default : goal.returns-in_default
-returns-in_default c =
-    let a = c.args in
-    let m = c.in_default.in_default-own.rest in (
-      sym (instr_unknown a.p.now a.at c.if-p-at.false
-          (beyond _ m.0.0.0.0.0.0.0.1 m.0.0.0.0.0.0.1 m.0.0.0.0.0.1 m.0.0.0.0.1 m.0.0.0.1 m.0.0.1
-          m.0.1 m.1)),
-      tt,
-    )
+returns-in_default c = let a = c.args in (sym (instr_unknown a.p.now a.at c.if-p-at.false (omega arith)), tt)
