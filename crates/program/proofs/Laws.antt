@@ -4,12 +4,11 @@ use mathlib.Core.Path.{◌≡◌, refl, ap}
 use mathlib.Core.Bool.{true}
 use mathlib.Core.List.{List, [], ◌∷◌}
 use Prim.Native.Nat.{ℕ, suc, ◌+◌}
-use native.Mathlib.Omega.{arith}
+use Rattle.std.specs.Prelude.{Ok, Err}
 use Rattle.rules.specs.declared.Refusal.{Refusal}
 use Rattle.rules.specs.Rules.Instructions.{Instr, skip}
 use Rattle.rules.specs.Rules.JobFile.{Read, got, refused, and_then, instr, instruction, program}
 use Rattle.rules.specs.Theorems.Readers.{readable, next_offset, value_or, unread, first_read}
-use Rattle.program.specs.declared.Checked.TheVariants as check
 use Rattle.program.specs.Checks.{checked_of}
 use Rattle.program.specs.Programs.{instruction-found}
 
@@ -18,23 +17,23 @@ first : (R : Read (List Instr)) (x : Instr) → checked_of (and_then R (λ xs q.
 first (got xs q) x = refl
 first (refused r) x = refl
 
-onward : (R : Read Instr) (f : ℕ → Read (List Instr)) (q : ℕ) → check.Next q ≡ checked_of R
+onward : (R : Read Instr) (f : ℕ → Read (List Instr)) (q : ℕ) → Ok q ≡ checked_of R
     → checked_of (and_then R (λ x q. and_then (f q) (λ xs q'. got (x ∷ xs) q'))) ≡ checked_of (f q)
 onward (got x q') f q e = let e₁ : q ≡ q' = cc in rw e₁ (first (f q') x)
-onward (refused r) f q e = absurd (let z : ◌≡◌ {A = ℕ} 0 1 = cc in omega arith)
+onward (refused r) f q e = absurd (cc)
 
-pub program-next : (n k i : ℕ) (p : List ℕ) (at q : ℕ) → check.Next q ≡ checked_of (instruction n i p at)
+pub program-next : (n k i : ℕ) (p : List ℕ) (at q : ℕ) → Ok q ≡ checked_of (instruction n i p at)
     → checked_of (program n (suc k) i p at) ≡ checked_of (program n k (i + 1) p q)
 unfolding program
 program-next n k i p at q e = onward (instruction n i p at) (program n k (i + 1) p) q e
 
-halted : (R : Read Instr) (f : ℕ → Read (List Instr)) (r : Refusal) → check.Refused r ≡ checked_of R
-    → checked_of (and_then R (λ x q. and_then (f q) (λ xs q'. got (x ∷ xs) q'))) ≡ check.Refused r
-halted (got x q') f r e = absurd (let z : ◌≡◌ {A = ℕ} 0 1 = cc in omega arith)
-halted (refused r') f r e = let e₁ : r' ≡ r = cc in ap check.Refused e₁
+halted : (R : Read Instr) (f : ℕ → Read (List Instr)) (r : Refusal) → Err r ≡ checked_of R
+    → checked_of (and_then R (λ x q. and_then (f q) (λ xs q'. got (x ∷ xs) q'))) ≡ Err r
+halted (got x q') f r e = absurd (cc)
+halted (refused r') f r e = let e₁ : r' ≡ r = cc in ap Err e₁
 
-pub program-refused : (n k i : ℕ) (p : List ℕ) (at : ℕ) (r : Refusal) → check.Refused r ≡ checked_of (instruction n i p at)
-    → checked_of (program n (suc k) i p at) ≡ check.Refused r
+pub program-refused : (n k i : ℕ) (p : List ℕ) (at : ℕ) (r : Refusal) → Err r ≡ checked_of (instruction n i p at)
+    → checked_of (program n (suc k) i p at) ≡ Err r
 unfolding program
 program-refused n k i p at r e = halted (instruction n i p at) (program n k (i + 1) p) r e
 

@@ -3,7 +3,7 @@
 -- Assumes nothing.
 use mathlib.Core.Path.{◌≡◌}
 use mathlib.Core.Bool.{true}
-use Prim.Native.Nat.{◌+◌, ◌-◌, ◌≤◌}
+use Prim.Native.Nat.{◌+◌, ◌-◌}
 use lib.ListN.{length}
 use lib.Seq.{sets}
 use Rattle.rules.specs.Rules.JobFile.{program}
@@ -11,10 +11,8 @@ use Rattle.rules.specs.Theorems.Readers.{readable}
 use Rattle.program.specs.Words.{words_from}
 use Rattle.program.proofs.write_words.Given as goal
 
-abbrev pub invariant-loop-i : goal.invariant-loop-i
-invariant-loop-i l =
-    (l.i ≤ l.n) × (length l.table ≡ length l.initial.table) × (sets l.table (l.base + l.i) (words_from (l.n - l.i) l.p l.at) ≡ sets l.initial.table l.base (words_from l.n l.p 0))
-    × (readable (program l.n (l.n - l.i) l.i l.p l.at) ≡ true)
-
-abbrev pub decreases-loop-i : goal.decreases-loop-i
-decreases-loop-i l = l.n - l.i
+abbrev pub invariant-loop-label : goal.invariant-loop-label
+invariant-loop-label l =
+    (length l.table ≡ length l.initial.table)
+    × (sets l.table (l.base + l.label) (words_from (l.n - l.label) l.p l.at) ≡ sets l.initial.table l.base (words_from l.n l.p 0))
+    × (readable (program l.n (l.n - l.label) l.label l.p l.at) ≡ true)
