@@ -1,14 +1,13 @@
 -- The part that stands at an offset, by the byte after the spaces: a letter or digit, a byte that ends the line, a bracket, another.
 -- Assumes nothing.
 use mathlib.Core.Path.{◌≡◌, refl, sym, ap, ◌∙◌}
-use mathlib.Core.Bool.{Bool, true, false, ◌||◌, true≢false}
+use mathlib.Core.Bool.{Bool, true, false, true≢false}
 use mathlib.Core.List.{List, [], ◌∷◌}
 use Prim.{⊥}
 use Prim.Native.Nat.{ℕ, suc, ◌+◌, ◌-◌, ◌<◌, ◌≤◌}
 use native.Mathlib.Numerals.{add-one}
 use native.Mathlib.Omega.{arith}
-use borrow.Author.Tests.{le-leb, lt-leb, eq-eqb, ne_eqb}
-use lib.Dec.{leb}
+use borrow.Author.Tests.{eq-eqb, ne_eqb}
 use lib.ListN.{length, get_or, take, drop, length-drop, drop_of_length-le}
 use lib.Seq.{drop-cons, get_or-drop, drop-drop}
 use Rattle.rules.specs.Rules.Parts.{in_name, Part, name, other, starts_name, extended, named, byte_parts, parts}
@@ -17,28 +16,6 @@ use Rattle.lexer.specs.Fronts.{front_met, front_not_met, front-nil, front-within
 use Rattle.rules.proofs.Theorems.TextParts.{parts-byte, named-byte, starts_byte, nothing_ends, opening-parts, closing_parts}
 use Rattle.lexer.specs.Fronts.{parts-nil, parts-newline, parts-blanks}
 use Rattle.lexer.specs.declared.Part.TheVariants.{Name, Opening, Closing}
-
--- ---- a letter or a digit, by the byte's order
-pub before-digits : (b : ℕ) → b < 48 → false ≡ in_name b
-unfolding in_name
-before-digits b h = rw (lt-leb 97 b (let z : b < 97 = omega arith in z), lt-leb 48 b h)
-
-pub digit : (b : ℕ) → 48 ≤ b → b ≤ 57 → true ≡ in_name b
-unfolding in_name
-digit b h k = rw (lt-leb 97 b (let z : b < 97 = omega arith in z), le-leb 48 b h, le-leb b 57 k)
-
-pub between : (b : ℕ) → 57 < b → b < 97 → false ≡ in_name b
-unfolding in_name
-between b h k = rw (lt-leb 97 b k, le-leb 48 b (let z : 48 ≤ b = omega arith in z), lt-leb b 57 h)
-
-pub letter : (b : ℕ) → 97 ≤ b → leb b 122 ≡ in_name b
-unfolding in_name
-letter b h =
-    rw (le-leb 97 b h, le-leb 48 b (let z : 48 ≤ b = omega arith in z), lt-leb b 57 (let z : 57 < b = omega arith in z)) (by (leb b 122))
-  where
-    by : (t : Bool) → t ≡ (t || false)
-    by true = refl
-    by false = refl
 
 -- ---- a name
 -- nothing of a name stands where none starts

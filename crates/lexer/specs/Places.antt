@@ -1,6 +1,7 @@
 -- What stands at an offset of a text: how many bytes of one kind, the first part from there on, and the places that reading goes on to.
 -- Assumes nothing.
-use Rattle.std.specs.Prelude.{◌≡◌, Bool, not, cond, List, [], ◌∷◌, ℕ, suc, ◌+◌, ◌^◌, ◌<◌, ◌≤◌, eqb, length, take, drop}
+use Rattle.std.specs.Prelude.{◌≡◌, Bool, not, List, [], ◌∷◌, ℕ, ◌+◌, ◌^◌, ◌<◌, ◌≤◌, eqb, length, take, drop}
+use Rattle.std.specs.List.{prefix_len}
 use Rattle.std.proofs.Common.{subst}
 use Rattle.rules.specs.Rules.Parts as rules
 use Rattle.rules.specs.Rules.Parts.{newline, space, in_name, parts, segment}
@@ -11,8 +12,12 @@ use Rattle.lexer.specs.declared.Part.TheVariants.{End, Name, Opening, Closing, O
 
 -- how many bytes at the front meet a test, up to the first that does not
 unfoldable pub front_length : (ℕ → Bool) → List ℕ → ℕ
-front_length test [] = 0
-front_length test (b ∷ bs) = cond (test b) (suc (front_length test bs)) 0
+front_length test bs = prefix_len test bs
+
+-- the offset after the bytes that go on from an offset, where the test of the code says what a test of the rules says
+abbrev pub SpanEnd : (ℕ → Bool → Type 0) → List ℕ → ℕ → ℕ → Type 0
+SpanEnd gives text at end =
+    (test : ℕ → Bool) → ((b : ℕ) (met : Bool) → gives b met → met ≡ test b) → end ≡ at + front_length test (drop at text)
 
 abbrev pub is_space : ℕ → Bool
 is_space b = eqb b space

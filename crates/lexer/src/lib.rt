@@ -3,64 +3,47 @@
 
 ghost use Rattle.std.specs.Prelude.{◌≡◌, ◌+◌, drop};
 ghost use Rattle.rules.specs.Rules.Parts.{in_name};
-ghost use Rattle.lexer.specs.Places.{blanks, name_length, line_length, PartTold, Passable, blanks_passed, line_passed, line_at};
+ghost use Rattle.lexer.specs.Places.{SpanEnd, blanks, name_length, line_length, PartTold, Passable, blanks_passed, line_passed, line_at};
 
 // Whether a byte is a letter or a digit.
+#[tactic(auto, unfolding(rules::specs::Rules::Parts::in_name))]
 fn in_name(b: u8) -> bool
     ensures { result ≡ in_name b }
 {
-    if b < b'0' {
-        return false;
-    }
-    if b <= b'9' {
-        return true;
-    }
-    if b < b'a' {
-        return false;
-    }
-    b <= b'z'
+    matches!(b, b'0'..=b'9' | b'a'..=b'z')
+}
+
+// The offset after the bytes that stand from an offset on and meet a test, up to the first that does not.
+fn span_end<F: Fn(u8) -> bool>(text: &[u8], at: usize, goes_on: F) -> usize
+    requires { F.IsAlwaysCallable goes_on }
+    ensures { SpanEnd (F.post goes_on) text.now at result }
+{
+    at + text
+        .iter()
+        .skip(at)
+        .take_while(|byte| goes_on(**byte))
+        .count()
 }
 
 // The offset after the spaces that stand at an offset.
 fn blanks_end(text: &[u8], at: usize) -> usize
     ensures { result ≡ at + blanks (drop at text.now) }
 {
-    let mut i = at;
-    while i < text.len() {
-        if text[i] != b' ' {
-            return i;
-        }
-        i += 1;
-    }
-    i
+    span_end(text, at, |byte| byte == b' ')
 }
 
 // The offset after the letters and digits that stand at an offset.
 fn name_end(text: &[u8], at: usize) -> usize
     ensures { result ≡ at + name_length (drop at text.now) }
 {
-    let mut i = at;
-    while i < text.len() {
-        if !in_name(text[i]) {
-            return i;
-        }
-        i += 1;
-    }
-    i
+    span_end(text, at, in_name)
 }
 
 // The offset of the newline that ends the line at an offset, or of the text's end.
 fn line_end(text: &[u8], at: usize) -> usize
     ensures { result ≡ at + line_length (drop at text.now) }
 {
-    let mut i = at;
-    while i < text.len() {
-        if text[i] == b'\n' {
-            return i;
-        }
-        i += 1;
-    }
-    i
+    span_end(text, at, |byte| byte != b'\n')
 }
 
 // A part of a line: of a name its first byte and the offset after it, of a bracket the offset after it. A remark and the line's
@@ -79,13 +62,11 @@ pub fn part_at(text: &[u8], at: usize) -> Part
     ensures { PartTold text.now at result }
 {
     let start = blanks_end(text, at);
-    if text.len() <= start {
+    let Some(&byte) = text.get(start) else {
         return Part::End;
-    }
-    let byte = text[start];
+    };
     if in_name(byte) {
-        let end = name_end(text, start);
-        return Part::Name(start, end);
+        return Part::Name(start, name_end(text, start));
     }
     match byte {
         b'\n' => Part::End,
@@ -107,8 +88,10 @@ pub struct Place {
 pub fn blanks_passed(text: &[u8], p: Place) -> Place
     ensures { result ≡ blanks_passed text.now p }
 {
-    let at = blanks_end(text, p.at);
-    Place { at, line: p.line }
+    Place {
+        at: blanks_end(text, p.at),
+        ..p
+    }
 }
 
 // The place after the newline that ends the line at a place; after the last line, one past the text's end.
@@ -116,9 +99,8 @@ pub fn line_passed(text: &[u8], p: Place) -> Place
     requires { Passable text.now p }
     ensures { result ≡ line_passed text.now p }
 {
-    let end = line_end(text, p.at);
     Place {
-        at: end + 1,
+        at: line_end(text, p.at) + 1,
         line: p.line + 1,
     }
 }
@@ -127,8 +109,7 @@ pub fn line_passed(text: &[u8], p: Place) -> Place
 pub fn pass_blanks(text: &[u8], place: &mut Place)
     ensures { place.new ≡ blanks_passed text.now place.old }
 {
-    let next = blanks_passed(text, *place);
-    *place = next;
+    *place = blanks_passed(text, *place);
 }
 
 // The place is moved past the line, as `line_passed` tells.
@@ -136,8 +117,7 @@ pub fn pass_line(text: &[u8], place: &mut Place)
     requires { Passable text.now place.old }
     ensures { place.new ≡ line_passed text.now place.old }
 {
-    let next = line_passed(text, *place);
-    *place = next;
+    *place = line_passed(text, *place);
 }
 
 // A line: where its first part may stand, and the place of the next line.

@@ -14,4 +14,4 @@ overflow_add-result c =
 
 pub returns : goal.returns
 returns c =
-    let p = c.args.p in λ i. record { at = c.line_end-end.ensures i + 1; line = p.line + 1 }
+    let p = c.args.p in λ i. record { at = c.line_end.ensures i + 1; line = p.line + 1 }
