@@ -5,19 +5,19 @@ use mathlib.Core.Bool.{Bool, true, false, not, ◌&&◌, cond}
 use mathlib.Core.List.{List, [], ◌∷◌}
 use mathlib.Core.Option.{none, some}
 use Prim.{⊥}
-use Prim.Native.Nat.{ℕ, suc, ◌+◌, ◌-◌, ◌*◌, ◌^◌, ◌<◌, ◌≤◌}
+use Prim.Native.Nat.{ℕ, ◌+◌, ◌-◌, ◌*◌, ◌^◌, ◌<◌, ◌≤◌}
 use native.Mathlib.Nat.{le_refl}
 use native.Mathlib.Numerals.{add-one}
 use native.Mathlib.Omega.{arith}
-use borrow.Author.Tests.{le-leb, lt-leb, lt-ltb, le-ltb, ltb-true, ltb-false, eq-eqb, ne_eqb}
-use lib.Dec.{ltb}
-use lib.ListN.{length, get_or, drop, drop_of_length-le}
+use borrow.Author.Tests.{le-leb, lt-ltb, le-ltb, ltb-true, ltb-false, eq-eqb, ne_eqb, eqb-true, eqb-false}
+use lib.Dec.{eqb, ltb}
+use lib.ListN.{length, get_or, take, drop, drop_of_length-le}
 use lib.Seq.{drop-cons}
 use Rattle.location.specs.Sets.{registers}
-use Rattle.rules.specs.Rules.Parts.{segment}
+use Rattle.std.proofs.Common.{Option, Some, None}
+use Rattle.std.proofs.lemmas.List.{take_all}
+use Rattle.rules.specs.Rules.Parts.{is_digit}
 use Rattle.rules.specs.Rules.TextReading.{digits_only, no_needless_zero, value_after, number_below, constant_named, register_named}
-use Rattle.names.specs.declared.Number.{Number}
-use Rattle.names.specs.declared.Number.TheVariants as number
 use Rattle.names.specs.Meaning.{number_of, digits_number, register_byte}
 
 -- the value never falls as digits follow
@@ -32,22 +32,18 @@ module _ (w : List ℕ) (x i : ℕ) where
   byte-first : i < length w → digits_number x (drop i w) ≡ digits_number x (get_or w i 0 ∷ drop (i + 1) w)
   byte-first h = rw (add-one, drop-cons w i 0 h)
 
-  pub number-below : i < length w → get_or w i 0 < 48 → number.Missing ≡ digits_number x (drop i w)
+  pub number-other : i < length w → is_digit (get_or w i 0) ≡ false → None ≡ digits_number x (drop i w)
   unfolding digits_number digits_only
-  number-below h l = sym (byte-first h ∙ rw (lt-leb 48 (get_or w i 0) l))
+  number-other h e = sym (byte-first h ∙ rw e)
 
-  pub number-above : i < length w → 57 < get_or w i 0 → number.Missing ≡ digits_number x (drop i w)
-  unfolding digits_number digits_only
-  number-above h l = sym (byte-first h ∙ rw (le-leb 48 (get_or w i 0) (omega arith), lt-leb (get_or w i 0) 57 l))
-
-  pub number_large : i < length w → 2 ^ 64 ≤ 10 * x + (get_or w i 0 - 48) → number.Missing ≡ digits_number x (drop i w)
+  pub number_large : i < length w → 2 ^ 64 ≤ 10 * x + (get_or w i 0 - 48) → None ≡ digits_number x (drop i w)
   unfolding digits_number value_after
   number_large h l =
       let v = value_after x (get_or w i 0 ∷ drop (i + 1) w) in
       let g = value_grows (10 * x + (get_or w i 0 - 48)) (drop (i + 1) w) in
       sym (byte-first h ∙ none_large (digits_only (get_or w i 0 ∷ drop (i + 1) w)) v (le-ltb v (2 ^ 64) (omega (arith, g))))
     where
-      none_large : (b : Bool) (v : ℕ) → ltb v (2 ^ 64) ≡ false → cond (b && ltb v (2 ^ 64)) (number.Found v) number.Missing ≡ number.Missing
+      none_large : (b : Bool) (v : ℕ) → ltb v (2 ^ 64) ≡ false → cond (b && ltb v (2 ^ 64)) (Some v) None ≡ None
       none_large true v e = rw e
       none_large false v e = refl
 
@@ -56,7 +52,7 @@ module _ (w : List ℕ) (x i : ℕ) where
   unfolding digits_number digits_only value_after
   number-next h l u = sym (byte-first h ∙ rw (le-leb 48 (get_or w i 0) l, le-leb (get_or w i 0) 57 u))
 
-  pub number_done : length w ≤ i → x < 2 ^ 64 → number.Found x ≡ digits_number x (drop i w)
+  pub number_done : length w ≤ i → x < 2 ^ 64 → Some x ≡ digits_number x (drop i w)
   unfolding digits_number digits_only value_after
   number_done h l = rw (drop_of_length-le w {i = i} h, lt-ltb x (2 ^ 64) l)
 
@@ -65,42 +61,56 @@ well_led : (w : List ℕ) → no_needless_zero w ≡ true → digits_number 0 w 
 unfolding digits_number constant_named number_below
 well_led w e = rw e (go (digits_only w && ltb (value_after 0 w) (2 ^ 64)))
   where
-    go : (b : Bool) → cond b (number.Found (value_after 0 w)) number.Missing ≡ number_of (cond b (some (value_after 0 w)) none)
+    go : (b : Bool) → cond b (Some (value_after 0 w)) None ≡ number_of (cond b (some (value_after 0 w)) none)
     go true = refl
     go false = refl
 
-not_well_led : (w : List ℕ) → no_needless_zero w ≡ false → number.Missing ≡ number_of (constant_named w)
+not_well_led : (w : List ℕ) → no_needless_zero w ≡ false → None ≡ number_of (constant_named w)
 unfolding constant_named number_below
 not_well_led w e = rw e (go (digits_only w))
   where
-    go : (b : Bool) → number.Missing ≡ number_of (cond (b && false) (some (value_after 0 w)) none)
+    go : (b : Bool) → None ≡ number_of (cond (b && false) (some (value_after 0 w)) none)
     go true = refl
     go false = refl
 
-pub constant-empty : (w : List ℕ) → length w ≡ 0 → number.Missing ≡ number_of (constant_named w)
+pub constant-empty : (w : List ℕ) → length w < 1 → None ≡ number_of (constant_named w)
 constant-empty [] e = not_well_led [] refl
 constant-empty (b ∷ w) e = absurd (omega arith)
 
-pub constant-one : (w : List ℕ) → length w ≡ 1 → digits_number 0 w ≡ number_of (constant_named w)
-constant-one [] e = absurd (omega arith)
-constant-one (b ∷ []) e = well_led (b ∷ []) refl
-constant-one (b ∷ d ∷ w) e = absurd (omega arith)
+pub constant-one : (w : List ℕ) → 1 ≤ length w → length w < 2 → digits_number 0 w ≡ number_of (constant_named w)
+constant-one [] h e = absurd (omega arith)
+constant-one (b ∷ []) h e = well_led (b ∷ []) refl
+constant-one (b ∷ d ∷ w) h e = absurd (omega arith)
 
-pub constant-zero_led : (w : List ℕ) → 1 < length w → get_or w 0 0 ≡ 48 → number.Missing ≡ number_of (constant_named w)
+pub constant-zero_led : (w : List ℕ) → 2 ≤ length w → get_or w 0 0 ≡ 48 → None ≡ number_of (constant_named w)
 constant-zero_led [] h e = absurd (omega arith)
 constant-zero_led (b ∷ []) h e = absurd (omega arith)
 constant-zero_led (b ∷ d ∷ w) h e = not_well_led (b ∷ d ∷ w) (ap not (eq-eqb b 48 e))
 
-pub constant-more : (w : List ℕ) → 1 < length w → (get_or w 0 0 ≡ 48 → ⊥) → digits_number 0 w ≡ number_of (constant_named w)
-constant-more [] h e = absurd (omega arith)
-constant-more (b ∷ []) h e = absurd (omega arith)
-constant-more (b ∷ d ∷ w) h e = well_led (b ∷ d ∷ w) (ap not (ne_eqb b 48 e))
+pub constant-first : (w : List ℕ) → 1 ≤ length w → (get_or w 0 0 ≡ 48 → ⊥) → digits_number 0 w ≡ number_of (constant_named w)
+constant-first [] h e = absurd (omega arith)
+constant-first (b ∷ []) h e = well_led (b ∷ []) refl
+constant-first (b ∷ d ∷ w) h e = well_led (b ∷ d ∷ w) (ap not (ne_eqb b 48 e))
+
+-- ---- the bytes after the first
+abbrev pub others : List ℕ → List ℕ
+others w = take (length w - 1) (drop 1 w)
+
+others-length : (w : List ℕ) → length (others w) ≡ length w - 1
+others-length [] = refl
+others-length (b ∷ w) = ap length (take_all (length (b ∷ w) - 1) w (omega arith)) ∙ (let e : length w ≡ length (b ∷ w) - 1 = omega arith in e)
+
+pub some_others : (w : List ℕ) → false ≡ eqb (length (others w)) 0 → 2 ≤ length w
+some_others w e = let n = eqb-false (length (others w)) 0 (sym e) in omega (arith, others-length w, n)
+
+pub no_others : (w : List ℕ) → true ≡ eqb (length (others w)) 0 → length w < 2
+no_others w e = omega (arith, others-length w, eqb-true (length (others w)) 0 (sym e))
 
 -- ---- a register: the letter r and then a constant below 16
--- the byte of the register with a number, if it is one
-abbrev register_of : Number → ℕ
-register_of (number.Found x) = cond (ltb x registers) x 16
-register_of number.Missing = 16
+-- the register with a number, if it is one
+abbrev register_of : Option ℕ → Option ℕ
+register_of (Some x) = cond (ltb x registers) (Some x) None
+register_of None = None
 
 narrowed : (w : List ℕ) → register_of (number_of (constant_named w)) ≡ register_byte (number_below registers w)
 unfolding constant_named number_below
@@ -115,31 +125,21 @@ narrowed w = go (digits_only w) (no_needless_zero w) (value_after 0 w) (ltb (val
     go true true v false true e f = absurd (omega (arith, ltb-false v (2 ^ 64) e, ltb-true v registers f))
     go true true v false false e f = refl
 
-module _ (t : List ℕ) (s e : ℕ) where
-  pub register-empty : s ≡ e → 16 ≡ register_byte (register_named (segment t s e))
+pub register-other : (w : List ℕ) → ((number : List ℕ) → w ≡ 114 ∷ number → ⊥) → None ≡ register_byte (register_named w)
+unfolding register_named
+register-other [] other = refl
+register-other (b ∷ w) other = rw (ne_eqb b 114 (λ e. other w (ap (λ (x : ℕ). x ∷ w) e)))
+
+module _ {w number : List ℕ} (split : w ≡ 114 ∷ number) where
+  numbered : register_of (number_of (constant_named number)) ≡ register_byte (register_named w)
   unfolding register_named
-  register-empty same = let none_left : e - s ≡ 0 = omega arith in rw none_left
+  numbered = rw split (narrowed number)
 
-  module _ (within : e ≤ length t) (more : s < e) where
-    first_byte : segment t s e ≡ get_or t s 0 ∷ segment t (s + 1) e
-    first_byte =
-        let n : e - s ≡ suc (e - (s + 1)) = omega arith in
-        rw (n, drop-cons t s 0 (omega arith), add-one)
+  pub register-found : {x : ℕ} → Some x ≡ number_of (constant_named number) → x < 16 → Some x ≡ register_byte (register_named w)
+  register-found {x} is l = sym (rw (lt-ltb x registers l)) ∙ ap register_of is ∙ numbered
 
-    pub register-other : (get_or t s 0 ≡ 114 → ⊥) → 16 ≡ register_byte (register_named (segment t s e))
-    unfolding register_named
-    register-other other = rw (first_byte, ne_eqb (get_or t s 0) 114 other)
+  pub register-above : {x : ℕ} → Some x ≡ number_of (constant_named number) → 16 ≤ x → None ≡ register_byte (register_named w)
+  register-above {x} is l = sym (rw (le-ltb x registers l)) ∙ ap register_of is ∙ numbered
 
-    module _ (letter : get_or t s 0 ≡ 114) (n : Number) (told : n ≡ number_of (constant_named (segment t (s + 1) e))) where
-      numbered : register_of n ≡ register_byte (register_named (segment t s e))
-      unfolding register_named
-      numbered = rw (first_byte, eq-eqb (get_or t s 0) 114 letter) (ap register_of told ∙ narrowed (segment t (s + 1) e))
-
-      pub register-found : (x : ℕ) → n ≡ number.Found x → x < 16 → x ≡ register_byte (register_named (segment t s e))
-      register-found x is l = sym (ap register_of is ∙ rw (lt-ltb x registers l)) ∙ numbered
-
-      pub register-above : (x : ℕ) → n ≡ number.Found x → 16 ≤ x → 16 ≡ register_byte (register_named (segment t s e))
-      register-above x is l = sym (ap register_of is ∙ rw (le-ltb x registers l)) ∙ numbered
-
-      pub register_missing : n ≡ number.Missing → 16 ≡ register_byte (register_named (segment t s e))
-      register_missing is = sym (ap register_of is) ∙ numbered
+  pub register_missing : None ≡ number_of (constant_named number) → None ≡ register_byte (register_named w)
+  register_missing is = ap register_of is ∙ numbered

@@ -1,35 +1,26 @@
 -- `register_named` meets its contract. Assumes nothing.
-use native.Mathlib.Omega.{arith}
-use Rattle.names.proofs.Numbers.{register-empty, register-other, register-found, register-above, register_missing}
+use Rattle.std.proofs.Common.{◌∙◌, [], ◌∷◌, Some, None, arith}
+use Rattle.std.proofs.lemmas.Slice.Eq.{strip_prefix_is}
+use Rattle.std.proofs.lemmas.Bool.Decides.{Decides-eqb}
+use Rattle.names.proofs.Numbers.{register-other, register-found, register-above, register_missing}
 use Rattle.names.proofs.register_named.Goals as goal
 
-pub returns-then-start-end : goal.returns-then-start-end
-returns-then-start-end c =
-    let a = c.args in
-    register-empty a.text.now a.start a.end c.if-start-end.true
+pub returns-in_err-number : goal.returns-in_err-number
+returns-in_err-number c =
+    let name = c.args.name.now in
+    c.from_residual.ensures ∙ register-other name (strip_prefix_is Decides-eqb name (114 ∷ []) None c.in_err-number.ensures.cases)
 
-pub returns-then-text-start-ne114 : goal.returns-then-text-start-ne114
-returns-then-text-start-ne114 c =
-    let a = c.args in
-    register-other a.text.now a.start a.end c.requires.1 (omega arith) c.if-text-start-ne114.true
+pub returns-in_err-register : goal.returns-in_err-register
+returns-in_err-register c =
+    let split = strip_prefix_is Decides-eqb c.args.name.now (114 ∷ []) (Some c.in_ok-number.number) c.in_ok-number.ensures.cases in
+    c.from_residual-in_err-register.ensures ∙ register_missing split c.in_err-register.ensures
 
-pub returns-then-x-ge16 : goal.returns-then-x-ge16
-returns-then-x-ge16 c =
-    let a = c.args in
-    let told = c.constant_named in
-    register-above a.text.now a.start a.end c.requires.1 (omega arith) c.if-text-start-ne114.false told.result told.ensures _
-    c.in-Found.is c.if-x-ge16.true
+pub returns-then-register : goal.returns-then-register
+returns-then-register c =
+    let split = strip_prefix_is Decides-eqb c.args.name.now (114 ∷ []) (Some c.in_ok-number.number) c.in_ok-number.ensures.cases in
+    register-above split c.in_ok-register.ensures c.if-register.true
 
-pub returns-else-x-ge16 : goal.returns-else-x-ge16
-returns-else-x-ge16 c =
-    let a = c.args in
-    let told = c.constant_named in
-    register-found a.text.now a.start a.end c.requires.1 (omega arith) c.if-text-start-ne114.false told.result told.ensures _
-    c.in-Found.is (omega arith)
-
-pub returns-in-Missing : goal.returns-in-Missing
-returns-in-Missing c =
-    let a = c.args in
-    let told = c.constant_named in
-    register_missing a.text.now a.start a.end c.requires.1 (omega arith) c.if-text-start-ne114.false told.result told.ensures
-    c.in-Missing.is
+pub returns : goal.returns
+returns c =
+    let split = strip_prefix_is Decides-eqb c.args.name.now (114 ∷ []) (Some c.in_ok-number.number) c.in_ok-number.ensures.cases in
+    register-found split c.in_ok-register.ensures (omega arith)
