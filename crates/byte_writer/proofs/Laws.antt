@@ -1,8 +1,8 @@
 -- A byte stored, or not where the area has ended; a text and a number byte by byte.
 -- Assumes nothing.
-use mathlib.Core.Path.{◌≡◌, refl, sym, ap, ◌∙◌}
+use mathlib.Core.Path.{◌≡◌, refl, sym, ◌∙◌}
 use mathlib.Core.List.{List, [], ◌∷◌, ◌++◌}
-use Prim.Native.Nat.{ℕ, zero, suc, ◌+◌, ◌-◌, ◌/◌, ◌%◌, ◌<◌, ◌≤◌}
+use Prim.Native.Nat.{ℕ, suc, ◌+◌, ◌-◌, ◌/◌, ◌%◌, ◌<◌, ◌≤◌}
 use native.Mathlib.Omega.{arith}
 use native.Mathlib.Numerals.{add-one}
 use lib.ListN.{length, get_or, drop, set}
@@ -23,12 +23,11 @@ pub byte_next : (bytes : List ℕ) (i : ℕ) → i < length bytes → drop i byt
 byte_next bytes i h = rw (add-one, drop-cons bytes i 0)
 
 -- ---- a number byte by byte
-pub number-next : (left rest : ℕ) → 0 < left → bytes_of left rest ≡ ((rest % 256) ∷ []) ++ bytes_of (left - 1) (rest / 256)
+pub number-next : (k i rest : ℕ) → i < k → bytes_of (k - i) rest ≡ ((rest % 256) ∷ []) ++ bytes_of (k - (i + 1)) (rest / 256)
 unfolding bytes_of
-number-next zero rest h = absurd (omega arith)
-number-next (suc k) rest h =
-    let e : suc k - 1 ≡ k = omega arith in
-    ap (λ (j : ℕ). (rest % 256) ∷ bytes_of j (rest / 256)) (sym e)
+number-next k i rest h =
+    let e : k - i ≡ suc (k - (i + 1)) = omega arith in
+    rw e
 
 pub number-over : (rest : ℕ) → bytes_of 0 rest ≡ []
 unfolding bytes_of

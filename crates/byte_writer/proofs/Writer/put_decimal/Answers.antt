@@ -1,10 +1,10 @@
--- `put_decimal` meets its contract: the digits stand at the end of the buffer. Assumes nothing.
+-- `Writer::put_decimal` meets its contract: the digits stand at the end of the buffer. Assumes nothing.
 use mathlib.Core.Path.{ap}
 use native.Mathlib.Omega.{arith}
 use lib.ListN.{length}
 use Rattle.rules.specs.Rules.Listing.{decimal}
 use Rattle.byte_writer.proofs.Digits.{digits-part}
-use Rattle.byte_writer.proofs.put_decimal.Goals as goal
+use Rattle.byte_writer.proofs.Writer.put_decimal.Goals as goal
 
 pub put_text-requires : goal.put_text-requires
 put_text-requires c =
