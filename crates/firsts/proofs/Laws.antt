@@ -4,13 +4,14 @@ use mathlib.Core.Path.{◌≡◌, refl, sym, ap, ap₂, ◌∙◌}
 use mathlib.Core.Logic.{◌≢◌}
 use mathlib.Core.Bool.{Bool, true, false, ◌&&◌, not, cond, true≢false}
 use mathlib.Core.List.{List, [], ◌∷◌}
-use Prim.Native.Nat.{ℕ, zero, suc, ◌+◌, ◌-◌, ◌*◌, ◌/◌, ◌%◌, ◌^◌, ◌<◌, ◌≤◌}
-use native.Mathlib.Nat.{add-zero, zero-add, le_refl, pow-suc}
+use Prim.Native.Nat.{ℕ, zero, suc, ◌+◌, ◌-◌, ◌*◌, ◌/◌, ◌%◌, ◌<◌, ◌≤◌}
+use native.Mathlib.Nat.{add-zero, zero-add, le_refl}
 use native.Mathlib.Decide.{dec_lt}
 use native.Mathlib.Omega.{arith}
 use lib.Dec.{eqb}
 use lib.ListN.{length, get_or, drop, set, length-set}
-use lib.Seq.{ext_get_or, get_or-set_same, get_or-set_other, drop-set-lt}
+use lib.Seq.{ext_get_or, get_or-set_same, get_or-set_other, drop-set-lt, drop-cons}
+use Rattle.std.proofs.lemmas.List.{drop_all}
 use Rattle.location.specs.declared.LocationSet.{LocationSet}
 use Rattle.location.specs.Sets.{limit, bit, has, subset, member, rest}
 use Rattle.location.specs.SetLaws.{bit_0, bit_half, bit-zero, has_head, has_tail, has-nil, subset-within}
@@ -23,7 +24,6 @@ use Rattle.rules.specs.Rules.Limits.{max_instructions}
 use Rattle.work.specs.Layout.{reports, report_base, labels}
 use Rattle.rules.specs.Rules.Firsts.{no_report, firsts_of}
 use Rattle.rules.proofs.Theorems.Firsts.{firsts-none}
-use Rattle.location.proofs.Laws.{four}
 use Rattle.location.proofs.Filling.{Filled, filled_none, filled_next}
 use Rattle.work.proofs.Past.{SameMachine, machine-refl, machine_trans, past_same}
 use Rattle.firsts.specs.Reports.{report, packed, cause_at, unpacked, report_in, report_on, reports_in}
@@ -42,12 +42,6 @@ cause-back Jump = refl
 cause-back Load = refl
 cause-back Store = refl
 
-pub default_cause : (k : ℕ) → k ≢ 0 → k ≢ 1 → k ≢ 2 → Store ≡ cause_at k
-default_cause zero a b c = absurd (a refl)
-default_cause (suc zero) a b c = absurd (b refl)
-default_cause (suc (suc zero)) a b c = absurd (c refl)
-default_cause (suc (suc (suc k))) a b c = refl
-
 parts : (i c l : ℕ) → i < 4294967296 → c < 4 → l < 512
     → ((i * 2048 + c * 512 + l) / 2048 % 4294967296 ≡ i) × ((i * 2048 + c * 512 + l) / 512 % 4 ≡ c) × ((i * 2048 + c * 512 + l) % 512 ≡ l)
 parts i c l hi hc hl = (omega arith, omega arith, omega arith)
@@ -65,6 +59,12 @@ unfolding recorded_bits
 bits_none x f w at zero = refl
 bits_none x f w at (suc n) = bits_none x (f / 2) w (suc at) n
 
+-- where none is left, nothing is stored
+pub bits_over : (x s f : ℕ) (w : List ℕ) (at n : ℕ) → n ≡ 0 → recorded_bits x s f w at n ≡ w
+unfolding recorded_bits
+bits_over x s f w at zero h = refl
+bits_over x s f w at (suc n) h = absurd (omega arith)
+
 pub length-bit : (x s f : ℕ) (w : List ℕ) (at : ℕ) → length (recorded_bit x s f w at) ≡ length w
 length-bit x s f w at = go (eqb (s % 2) 1 && not (eqb (f % 2) 1))
   where
@@ -81,18 +81,6 @@ bits_step x s f w at (suc n) h =
     let e : at + 1 ≡ suc at = omega arith in
     let m : suc n - 1 ≡ n = omega arith in
     ap₂ (λ (i j : ℕ). recorded_bits x (s / 2) (f / 2) (recorded_bit x s f w at) i j) e m
-
--- a word with something in it has bits left; half of it has one fewer
-pub some_left : (s n : ℕ) → s < 2 ^ n → s ≢ 0 → 0 < n
-some_left s zero h z = let e : s ≡ 0 = omega arith in absurd (z e)
-some_left s (suc n) h z = omega arith
-
-pub half_below : (s n : ℕ) → s < 2 ^ n → 0 < n → s / 2 < 2 ^ (n - 1)
-half_below s zero h p = absurd (omega arith)
-half_below s (suc n) h p =
-    let m : suc n - 1 ≡ n = omega arith in
-    let q = pow-suc 2 n in
-    rw m (omega arith)
 
 -- ---- n words from `at` on, by the bits of two words
 pub length_bits : (x s f : ℕ) (w : List ℕ) (at n : ℕ) → length (recorded_bits x s f w at n) ≡ length w
@@ -263,14 +251,20 @@ module _ (x : ℕ) (full seen : LocationSet) (w : List ℕ) (size : length seen.
   unfolding recorded member
   recorded-at r l h = from_at x seen.words full.words w reports l (rw size (omega arith)) (rw size (omega arith))
 
--- the words of two sets of four words, one after the other
-pub recorded-words : (x : ℕ) (full seen : LocationSet) (w w₁ w₂ w₃ w₄ : List ℕ) → length full.words ≡ 4 → length seen.words ≡ 4
-    → (let s = seen.words in let f = full.words in
-    w₁ ≡ recorded_bits x (get_or s 0 0) (get_or f 0 0) w reports 64 → w₂ ≡ recorded_bits x (get_or s 1 0) (get_or f 1 0) w₁ (reports + 64) 64
-    → w₃ ≡ recorded_bits x (get_or s 2 0) (get_or f 2 0) w₂ (reports + 2 * 64) 64 → w₄ ≡ recorded_bits x (get_or s 3 0) (get_or f 3 0) w₃ (reports + 3 * 64) 64
-    → w₄ ≡ recorded x full seen w)
-unfolding recorded recorded_from
-recorded-words x full seen w w₁ w₂ w₃ w₄ hf hs e₁ e₂ e₃ e₄ = rw (← four full.words hf, ← four seen.words hs, e₄, e₃, e₂, e₁)
+-- the sets' words number k, with the rest after it
+pub words_step : (x : ℕ) (ss fs : List ℕ) (w : List ℕ) (k : ℕ) → k < length ss → k < length fs
+    → recorded_from x (drop (k + 1) ss) (drop (k + 1) fs) (recorded_bits x (get_or ss k 0) (get_or fs k 0) w (reports + 64 * k) 64) (reports + 64 * (k + 1))
+    ≡ recorded_from x (drop k ss) (drop k fs) w (reports + 64 * k)
+unfolding recorded_from
+words_step x ss fs w k hs hf =
+    let e : k + 1 ≡ suc k = omega arith in
+    let o : reports + 64 * suc k ≡ reports + 64 * k + 64 = omega arith in
+    rw (e, o, drop-cons ss k 0 hs, drop-cons fs k 0 hf)
+
+-- no word is left of the observed set
+pub words_over : (x : ℕ) (ss fs : List ℕ) (w : List ℕ) (at n : ℕ) → length ss ≤ n → recorded_from x (drop n ss) fs w at ≡ w
+unfolding recorded_from
+words_over x ss fs w at n h = rw (drop_all n ss h)
 
 -- ---- what is read
 pub reports-length : (w : List ℕ) (full : LocationSet) (l n : ℕ) → length (reports_in w full l n) ≡ n

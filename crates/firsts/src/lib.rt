@@ -34,6 +34,7 @@ fn cause_number(cause: Cause) -> u64
     }
 }
 
+// A number, as it stands in two bits of a working word: each stands for some rule, so that nothing is refused as by `TryFrom`.
 fn cause_of(number: u64) -> Cause
     ensures { result ≡ cause_at number }
 {
@@ -85,12 +86,13 @@ fn record_bits(work: &mut [u64], from: usize, seen: u64, full: u64, word: u64)
 {
     let mut s = seen;
     let mut f = full;
-    let mut at = from;
-    while s != 0 {
-        record_bit(&mut work[..], at, s, f, word);
-        s = s / 2;
-        f = f / 2;
-        at += 1;
+    for at in from..from + BITS {
+        if s == 0 {
+            return;
+        }
+        record_bit(work, at, s, f, word);
+        s /= 2;
+        f /= 2;
     }
 }
 
@@ -99,12 +101,15 @@ fn record_new(work: &mut [u64], full: LocationSet, seen: LocationSet, word: u64)
     requires { working_words ≤ length work.old }
     ensures { work.new ≡ recorded word full seen work.old }
 {
-    let s = seen.words;
-    let f = full.words;
-    record_bits(&mut work[..], work::REPORTS, s[0], f[0], word);
-    record_bits(&mut work[..], work::REPORTS + BITS, s[1], f[1], word);
-    record_bits(&mut work[..], work::REPORTS + 2 * BITS, s[2], f[2], word);
-    record_bits(&mut work[..], work::REPORTS + 3 * BITS, s[3], f[3], word);
+    for k in 0..seen.words.len() {
+        record_bits(
+            work,
+            work::REPORTS + BITS * k,
+            seen.words[k],
+            full.words[k],
+            word,
+        );
+    }
 }
 
 // The locations that an observed set brings into D get their report: the index of the observation, the rule and the label.
@@ -122,7 +127,7 @@ pub fn record(
     if seen.subset(full) {
         return;
     }
-    record_new(&mut work[..], full, seen, pack(index, cause, label));
+    record_new(work, full, seen, pack(index, cause, label));
 }
 
 // Of a location that is not in D.
@@ -145,6 +150,7 @@ pub fn nothing() -> [First; LocationSet::LIMIT]
 }
 
 // What is reported of every location. Where nothing is left of a word of D, the next word follows: nothing is reported of what is passed.
+// So the place moves by more than 1, and there is no `for`: one over all locations took more than a short run.
 pub fn reports(work: &[u64], full: LocationSet) -> [First; LocationSet::LIMIT]
     requires { working_words ≤ length work.now }
     ensures { result ≡ reports_in work.now full 0 limit }

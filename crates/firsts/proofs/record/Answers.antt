@@ -1,7 +1,5 @@
 -- `record` meets its contract: of a set that lies within D there is nothing to record. Assumes nothing.
-use mathlib.Core.Path.{sym, ap, ◌∙◌}
-use Prim.Native.Nat.{ℕ}
-use Rattle.firsts.specs.Recording.{recorded}
+use mathlib.Core.Path.{sym, ◌∙◌}
 use Rattle.firsts.proofs.Laws.{recorded-within}
 use Rattle.firsts.proofs.record.Goals as goal
 
@@ -9,8 +7,3 @@ pub returns-then-subset : goal.returns-then-subset
 returns-then-subset c =
     let a = c.args in
     sym (recorded-within _ a.full a.seen a.work.now (sym c.subset.ensures ∙ c.if-subset.true))
-
-pub returns : goal.returns
-returns c =
-    let a = c.args in
-    c.record_new.ensures ∙ ap (λ (x : ℕ). recorded x a.full a.seen a.work.now) c.pack.ensures
