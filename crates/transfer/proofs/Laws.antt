@@ -4,13 +4,12 @@ use mathlib.Core.Path.{◌≡◌, refl, sym, ap, ◌∙◌}
 use mathlib.Core.Bool.{Bool, true, false, not, ◌&&◌, ◌||◌, cond}
 use mathlib.Core.List.{List, [], ◌∷◌, ◌++◌, append-nil, append_assoc}
 use Prim.Native.Nat.{ℕ, zero, suc, zero-le, ◌+◌, ◌-◌, ◌*◌, ◌/◌, ◌%◌, ◌^◌, ◌<◌, ◌≤◌, min}
-use native.Mathlib.Nat.{zero-add}
 use native.Mathlib.Numerals.{add-one}
 use native.Mathlib.Omega.{arith}
 use lib.Dec.{eqb, ltb}
 use lib.ListN.{length, drop, set, replicate, length-append, length-drop, length-set, length-replicate}
 use lib.Seq.{sets, length-sets, sets-eq, get_or-set_same, take_at, drop-set-add, drop-append-add, drop-drop}
-use borrow.Author.Tests.{ltb-true, ltb-false, lt-ltb, le-ltb}
+use borrow.Author.Tests.{ltb-true, ltb-false}
 use Rattle.location.specs.declared.LocationSet.{LocationSet}
 use Rattle.location.specs.Sets.{limit, none, only, single, member}
 use Rattle.rules.specs.declared.Tagged.{Tagged}
@@ -130,19 +129,6 @@ save_all w a n h =
     let z : 0 + length vs ≡ length vs = omega arith in
     sets-eq vs a 0 (omega arith) ∙ ap (λ (j : ℕ). vs ++ drop j a) z
 
--- ---- an entry saved, of what the code read of it; and one that there is not
-module _ (w area : List ℕ) (i at count : ℕ) (told : count ≡ count_in w) where
-  pub entry-saved : (x : ℕ) (v : Tagged) → i < count → x ≡ (entry_at w i).address → v ≡ (entry_at w i).word
-      → set (set area at x) (at + 1) v.value ≡ sets area at (entry_words_at w i)
-  entry-saved x v h ex ev =
-      let b = lt-ltb i (count_in w) (omega arith) in
-      rw (b, add-one) (λ t. set (set area at (ex t)) (suc at) (ev t).value)
-
-  pub no_entry_saved : count ≤ i → set (set area at 0) (at + 1) 0 ≡ sets area at (entry_words_at w i)
-  no_entry_saved h =
-      let b = le-ltb i (count_in w) (omega arith) in
-      rw (b, add-one)
-
 -- ---- the table saved: storing the words left gives what storing all of them gives
 -- the words of the entries from number i on
 abbrev pub entries_left : List ℕ → ℕ → List ℕ
@@ -222,12 +208,3 @@ alike-step public first second at n l h =
     let e₁ : at + 8 * (l + 1) ≡ at + 8 * l + 8 = omega arith in
     let e₂ : 8 * (l + 1) ≡ 8 * l + 8 = omega arith in
     rw (e, e₁, e₂, add-one)
-
--- one location, of what the code read
-pub alike-word : (public : LocationSet) (first second : List ℕ) (at l k x y : ℕ) (b : Bool) → k ≡ l → b ≡ member public k
-    → x ≡ little first (at + 8 * l) 8 → y ≡ little second (0 + 8 * l) 8
-    → (not b || eqb x y) ≡ (not (member public l) || eqb (little first (at + 8 * l) 8) (little second (8 * l) 8))
-alike-word public first second at l k x y b ek eb ex ey =
-    let eb' = eb ∙ ap (member public) ek in
-    let ey' = ey ∙ ap (λ (j : ℕ). little second j 8) (zero-add (8 * l)) in
-    λ t. not (eb' t) || eqb (ex t) (ey' t)

@@ -40,13 +40,10 @@ pub fn load_state(bytes: &[u8], at: usize, n: usize, work: &mut [u64])
     requires { (at + 8 * n ≤ length bytes.now) × (log_base ≤ length work.old) × (n ≤ limit) }
     ensures { StateLoaded bytes.now at n work.old work.new }
 {
-    let mut loaded = 0;
-    while loaded < n {
-        let value = word_at(bytes, at, loaded);
-        work::store_own(&mut work[..], Location::new(loaded), value);
-        loaded += 1;
+    for loaded in 0..n {
+        work::store_own(work, Location::new(loaded), word_at(bytes, at, loaded));
     }
-    work::clear_table(&mut work[..]);
+    work::clear_table(work);
 }
 
 // Registers then cells as they are now, from the front of an area.
@@ -54,11 +51,8 @@ fn save_values(work: &[u64], n: usize, area: &mut [u64])
     requires { (operand_base n ≤ length work.now) × (n ≤ length area.old) }
     ensures { area.new ≡ written (values (state_in work.now n).inside) area.old }
 {
-    let mut saved = 0;
-    while saved < n {
-        let v = work::load(work, Location::new(saved));
-        area[saved] = v.value;
-        saved += 1;
+    for saved in 0..n {
+        area[saved] = work::load_value(work, Location::new(saved));
     }
 }
 
@@ -85,10 +79,8 @@ fn save_table(work: &[u64], n: usize, area: &mut [u64])
 {
     let count = work::entry_count(work);
     area[n] = count as u64;
-    let mut i = 0;
-    while i < MAX_ENTRIES {
-        save_entry(work, i, &mut area[..], n + 1 + ENTRY_WORDS * i);
-        i += 1;
+    for i in 0..MAX_ENTRIES {
+        save_entry(work, i, area, n + 1 + ENTRY_WORDS * i);
     }
 }
 
@@ -97,8 +89,8 @@ pub fn save_state(work: &[u64], n: usize, area: &mut [u64])
     requires { (operand_base n ≤ length work.now) × (log_base ≤ length work.now) × (n + table_size ≤ length area.old) }
     ensures { area.new ≡ written (end_words (state_in work.now n)) area.old }
 {
-    save_values(work, n, &mut area[..]);
-    save_table(work, n, &mut area[..]);
+    save_values(work, n, area);
+    save_table(work, n, area);
 }
 
 // Whether a location is not public, or holds the same word in both states, at an offset of the first bytes and at 0 of the second.
@@ -118,12 +110,10 @@ pub fn alike_bytes(public: LocationSet, first: &[u8], at: usize, second: &[u8], 
     requires { (at + 8 * n ≤ length first.now) × (8 * n ≤ length second.now) }
     ensures { result ≡ alike_from public 0 (words_at n first.now at) (words_at n second.now 0) }
 {
-    let mut l = 0;
-    while l < n {
+    for l in 0..n {
         if !alike_at(public, first, at, second, l) {
             return false;
         }
-        l += 1;
     }
     true
 }
