@@ -1,14 +1,16 @@
 -- How the entries of the table are gone through for an address.
 -- Assumes nothing.
 use mathlib.Core.Path.{◌≡◌, refl, sym, ap, ◌∙◌}
-use mathlib.Core.Bool.{Bool, true, false, ◌&&◌, true≢false}
+use mathlib.Core.Bool.{Bool, true, false, not, ◌&&◌, true≢false}
 use mathlib.Core.List.{List}
+use Rattle.std.proofs.Common.{Option, None, Some, MatchOption}
+use Rattle.std.specs.Option.{is_some}
 use Prim.Native.Nat.{ℕ, suc, ◌+◌, ◌-◌, ◌<◌, ◌≤◌}
 use native.Mathlib.Numerals.{add-one}
 use native.Mathlib.Omega.{arith}
 use lib.Dec.{leb}
 use lib.ListN.{length}
-use borrow.Author.Tests.{eq-eqb, ne_eqb, le-leb, lt-leb, leb-true, leb-false}
+use borrow.Author.Tests.{eq-eqb, ne_eqb, le-leb, lt-leb}
 use Rattle.rules.specs.declared.Tagged.{Tagged}
 use Rattle.rules.specs.Rules.Limits.{max_entries}
 use Rattle.rules.specs.Rules.Outside.{remember, remembers, overfull}
@@ -90,21 +92,14 @@ module _ (w : List ℕ) (a : ℕ) where
   pub full-nowhere : (p : ℕ) → p ≡ position (table_in w) a → max_entries ≤ count_in w → count_in w ≤ p → overfull (table_in w) a ≡ true
   full-nowhere p e m h = no_room m (remembered-nowhere w a p e h)
 
-  -- whether the address was not found
-  pub overfull-by : {p k : ℕ} → p ≡ position (table_in w) a → k ≡ count_in w → max_entries ≤ k → leb k p ≡ overfull (table_in w) a
-  overfull-by {p} {k} e ek m = go (leb k p) refl
-    where
-      go : (b : Bool) → leb k p ≡ b → b ≡ overfull (table_in w) a
-      go true h = let l = leb-true k p h in sym (full-nowhere p e (omega arith) (omega arith))
-      go false h = let l = leb-false k p h in sym (full-there p e (omega arith))
-
--- a number that was found is at most the count
-pub position-most : (es : List Entry) (a : ℕ) → position es a ≤ length es
-position-most es a = go (found es a)
-  where
-    go : Found es a → position es a ≤ length es
-    go (there r l) = omega arith
-    go (nowhere r l) = omega arith
+  -- whether no number was found, of the k that there are
+  pub overfull-by : {k : ℕ} (b : Bool) (r : Option ℕ) → is_some r ≡ not b
+      → MatchOption r (position (table_in w) a ≡ k) (λ i. (i ≡ position (table_in w) a) × (i < k))
+      → k ≡ count_in w → max_entries ≤ k → b ≡ overfull (table_in w) a
+  overfull-by true None n h e m = sym (full-nowhere (position (table_in w) a) refl (omega arith) (omega arith))
+  overfull-by false None n h e m = absurd (true≢false (sym n))
+  overfull-by true (Some i) n h e m = absurd (true≢false n)
+  overfull-by false (Some i) n h e m = sym (full-there i h.0 (let l = h.1 in omega arith))
 
 -- ---- the moves of a store
 -- the state of each machine has the table of the words
@@ -132,37 +127,34 @@ module _ {w w₁ : List ℕ} {c r : Control} {p v : ℕ} (a : ℕ) (x : Tagged) 
     frame = m.frame;
   }
 
--- ---- what a store promises, by what the code has found: p is the number of the address b, and k how many entries there are
-module _ {w : List ℕ} {c : Control} {a b p k v : ℕ} {x : Tagged} (eb : b ≡ a) (ep : p ≡ position (table_in w) b) (ek : k ≡ count_in w) where
+-- ---- what a store promises, by what the code has found: p is the number of the address a, and k how many entries there are
+module _ {w : List ℕ} {c : Control} {a p k v : ℕ} {x : Tagged} (e : p ≡ position (table_in w) a) (ek : k ≡ count_in w) where
   pub tried-replaced : {w₁ : List ℕ} {r : Control} → p < k
       → Moves w w₁ c r (λ M. ordinary_next M (with_outside M.state (reworded M.state.outside p x)) (c.place + 1) v)
-      → StoreTried w w₁ c (record { made = true; control = r }) a x v
+      → StoreTried w w₁ c (Some r) a x v
   tried-replaced h m =
-      let e = ep ∙ ap (position (table_in w)) eb in
       let l : p < count_in w = omega arith in
       record {
-        made = λ o. (refl, replaced_move a x p e (remembered-there w a p e l) m);
+        made = λ o. replaced_move a x p e (remembered-there w a p e l) m;
         unmade = λ o. absurd (true≢false (sym o ∙ full-there w a p e l));
       }
 
-  pub tried-added : {w₁ : List ℕ} {r : Control} → k ≤ p → k < max_entries
+  pub tried-added : {w₁ : List ℕ} {r : Control} → p ≡ k → k < max_entries
       → Moves w w₁ c r (λ M. ordinary_next M (with_entry M.state a x) (c.place + 1) v)
-      → StoreTried w w₁ c (record { made = true; control = r }) a x v
+      → StoreTried w w₁ c (Some r) a x v
   tried-added h l m =
-      let e = ep ∙ ap (position (table_in w)) eb in
       let h' : count_in w ≤ p = omega arith in
       let l' : count_in w < max_entries = omega arith in
       record {
-        made = λ o. (refl, added_move a x (remembered-nowhere w a p e h') m);
+        made = λ o. added_move a x (remembered-nowhere w a p e h') m;
         unmade = λ o. absurd (true≢false (sym o ∙ room-left w a l'));
       }
 
-  pub tried-full : k ≤ p → max_entries ≤ k → StoreTried w w c (record { made = false; control = c }) a x v
+  pub tried-full : p ≡ k → max_entries ≤ k → StoreTried w w c None a x v
   tried-full h l =
-      let e = ep ∙ ap (position (table_in w)) eb in
       let h' : count_in w ≤ p = omega arith in
       let l' : max_entries ≤ count_in w = omega arith in
       record {
         made = λ o. absurd (true≢false (sym (full-nowhere w a p e l' h') ∙ o));
-        unmade = λ o. (refl, refl, refl);
+        unmade = λ o. (refl, refl);
       }

@@ -2,7 +2,7 @@
 // store.
 #![tactic(auto)]
 
-ghost use Rattle.std.specs.Prelude.{◌≡◌, ◌+◌, ◌^◌, ◌<◌, ◌≤◌, length};
+ghost use Rattle.std.specs.Prelude.{◌≡◌, ◌+◌, ◌^◌, ◌<◌, ◌≤◌, length, MatchOption};
 ghost use Rattle.location.specs.Sets.{empty};
 ghost use Rattle.rules.specs.Rules.Expressions.{tagged};
 ghost use Rattle.rules.specs.Rules.Outside.{recall, overfull};
@@ -17,19 +17,17 @@ use rules::Tagged;
 use rules::limits::MAX_ENTRIES;
 use work::machine::Control;
 
-// The number of the entry with an address; where none has it, how many entries there are, which is `count`.
-fn find(work: &[u64], count: usize, a: u64) -> usize
+// The number of the entry with an address, if one has it, where there are `count`.
+fn find(work: &[u64], count: usize, a: Address) -> Option<usize>
     requires { (count ≡ count_in work.now) × (log_base ≤ length work.now) }
-    ensures { result ≡ position (table_in work.now) a }
+    ensures { MatchOption result (position (table_in work.now) a.0 ≡ count) (λ i. (i ≡ position (table_in work.now) a.0) × (i < count)) }
 {
-    let mut i = 0;
-    while i < count {
-        if work::address_of(work, i) == a {
-            return i;
+    for i in 0..count {
+        if work::address_of(work, i) == a.value() {
+            return Some(i);
         }
-        i += 1;
     }
-    i
+    None
 }
 
 // What is remembered at an address: 0 with the empty set where nothing is.
@@ -37,14 +35,12 @@ pub fn recall(work: &[u64], a: Address) -> Tagged
     requires { log_base ≤ length work.now }
     ensures { result ≡ recall (tagged 0 empty) (table_in work.now) a.0 }
 {
-    let count = work::entry_count(work);
-    let i = find(work, count, a.value());
-    if i < count {
-        return work::load_entry(work, i);
-    }
-    Tagged {
-        value: 0,
-        deps: LocationSet::empty(),
+    match find(work, work::entry_count(work), a) {
+        Some(i) => work::load_entry(work, i),
+        None => Tagged {
+            value: 0,
+            deps: LocationSet::empty(),
+        },
     }
 }
 
@@ -57,39 +53,28 @@ pub fn is_overfull(work: &[u64], a: Address) -> bool
     if count < MAX_ENTRIES {
         return false;
     }
-    count <= find(work, count, a.value())
-}
-
-// The control after a store, if it was made.
-#[derive(Drop)]
-pub struct Stored {
-    pub made: bool,
-    pub control: Control,
+    find(work, count, a).is_none()
 }
 
 // The move of a store of v at an address outside the image, with so much left of the top's window: the entry of the address is replaced,
-// or one is added. Where that needs one address too many, nothing changes.
-pub fn store(work: &mut [u64], c: Control, a: Address, v: Tagged, remaining: usize) -> Stored
+// or one is added. Where that needs one address too many, nothing changes, and there is no control after it.
+pub fn store(
+    work: &mut [u64],
+    c: Control,
+    a: Address,
+    v: Tagged,
+    remaining: usize,
+) -> Option<Control>
     requires { Fit work.old c × Left c remaining × (c.place + 1 < 2 ^ 64) }
     ensures { StoreTried work.old work.new c result a.0 v remaining }
 {
     let place = c.place + 1;
-    let count = work::entry_count(&work[..]);
-    let i = find(&work[..], count, a.value());
-    if i < count {
-        return Stored {
-            made: true,
-            control: work::machine::replace(&mut work[..], c, i, v, place, remaining),
-        };
+    let count = work::entry_count(work);
+    if let Some(i) = find(work, count, a) {
+        return Some(work::machine::replace(work, c, i, v, place, remaining));
     }
-    if count < MAX_ENTRIES {
-        return Stored {
-            made: true,
-            control: work::machine::append(&mut work[..], c, count, a, v, place, remaining),
-        };
+    if count >= MAX_ENTRIES {
+        return None;
     }
-    Stored {
-        made: false,
-        control: c,
-    }
+    Some(work::machine::append(work, c, count, a, v, place, remaining))
 }

@@ -32,7 +32,7 @@ use Rattle.work.specs.Machines.{table_in, state_in, machine_of, Fit}
 use Rattle.work.specs.Moves.{lower_to, window_on, ordinary_next, gone, opening_next, Moves, RollsBack}
 use Rattle.work.proofs.States.{state-at}
 use Rattle.work.proofs.Moves.{go_law}
-use Rattle.outside.specs.declared.Stored.{Stored}
+use Rattle.std.proofs.Common.{Option, None, Some}
 use Rattle.outside.specs.Stores.{StoreTried}
 use Rattle.evaluation.proofs.Laws.{inside-fits, outside-fits}
 use Rattle.stepping.specs.declared.Progress.{Progress}
@@ -287,41 +287,34 @@ store-tried {w} {w'} {t} {t'} {c} {c'} {i} {cells} r a y l same h = record {
       (h.tried p code ec costs);
 }
 
--- from the move that was tried: it was made, or not; the code tests `not made`
-was_made : (b : Bool) → not b ≡ false → b ≡ true
-was_made true h = refl
-was_made false h = absurd (true≢false h)
-
-not_made : (b : Bool) → not b ≡ true → b ≡ true → ⊥
-not_made true h e = true≢false (sym h)
-not_made false h e = true≢false (sym e)
-
--- k is the number of the address b
-pub tried-there : {w w' : List ℕ} {c : Control} {x : Stored} {k b v : ℕ} {y : Tagged} → k ≡ b → StoreTried w w' c x k y v → StoreTried w w' c x b y v
+-- from the move that was tried: k is the number of the address b
+pub tried-there : {w w' : List ℕ} {c : Control} {x : Option Control} {k b v : ℕ} {y : Tagged} → k ≡ b → StoreTried w w' c x k y v → StoreTried w w' c x b y v
 tried-there {w} {w'} {c} {x} {v = v} {y = y} e = subst (λ (j : ℕ). StoreTried w w' c x j y v) e
 
-module _ {w w' t : List ℕ} {c : Progress} {i : Instruction} {v : ℕ} {a y : Tagged} {x : Stored} (leaves : Leaves w c.control i v)
-    (word : StoreTried w w' c.control x a.value y v) (cells : ℕ) (most : registers + cells ≤ limit) where
-  pub store-made : {t' : List ℕ} {c' : Progress} → not x.made ≡ false → t' ≡ sets t (2 * c.observations) (observation_words (stored a.value))
-      → c' ≡ progress_after c x.control 1 a.deps
+module _ {w w' t : List ℕ} {c : Progress} {i : Instruction} {v : ℕ} {a y : Tagged} (leaves : Leaves w c.control i v)
+    (cells : ℕ) (most : registers + cells ≤ limit) where
+  -- it was made
+  pub store-made : {x : Control} {t' : List ℕ} {c' : Progress} → StoreTried w w' c.control (Some x) a.value y v
+      → t' ≡ sets t (2 * c.observations) (observation_words (stored a.value)) → c' ≡ progress_after c x 1 a.deps
       → TriedOut cells i (λ code σ. outside_effect σ c.control.place a y) (standing w t c) (standing w' t' c')
-  store-made h et counted = record {
+  store-made word et counted = record {
     tried = λ p code ec costs. record {
       made = λ o.
           let n = registers + cells in
-          let m = (word.made o).1 in
+          let m = word.made o in
           carried-shown i (m.machine n most) m.fits m.frame p code c.control.window (leaves.exact p code costs) (stored a.value)
           (with_outside (state_in w n) (remember (table_in w) a.value y)) (suc c.control.place) (overfull (table_in w) a.value) refl
           (add-one c.control.place) refl et counted;
-      unmade = λ o. absurd (true≢false (sym (was_made x.made h) ∙ (word.unmade o).0));
+      unmade = λ o. let none = (word.unmade o).0 in cc;
     };
   }
 
-  pub store-unmade : not x.made ≡ true
+  -- or not
+  pub store-unmade : StoreTried w w' c.control None a.value y v
       → TriedOut cells i (λ code σ. outside_effect σ c.control.place a y) (standing w t c) (standing w' t c)
-  store-unmade h = record {
+  store-unmade word = record {
     tried = λ p code ec costs. record {
-      made = λ o. absurd (not_made x.made h (word.made o).0);
-      unmade = λ o. ap (λ (u : List ℕ). standing u t c) (word.unmade o).2;
+      made = λ o. absurd (word.made o);
+      unmade = λ o. ap (λ (u : List ℕ). standing u t c) (word.unmade o).1;
     };
   }

@@ -252,15 +252,12 @@ fn store_outside(
     ensures { (cells : ℕ) → registers + cells ≤ limit
         → TriedOut cells i (λ code σ. outside_effect σ c.control.place a v) (standing_before work trace c) (standing_after work trace result) }
 {
-    let control = c.control;
-    let address_set = a.deps;
-    let remaining = remaining_window(&work[..], control, i);
-    let next = outside::store(&mut work[..], control, Address::new(a.value), v, remaining);
-    if !next.made {
+    let remaining = remaining_window(work, c.control, i);
+    let Some(next) = outside::store(work, c.control, Address::new(a.value), v, remaining) else {
         return c;
-    }
-    observe(&mut trace[..], c.observations, STORE, a.value);
-    count_step(c, next.control, 1, address_set)
+    };
+    observe(trace, c.observations, STORE, a.value);
+    count_step(c, next, 1, a.deps)
 }
 
 // Rule 3 for a store of register r at the address a: the cell takes the register's word, or it is remembered outside the image. Where

@@ -1,8 +1,6 @@
 -- `is_overfull` meets its contract: there is room, or it is by whether the address was found. Assumes nothing.
-use mathlib.Core.Path.{sym, ap, ◌∙◌}
+use mathlib.Core.Path.{sym}
 use native.Mathlib.Omega.{arith}
-use Rattle.rules.specs.Rules.Changes.{position}
-use Rattle.work.specs.Machines.{table_in}
 use Rattle.outside.proofs.Laws.{room-left, overfull-by}
 use Rattle.outside.proofs.is_overfull.Goals as goal
 
@@ -16,5 +14,5 @@ returns-then-count-lt-MAX_ENTRIES c =
 pub returns : goal.returns
 returns c =
     let a = c.args in
-    let e = c.find.ensures ∙ ap (position (table_in a.work.now)) c.value.ensures in
-    overfull-by a.work.now a.a.0 e c.entry_count-count.ensures c.if-count-lt-MAX_ENTRIES.false
+    overfull-by a.work.now a.a.0 c.is_none.result c.find.result c.is_none.ensures c.find.ensures c.entry_count-count.ensures
+    c.if-count-lt-MAX_ENTRIES.false
