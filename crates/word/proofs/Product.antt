@@ -1,6 +1,6 @@
 -- The product of two words by their halves of 32 bits.
 -- Assumes nothing.
-use Rattle.std.proofs.Common.{◌≡◌, ℕ, ◌+◌, ◌*◌, ◌/◌, ◌%◌, ◌^◌, ◌<◌, sym, ◌∙◌, ap₂, lt_of_le_of_lt, le_of_lt, mul_assoc, add-mul, mul-le-mul_left, div-add-mod', mul-add, mul_right_comm, arith, w64, Fits}
+use Rattle.std.proofs.Common.{◌≡◌, ℕ, ◌+◌, ◌*◌, ◌/◌, ◌%◌, ◌^◌, sym, ◌∙◌, ap₂, mul_assoc, add-mul, div-add-mod', mul-add, mul_right_comm, arith}
 
 abbrev H : ℕ
 H = 4294967296
@@ -25,6 +25,3 @@ by_halves x y t r ht hr =
     let e₂ : y / H * H + y % H ≡ y = div-add-mod' y H in
     let e₃ : x * y ≡ q * 2 ^ 64 + (x / H * (y % H) + x % H * (y / H)) * H + x % H * (y % H) = ap₂ (λ (u v : ℕ). u * v) (sym e₁) (sym e₂) ∙ e₀ in
     omega arith
-
-pub product_fits : {a b : ℕ} → a < H → b < H → Fits w64 (a * b)
-product_fits {a} {b} ha hb = record { fits = lt_of_le_of_lt (mul-le-mul_left a (le_of_lt hb)) (omega arith) }

@@ -5,7 +5,7 @@ ghost use Rattle.std.specs.Prelude.{◌≡◌};
 ghost use Rattle.rules.specs.Rules.Operators.{apply1, neg, inv, apply2, add, sub, mul, and, or, xor, shl, shr, eq, ult};
 
 // 2^32, which splits a word into two halves.
-const HALF: u64 = 4294967296;
+const HALF: u64 = 1 << 32;
 
 // The bits of a word; a shift's count is taken modulo this.
 const BITS: u64 = 64;
@@ -13,25 +13,25 @@ const BITS: u64 = 64;
 pub fn neg(x: u64) -> u64
     ensures { result ≡ apply1 neg x }
 {
-    std::num::wrapping_sub_u64(0, x)
+    x.wrapping_neg()
 }
 
 pub fn not(x: u64) -> u64
     ensures { result ≡ apply1 inv x }
 {
-    u64::MAX - x
+    !x
 }
 
 pub fn add(x: u64, y: u64) -> u64
     ensures { result ≡ apply2 add x y }
 {
-    std::num::wrapping_add_u64(x, y)
+    x.wrapping_add(y)
 }
 
 pub fn sub(x: u64, y: u64) -> u64
     ensures { result ≡ apply2 sub x y }
 {
-    std::num::wrapping_sub_u64(x, y)
+    x.wrapping_sub(y)
 }
 
 // The low 64 bits of the product. The product of the high halves is a multiple of 2^64, and the two cross products count
@@ -43,8 +43,8 @@ pub fn mul(x: u64, y: u64) -> u64
     let x1 = x / HALF;
     let y0 = y % HALF;
     let y1 = y / HALF;
-    let cross = std::num::wrapping_add_u64(x1 * y0, x0 * y1) % HALF;
-    std::num::wrapping_add_u64(cross * HALF, x0 * y0)
+    let cross = (x1 * y0).wrapping_add(x0 * y1) % HALF;
+    (cross * HALF).wrapping_add(x0 * y0)
 }
 
 pub fn and(x: u64, y: u64) -> u64
@@ -80,11 +80,11 @@ pub fn shr(x: u64, k: u64) -> u64
 pub fn eq(x: u64, y: u64) -> u64
     ensures { result ≡ apply2 eq x y }
 {
-    if x == y { 1 } else { 0 }
+    u64::from(x == y)
 }
 
 pub fn ult(x: u64, y: u64) -> u64
     ensures { result ≡ apply2 ult x y }
 {
-    if x < y { 1 } else { 0 }
+    u64::from(x < y)
 }
