@@ -1,6 +1,6 @@
 -- Striking out, on the words of a trace: what `strike` of the rules does to observations.
 -- Assumes nothing.
-use Rattle.std.specs.Prelude.{◌≡◌, refl, Bool, true, false, ◌&&◌, cond, List, [], ◌∷◌, ℕ, ◌+◌, ◌*◌, ◌≤◌, eqb, length, get_or, drop}
+use Rattle.std.specs.Prelude.{◌≡◌, refl, Bool, true, false, ◌&&◌, cond, List, [], ◌∷◌, ℕ, ◌≤◌, eqb, length, get_or, drop}
 use Rattle.std.proofs.Common.{ap}
 use Rattle.rules.specs.Rules.Instructions.{Observation, start_kind, rollback_kind}
 use Rattle.rules.specs.Rules.Calls.{trace_words}
@@ -19,37 +19,16 @@ unfoldable mutual
   struck_to (k ∷ []) i = []
   struck_to (k ∷ v ∷ ws) i = cond (eqb k rollback_kind && eqb v i) (struck_words ws) (struck_to ws i)
 
--- the words from observation i on
-abbrev pub from : List ℕ → ℕ → List ℕ
-from t i = drop (2 * i) t
+-- What is left of trace t after the rollback of branch id.
+pub record Closed (t : List ℕ) (id : ℕ) (left : List ℕ) : Type 0 where
+  pub shorter : length left ≤ length t
+  pub same : struck_to t id ≡ struck_words left
 
--- the kind and the value of observation i
-abbrev pub kind_at : List ℕ → ℕ → ℕ
-kind_at t i = get_or t (2 * i) 0
-
-abbrev pub value_at : List ℕ → ℕ → ℕ
-value_at t i = get_or t (2 * i + 1) 0
-
--- observation i is a rollback of branch id
-abbrev pub closes_at : List ℕ → ℕ → ℕ → Bool
-closes_at t i id = eqb (kind_at t i) rollback_kind && eqb (value_at t i) id
-
--- observation i of one trace is observation j of the other
-abbrev pub same_at : List ℕ → ℕ → List ℕ → ℕ → Bool
-same_at a i b j = eqb (kind_at a i) (kind_at b j) && eqb (value_at a i) (value_at b j)
-
--- Observation r is the one after the rollback of branch id, from observation i on.
-pub record Closed (t : List ℕ) (i id r : ℕ) : Type 0 where
-  pub later : i ≤ r
-  pub room : 2 * r ≤ length t
-  pub same : struck_to (from t i) id ≡ struck_words (from t r)
-
--- Observation r is the first from observation i on that is not struck out, if there is one.
-pub record Outside (t : List ℕ) (i r : ℕ) : Type 0 where
-  pub later : i ≤ r
-  pub room : 2 * r ≤ length t
-  pub same : struck_words (from t i) ≡ struck_words (from t r)
-  pub kept : 2 * r + 2 ≤ length t → struck_words (from t r) ≡ kind_at t r ∷ value_at t r ∷ struck_words (from t (r + 1))
+-- What is left of trace t from its first observation on that is not struck out, if there is one.
+pub record Outside (t left : List ℕ) : Type 0 where
+  pub shorter : length left ≤ length t
+  pub same : struck_words t ≡ struck_words left
+  pub kept : 2 ≤ length left → struck_words left ≡ get_or left 0 0 ∷ get_or left 1 0 ∷ struck_words (drop 2 left)
 
 -- ---- laws
 -- one of two traces

@@ -1,56 +1,54 @@
 -- `trace::same_struck` meets its contract. The invariant: both traces stand at an observation that is not struck out, and those
 -- passed are equal, so the answer is that of the observations left. Assumes nothing.
 use mathlib.Core.Path.{sym, ap₂, ◌∙◌}
-use Prim.Native.Nat.{zero-le}
 use native.Mathlib.Omega.{arith}
+use borrow.Author.Tests.{ne_eqb, eq-eqb}
+use lib.ListN.{length-drop}
 use Rattle.rules.specs.Rules.Pairs.{same_words}
-use Rattle.trace.proofs.Laws.{settled, struck-step, second_ended, first_ended}
+use Rattle.trace.proofs.Laws.{behind, settled, struck-step, second_ended, first_ended}
+use Rattle.trace.proofs.same_struck.Goals.{then-kind-other_kind-via-then-kind-other_kind, then-kind-other_kind-via-else-kind-other_kind+then-value-other_value}
 use Rattle.trace.proofs.same_struck.Goals as goal
 
-pub outside-i-requires : goal.outside-i-requires
-outside-i-requires c = zero-le
-
-pub outside-j-requires : goal.outside-j-requires
-outside-j-requires c = zero-le
-
-pub loop-i-init : goal.loop-i-init
-loop-i-init c = let x = c.outside-i.ensures in let y = c.outside-j.ensures in
+pub loop-one-init : goal.loop-one-init
+loop-one-init c =
+    let x = c.outside-one.ensures in
+    let y = c.outside-other.ensures in
     (settled x, settled y, ap₂ same_words (sym x.same) (sym y.same))
 
-pub returns-then-m-j : goal.returns-then-m-j
-returns-then-m-j c =
-    let a = c.args in
-    let v = c.loop-i in
-    sym (second_ended a.a.now a.b.now v.i v.j v.invariant.0 (omega arith) (omega arith)) ∙ v.invariant.2
+pub returns-in_default-other : goal.returns-in_default-other
+returns-in_default-other c =
+    let v = c.loop-one in
+    sym (second_ended v.one.now v.other.now v.invariant.0 c.in-len2-up.len_at_least c.in_default-other.len_below) ∙ v.invariant.2
 
-pub same_observation-requires : goal.same_observation-requires
-same_observation-requires c = (omega arith, omega arith)
-
-pub returns-then-not-same_observation : goal.returns-then-not-same_observation
-returns-then-not-same_observation c =
-    let a = c.args in
-    let v = c.loop-i in
-    let e = struck-step a.a.now a.b.now v.i v.j v.invariant.0 v.invariant.1 (omega arith) (omega arith) in
-    sym (rw (← c.same_observation.ensures, c.if-not-same_observation.true) at e)
+pub returns-then-kind-other_kind : goal.returns-then-kind-other_kind
+returns-then-kind-other_kind c =
+    let v = c.loop-one in
+    let e = struck-step v.one.now v.other.now v.invariant.0 v.invariant.1 c.in-len2-up.len_at_least c.in-len2-up-other.len_at_least in
+    sym (elim c.then-kind-other_kind.branch [
+      | then-kind-other_kind-via-then-kind-other_kind w ↦ rw (ne_eqb _ _ w.if-kind-other_kind.true) at e
+      | then-kind-other_kind-via-else-kind-other_kind+then-value-other_value w ↦
+          rw (eq-eqb _ _ w.if-kind-other_kind.false, ne_eqb _ _ w.if-value-other_value.true) at e
+    ])
     ∙ v.invariant.2
 
-pub loop-i-smaller : goal.loop-i-smaller
-loop-i-smaller c = let l = c.outside-i-in-loop-i.ensures.later in omega arith
+pub loop-one-smaller : goal.loop-one-smaller
+loop-one-smaller c =
+    let t = c.loop-one.one.now in
+    let n = length-drop 2 t in
+    let x = rw behind at c.outside-one-in-len2-up.ensures in
+    let s = x.shorter in
+    omega arith
 
-pub loop-i-preserved : goal.loop-i-preserved
-loop-i-preserved c =
-    let a = c.args in
-    let v = c.loop-i in
-    let e = struck-step a.a.now a.b.now v.i v.j v.invariant.0 v.invariant.1 (omega arith) (omega arith) in
-    let x = c.outside-i-in-loop-i.ensures in
-    let y = c.outside-j-in-loop-i.ensures in
-    let g = sym
-    (rw (← c.same_observation.ensures, c.if-not-same_observation.false) at e)
-    ∙ v.invariant.2 in
-    (settled x, settled y, ap₂ same_words (sym x.same) (sym y.same) ∙ g)
+pub loop-one-preserved : goal.loop-one-preserved
+loop-one-preserved c =
+    let v = c.loop-one in
+    let e = struck-step v.one.now v.other.now v.invariant.0 v.invariant.1 c.in-len2-up.len_at_least c.in-len2-up-other.len_at_least in
+    let x = rw behind at c.outside-one-in-len2-up.ensures in
+    let y = rw behind at c.outside-other-in-len2-up.ensures in
+    let g = rw (eq-eqb _ _ c.if-kind-other_kind.false, eq-eqb _ _ c.if-value-other_value.false) at e in
+    (settled x, settled y, ap₂ same_words (sym x.same) (sym y.same) ∙ sym g ∙ v.invariant.2)
 
 pub returns : goal.returns
 returns c =
-    let a = c.args in
-    let v = c.loop-i in
-    first_ended a.a.now a.b.now v.i v.j v.invariant.1 (omega arith) ∙ v.invariant.2
+    let v = c.loop-one in
+    first_ended v.one.now v.other.now v.invariant.1 (omega arith) ∙ v.invariant.2
