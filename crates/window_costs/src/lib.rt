@@ -21,18 +21,8 @@ pub fn fixed() -> [u8; KINDS]
 pub fn costs_fit(costs: &[u8]) -> bool
     ensures { result ≡ costs_fit costs.now }
 {
-    if costs.len() != KINDS {
-        return false;
-    }
-    let mut k = 0;
-    while k < KINDS {
-        if costs[k] < MIN_COST {
-            return false;
-        }
-        if MAX_COST < costs[k] {
-            return false;
-        }
-        k += 1;
-    }
-    true
+    costs.len() == KINDS
+        && costs
+            .iter()
+            .all(|cost| (MIN_COST..=MAX_COST).contains(cost))
 }
