@@ -13,15 +13,11 @@ use rules::{PairWord, Stop, Verdict};
 pub fn finished(stop: Stop) -> bool
     ensures { result ≡ is_finished stop }
 {
-    match stop {
-        Stop::Finished => true,
-        Stop::Spent => false,
-        Stop::TraceFull => false,
-        Stop::OutsideFull => false,
-    }
+    matches!(stop, Stop::Finished)
 }
 
 // The verdict on a run, by its stop, D and the plain set.
+#[tactic(auto, unfolding(rules::specs::Rules::Runs::judge))]
 pub fn verdict_of(public: LocationSet, stop: Stop, full: LocationSet, plain: LocationSet) -> Verdict
     ensures { result ≡ judge public stop full plain }
 {
@@ -44,10 +40,7 @@ pub fn pair_word(alike: bool, first: Stop, second: Stop, a: &[u64], b: &[u64]) -
     if !alike {
         return PairWord::NotComparable;
     }
-    if !finished(first) {
-        return PairWord::Undecided;
-    }
-    if !finished(second) {
+    if !finished(first) || !finished(second) {
         return PairWord::Undecided;
     }
     if !trace::same_struck(a, b) {
