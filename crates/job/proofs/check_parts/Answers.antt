@@ -1,28 +1,30 @@
 -- `job::check_parts` meets its contract, by the answer on the program and the test of the public list. Assumes nothing.
 use mathlib.Core.Path.{sym, ◌∙◌}
+use Rattle.std.proofs.lemmas.Result.{err_from_is_err_and}
 use Rattle.rules.specs.Rules.JobFile.{listed, program_of}
-use Rattle.job.proofs.Laws.{checked-program, finish-next, finish-refused}
+use Rattle.job.proofs.Laws.{finish-next, finish-refused}
 use Rattle.job.proofs.check_parts.Goals as goal
 
-pub returns-then-no_cell_from : goal.returns-then-no_cell_from
-unfolding listed
-returns-then-no_cell_from c =
+pub returns-in_err-check_program : goal.returns-in_err-check_program
+unfolding program_of
+returns-in_err-check_program c =
     let a = c.args in
-    let h = checked-program a.job.now a.t _ (sym c.in-Next.is ∙ c.check_program.ensures) in
-    let e = finish-next a.job.now a.t (program_of a.job.now a.t) _ h in
-    sym (rw (← c.public_list-public.ensures, ← c.no_cell_from.ensures, c.if-no_cell_from.true) at e)
+    let h = sym c.in_err-check_program.was ∙ c.check_program.ensures in
+    let r = err_from_is_err_and c.from_residual.result c.from_residual.ensures.1 in
+    rw (r.1, r.2) (sym (finish-refused a.job.now a.t (program_of a.job.now a.t) _ h))
 
-pub returns-else-no_cell_from : goal.returns-else-no_cell_from
-unfolding listed
-returns-else-no_cell_from c =
+pub returns-then-not-no_cell_from : goal.returns-then-not-no_cell_from
+unfolding listed program_of
+returns-then-not-no_cell_from c =
     let a = c.args in
-    let h = checked-program a.job.now a.t _ (sym c.in-Next.is ∙ c.check_program.ensures) in
+    let h = sym c.in_ok-check_program.was ∙ c.check_program.ensures in
     let e = finish-next a.job.now a.t (program_of a.job.now a.t) _ h in
-    c.refused.ensures
-    ∙ sym (rw (← c.public_list-public.ensures, ← c.no_cell_from.ensures, c.if-no_cell_from.false) at e)
+    sym (rw (← c.public_list-public.ensures, ← c.no_cell_from.ensures, c.if-not-no_cell_from.true) at e)
 
-pub returns-in-Refused : goal.returns-in-Refused
-returns-in-Refused c =
+pub returns : goal.returns
+unfolding listed program_of
+returns c =
     let a = c.args in
-    let h = checked-program a.job.now a.t _ (sym c.in-Refused.is ∙ c.check_program.ensures) in
-    c.refused-in-Refused.ensures ∙ sym (finish-refused a.job.now a.t (program_of a.job.now a.t) _ h)
+    let h = sym c.in_ok-check_program.was ∙ c.check_program.ensures in
+    let e = finish-next a.job.now a.t (program_of a.job.now a.t) _ h in
+    sym (rw (← c.public_list-public.ensures, ← c.no_cell_from.ensures, c.if-not-no_cell_from.false) at e)
