@@ -10,6 +10,7 @@ use borrow.Author.Tests.{eq-eqb, ne_eqb, eqb-true, le-leb, lt-leb, leb-true}
 use lib.Dec.{eqb, leb}
 use lib.ListN.{length, take, drop, replicate}
 use lib.Seq.{take_at}
+use Rattle.std.specs.Prelude.{Ok, Err}
 use Rattle.location.specs.declared.LocationSet.{LocationSet}
 use Rattle.location.specs.SetLaws.{and_left, and_right}
 use Rattle.rules.specs.declared.Trailer.{Trailer}
@@ -17,7 +18,7 @@ use Rattle.rules.specs.declared.Counts.{Counts}
 use Rattle.rules.specs.declared.Refusal.{Refusal}
 use Rattle.rules.specs.declared.Refusal.TheVariants as refusals
 use Rattle.rules.specs.declared.PairWord.{PairWord}
-use Rattle.rules.specs.declared.PairAnswer.TheVariants as answers
+use Rattle.rules.specs.Rules.Outcomes.{paired}
 use Rattle.rules.specs.Rules.Instructions.{Observation}
 use Rattle.rules.specs.Rules.Runs.{Job, mispredicting_run}
 use Rattle.rules.specs.Rules.JobFile.{accepted, parse, locations, public_of, words_at}
@@ -37,16 +38,16 @@ use Rattle.execution.specs.Running.{EndsAs}
 use Rattle.execution.proofs.TraceArea.{written-length}
 use Rattle.job_run.specs.Accepted.{accepted-size, accepted-public, accepted-init}
 use Rattle.job_run.specs.JobRuns.{RunOf}
-use Rattle.job_run.proofs.Laws.{same-part, cleared-same, own-run}
+use Rattle.job_run.proofs.Laws.{cleared-same, own-run}
 use Rattle.judgement.specs.Words.{pair_word_of, word_same}
 use Rattle.pair.specs.declared.SecondRun.{SecondRun}
 use Rattle.pair.specs.Runs.{word_on, Ready, Comparable, LeftBy, OwnRan, SecondOf, SecondRan}
 
 -- ---- the areas
 module _ (a b w : List ℕ) where
-  pub work_short : length w < working_words → false ≡ pair_fits (pair_lent a b w)
+  pub work_short : length w < working_words → leb working_words (length w) ≡ pair_fits (pair_lent a b w)
   unfolding pair_fits
-  work_short h = sym (rw (lt-leb working_words (length w) h))
+  work_short h = rw (lt-leb working_words (length w) h)
 
   pub traces_decide : working_words ≤ length w → eqb (length a) (length b) ≡ pair_fits (pair_lent a b w)
   unfolding pair_fits
@@ -121,10 +122,10 @@ ready_again {costs = costs} q o = record {
 -- ---- the word on two runs, of what the code has found
 pub word-found : (bs : List ℕ) (t : Trailer) (public : LocationSet) (second a b : List ℕ) (n n' : Counts) {word : PairWord} {alike : Bool}
     → alike ≡ alike_from public 0 (words_at (locations t) bs t.state) (words_at (locations t) second 0)
-    → word ≡ pair_word_of alike n.stop n'.stop (take (2 * n.observations - 0) (drop 0 a)) (take (2 * n'.observations - 0) (drop 0 b))
+    → word ≡ pair_word_of alike n.stop n'.stop (take (2 * n.observations) a) (take (2 * n'.observations) b)
     → word ≡ word_on bs t public second n n' a b
 word-found bs t public second a b n n' ea ew =
-    rw (ew, ea, same-part (2 * n.observations) a, same-part (2 * n'.observations) b)
+    rw (ew, ea)
 
 -- ---- the second run
 module _ {bs : List ℕ} {t : Trailer} {public : LocationSet} {second costs a b w w₁ b' : List ℕ} {c : Counts} {r : Ran}
@@ -233,20 +234,20 @@ module _ {bs : List ℕ} {t : Trailer} {public : LocationSet} {second costs a b 
   second-there : SecondOf job words (room a) b b' s
   second-there = rw (← accepted-size accepts, same-room job first_ends) at (x.ran accepts.job accepts.parsed)
 
-  pub exact-compared : Exact (pair_call bs second costs (pair_lent a b w)) (answers.Compared s.word r.counts s.counts) (pair_lent a' b' w₂)
+  pub exact-compared : Exact (pair_call bs second costs (pair_lent a b w)) (Ok (paired s.word r.counts s.counts)) (pair_lent a' b' w₂)
   unfolding pair_accepted pair_after compares
   exact-compared =
       let y = second-there in
       rw (pair_runs compares)
       (record {
-        answer = λ i. answers.Compared (y.word i) (first_ends.reports.counts i) (y.counts i);
+        answer = λ i. Ok (paired (y.word i) (first_ends.reports.counts i) (y.counts i));
         areas = λ i. pair_lent (first_ends.trace i) (y.trace i) ((x.work ∙ cleared-same working_words w₁ w o.past) i);
       })
 
 -- ---- refusals
 module _ {bs : List ℕ} {t : Trailer} (k : Accepts bs t) (second costs a b w : List ℕ) where
   refused : (n : Refusal) → pair_call bs second costs (pair_lent a b w) ≡ pair_refused n (pair_lent a b w)
-      → Exact (pair_call bs second costs (pair_lent a b w)) (answers.Refused n) (pair_lent a b w)
+      → Exact (pair_call bs second costs (pair_lent a b w)) (Err n) (pair_lent a b w)
   unfolding pair_refused
   refused n e = rw e (record { answer = refl; areas = refl })
 
@@ -259,17 +260,17 @@ module _ {bs : List ℕ} {t : Trailer} (k : Accepts bs t) (second costs a b w : 
   sized s = let z = accepted-size k in eq-eqb (length second) (8 * length k.job.init) (omega arith)
 
   pub other-size : (length second ≡ 8 * locations t → ⊥)
-      → Exact (pair_call bs second costs (pair_lent a b w)) (answers.Refused refusals.SecondState) (pair_lent a b w)
+      → Exact (pair_call bs second costs (pair_lent a b w)) (Err refusals.SecondState) (pair_lent a b w)
   unfolding pair_call pair_parsed
   other-size h = refused refusals.SecondState (rw (k.parsed, unsized h, pair_parsed))
 
   pub no_table : length second ≡ 8 * locations t → costs_fit costs ≡ false
-      → Exact (pair_call bs second costs (pair_lent a b w)) (answers.Refused refusals.Costs) (pair_lent a b w)
+      → Exact (pair_call bs second costs (pair_lent a b w)) (Err refusals.Costs) (pair_lent a b w)
   unfolding pair_call pair_parsed pair_tabled
   no_table s c = refused refusals.Costs (rw (tabled-refused bs costs k.job k.parsed c, k.parsed, sized s, pair_parsed, pair_tabled))
 
   pub unfit : length second ≡ 8 * locations t → costs_fit costs ≡ true → pair_fits (pair_lent a b w) ≡ false
-      → Exact (pair_call bs second costs (pair_lent a b w)) (answers.Refused refusals.Areas) (pair_lent a b w)
+      → Exact (pair_call bs second costs (pair_lent a b w)) (Err refusals.Areas) (pair_lent a b w)
   unfolding pair_call pair_parsed pair_tabled
   unfit s c h =
       refused refusals.Areas (rw (tabled-accepted bs costs k.job k.parsed c, k.parsed, sized s, h, pair_parsed, pair_tabled))

@@ -14,7 +14,7 @@ ghost use Rattle.pair.specs.Runs.{OwnRunOf, BothRan, word_on, Comparable, OwnRan
 
 use execution::{Mode, Ran};
 use location::LocationSet;
-use rules::{Counts, PairAnswer, PairWord, Refusal, Trailer};
+use rules::{Compared, Counts, PairAnswer, PairWord, Refusal, Trailer};
 
 // The second run of a pair: the word on the pair, and what the run counts.
 #[derive(Drop)]
@@ -35,16 +35,15 @@ pub fn run_own(
     ensures { OwnRunOf job.now t costs.now work.old work.new
         first_trace.old first_trace.new result }
 {
-    let m = Mode::Mispredicting;
     job_run::run_state(
         job,
         t,
-        m,
+        Mode::Mispredicting,
         costs,
         job,
         t.state,
-        &mut work[..],
-        &mut first_trace[..],
+        work,
+        first_trace,
     )
 }
 
@@ -63,18 +62,13 @@ fn word_on(
     ensures { result ≡ word_on job.now t public second.now c d
         first_trace.now second_trace.now }
 {
-    let n = t.locations();
-    let alike = transfer::alike_bytes(public, job, t.state, second, n);
-    let first_stop = c.stop;
-    let second_stop = d.stop;
-    let k = 2 * c.observations;
-    let l = 2 * d.observations;
+    let alike = transfer::alike_bytes(public, job, t.state, second, t.locations());
     judgement::pair_word(
         alike,
-        first_stop,
-        second_stop,
-        &first_trace[0..k],
-        &second_trace[0..l],
+        c.stop,
+        d.stop,
+        &first_trace[..2 * c.observations],
+        &second_trace[..2 * d.observations],
     )
 }
 
@@ -96,21 +90,20 @@ pub fn run_second(
     ensures { SecondRan job.now t second.now costs.now (room first_trace.now)
         second_trace.old work.old second_trace.new work.new result }
 {
-    let m = Mode::Mispredicting;
-    let s = job_run::run_state(
+    let run = job_run::run_state(
         job,
         t,
-        m,
+        Mode::Mispredicting,
         costs,
         second,
         0,
-        &mut work[..],
-        &mut second_trace[..],
+        work,
+        second_trace,
     );
-    work::clear(&mut work[..]);
-    let d = s.counts;
-    let word = word_on(job, t, public, second, c, d, first_trace, &second_trace[..]);
-    SecondRun { word, counts: d }
+    work::clear(work);
+    let counts = run.counts;
+    let word = word_on(job, t, public, second, c, counts, first_trace, second_trace);
+    SecondRun { word, counts }
 }
 
 // Both runs are made, and both traces written, whatever the word is.
@@ -128,32 +121,30 @@ fn compare_runs(
     ensures { Exact (pair_call job.now second.now costs.now (pair_at_entry first_trace second_trace work)) result
         (pair_at_exit first_trace second_trace work) }
 {
-    let r = run_own(job, t, costs, &mut work[..], &mut first_trace[..]);
-    let c = r.counts;
-    let s = run_second(
+    let own = run_own(job, t, costs, work, first_trace);
+    let other = run_second(
         job,
         t,
         public,
         second,
         costs,
-        c,
-        &first_trace[..],
-        &mut second_trace[..],
-        &mut work[..],
+        own.counts,
+        first_trace,
+        second_trace,
+        work,
     );
-    let word = s.word;
-    let d = s.counts;
-    PairAnswer::Compared(word, c, d)
+    Ok(Compared {
+        word: other.word,
+        first: own.counts,
+        second: other.counts,
+    })
 }
 
 // Whether the working area is long enough and both trace areas have one length.
 pub fn areas_fit(first_trace: &[u64], second_trace: &[u64], work: &[u64]) -> bool
     ensures { result ≡ pair_fits (pair_lent first_trace.now second_trace.now work.now) }
 {
-    if work.len() < work::WORDS {
-        return false;
-    }
-    first_trace.len() == second_trace.len()
+    work::WORDS <= work.len() && first_trace.len() == second_trace.len()
 }
 
 // The pair of an accepted job: a second state of another size, then a table that is none, then too short or unequal areas are refused before
@@ -172,15 +163,14 @@ pub fn compare_accepted(
     ensures { Exact (pair_call job.now second.now costs.now (pair_at_entry first_trace second_trace work)) result
         (pair_at_exit first_trace second_trace work) }
 {
-    let n = t.locations();
-    if second.len() != transfer::WORD_BYTES * n {
-        return PairAnswer::Refused(Refusal::SecondState);
+    if second.len() != transfer::WORD_BYTES * t.locations() {
+        return Err(Refusal::SecondState);
     }
     if !window_costs::costs_fit(costs) {
-        return PairAnswer::Refused(Refusal::Costs);
+        return Err(Refusal::Costs);
     }
-    if !areas_fit(&first_trace[..], &second_trace[..], &work[..]) {
-        return PairAnswer::Refused(Refusal::Areas);
+    if !areas_fit(first_trace, second_trace, work) {
+        return Err(Refusal::Areas);
     }
     compare_runs(
         job,
@@ -188,8 +178,8 @@ pub fn compare_accepted(
         public,
         second,
         costs,
-        &mut first_trace[..],
-        &mut second_trace[..],
-        &mut work[..],
+        first_trace,
+        second_trace,
+        work,
     )
 }

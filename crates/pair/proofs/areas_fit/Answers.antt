@@ -2,12 +2,12 @@
 use Rattle.pair.proofs.Laws.{work_short, traces_decide}
 use Rattle.pair.proofs.areas_fit.Goals as goal
 
-pub returns-then-work-lt-WORDS : goal.returns-then-work-lt-WORDS
-returns-then-work-lt-WORDS c =
+pub returns-then-work-ge-WORDS : goal.returns-then-work-ge-WORDS
+returns-then-work-ge-WORDS c =
     let a = c.args in
-    work_short a.first_trace.now a.second_trace.now a.work.now c.if-work-lt-WORDS.true
+    traces_decide a.first_trace.now a.second_trace.now a.work.now c.if-work-ge-WORDS.true
 
-pub returns : goal.returns
-returns c =
+pub returns-else-work-ge-WORDS : goal.returns-else-work-ge-WORDS
+returns-else-work-ge-WORDS c =
     let a = c.args in
-    traces_decide a.first_trace.now a.second_trace.now a.work.now c.if-work-lt-WORDS.false
+    work_short a.first_trace.now a.second_trace.now a.work.now c.if-work-ge-WORDS.false

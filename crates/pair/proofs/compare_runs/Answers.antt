@@ -2,17 +2,17 @@
 use Rattle.pair.proofs.Laws.{own-ran, ready_again, exact-compared}
 use Rattle.pair.proofs.compare_runs.Goals as goal
 
-pub run_own-r-requires : goal.run_own-r-requires
-run_own-r-requires c =
+pub run_own-own-requires : goal.run_own-own-requires
+run_own-own-requires c =
     let k = c.requires.ready in
     (k.accepts, k.fits, k.work)
 
-pub run_second-s-requires : goal.run_second-s-requires
-run_second-s-requires c =
+pub run_second-other-requires : goal.run_second-other-requires
+run_second-other-requires c =
     let k = c.requires.ready in
-    let o = c.run_own-r.ensures in
+    let o = c.run_own-own.ensures in
     (record { ready = ready_again k o; sized = c.requires.sized }, own-ran k.accepts o)
 
 pub returns : goal.returns
 returns c =
-    exact-compared c.requires c.run_own-r.ensures c.run_second-s.ensures
+    exact-compared c.requires c.run_own-own.ensures c.run_second-other.ensures

@@ -5,7 +5,7 @@ use Rattle.pair.proofs.run_second.Goals as goal
 pub word_on-word-requires : goal.word_on-word-requires
 word_on-word-requires c =
     let k = c.requires in
-    let o = c.run_state-s.ensures in
+    let o = c.run_state-run.ensures in
     record {
       accepts = k.0.ready.accepts;
       sized = k.0.sized;
@@ -15,4 +15,4 @@ word_on-word-requires c =
 
 pub returns : goal.returns
 returns c =
-    let k = c.requires in second-ran k.0 k.1 c.run_state-s.ensures c.clear.ensures c.word_on-word.ensures
+    let k = c.requires in second-ran k.0 k.1 c.run_state-run.ensures c.clear.ensures c.word_on-word.ensures

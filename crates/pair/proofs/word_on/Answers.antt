@@ -1,11 +1,13 @@
 -- `pair::word_on` meets its contract. Assumes nothing.
+use Prim.Native.Nat.{ℕ}
 use native.Mathlib.Omega.{arith}
+use lib.ListN.{length-take}
 use Rattle.job_run.specs.Accepted.{accepted-limits, accepted_list, accepted-length}
 use Rattle.pair.proofs.Laws.{word-found}
 use Rattle.pair.proofs.word_on.Goals as goal
 
-pub locations-n-requires : goal.locations-n-requires
-locations-n-requires c =
+pub locations-requires : goal.locations-requires
+locations-requires c =
     let l = (accepted-limits c.requires.accepts).cells in omega arith
 
 pub alike_bytes-alike-requires : goal.alike_bytes-alike-requires
@@ -16,24 +18,24 @@ alike_bytes-alike-requires c =
     let s = k.sized in
     (omega arith, omega arith)
 
-pub overflow_mul-k : goal.overflow_mul-k
-overflow_mul-k c =
+pub overflow_mul-c : goal.overflow_mul-c
+overflow_mul-c c =
     let f = c.requires.first_fits in omega (arith, f, c.well_formed)
 
-pub overflow_mul-l : goal.overflow_mul-l
-overflow_mul-l c =
+pub overflow_mul-d : goal.overflow_mul-d
+overflow_mul-d c =
     let f = c.requires.second_fits in omega (arith, f, c.well_formed)
 
 pub slice_bounds-pair_word-end : goal.slice_bounds-pair_word-end
 slice_bounds-pair_word-end c =
-    let f = c.requires.first_fits in omega arith
+    let f = c.requires.first_fits in omega (arith, length-take {A = ℕ})
 
 pub slice_bounds-pair_word-end-2 : goal.slice_bounds-pair_word-end-2
 slice_bounds-pair_word-end-2 c =
-    let f = c.requires.second_fits in omega arith
+    let f = c.requires.second_fits in omega (arith, length-take {A = ℕ})
 
 pub returns : goal.returns
 returns c =
     let a = c.args in
     word-found a.job.now a.t a.public a.second.now a.first_trace.now a.second_trace.now a.c a.d
-    (rw c.locations-n.ensures at c.alike_bytes-alike.ensures) c.pair_word.ensures
+    (rw c.locations.ensures at c.alike_bytes-alike.ensures) c.pair_word.ensures
