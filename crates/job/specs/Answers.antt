@@ -1,6 +1,6 @@
 -- The code's answer for a file that the rules parse, and what an answer says of the rules' parse.
 -- Assumes nothing.
-use Rattle.std.specs.Prelude.{◌≡◌, refl, List, ℕ, Result, Ok, Err}
+use Rattle.std.specs.Prelude.{◌≡◌, refl, Bool, true, false, List, ℕ, Result, Ok, Err}
 use Rattle.std.proofs.Common.{sym, ap, ◌∙◌}
 use Rattle.rules.specs.declared.Trailer.{Trailer}
 use Rattle.rules.specs.declared.Refusal.{Refusal}
@@ -8,6 +8,8 @@ use Rattle.rules.specs.Rules.Runs.{Job}
 use Rattle.rules.specs.Rules.JobFile.{Parsed, accepted, rejected, trailer, public_of, parse}
 use Rattle.rules.proofs.Theorems.JobLaws.{passed, job-public}
 use Rattle.job.specs.declared.JobRead.{JobRead}
+use Rattle.job.specs.declared.accepted.AcceptedJob.{AcceptedJob}
+use Rattle.job.specs.Accepting.{is_accepted}
 
 -- a refused job is given by its refusal, an accepted one by its trailer t and its public list
 abbrev pub job_read_of : Trailer → Parsed → Result JobRead Refusal
@@ -49,3 +51,11 @@ module _ (bs : List ℕ) {x : Result JobRead Refusal} (read : x ≡ job_read_of 
       go : (P : Parsed) → parse bs ≡ P → parse bs ≡ rejected r
       go (accepted k) p = let o = sym e ∙ answer_of p in absurd (cc)
       go (rejected s) p = let o = sym e ∙ answer_of p in p ∙ (cc)
+
+-- ---- an accepted job as a value
+pub accepts : (j : AcceptedJob) → Accepts j.bytes.now j.trailer
+accepts j = go (parse j.bytes.now) refl j.parsed
+  where
+    go : (P : Parsed) → parse j.bytes.now ≡ P → is_accepted P ≡ true → Accepts j.bytes.now j.trailer
+    go (accepted k) p e = record { job = k; parsed = p; trailer = j.read }
+    go (rejected r) p e = absurd (let z : ◌≡◌ {A = Bool} false true = e in cc)

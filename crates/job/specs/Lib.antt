@@ -1,1 +1,2 @@
+pub mod Accepting
 pub mod Answers

@@ -2,6 +2,8 @@
 // before it is tested: `read_job` asks nothing of the bytes.
 #![tactic(auto)]
 
+pub mod accepted;
+
 ghost use Rattle.std.specs.Prelude.{◌≡◌, ◌+◌, ◌-◌, ◌/◌, ◌%◌, ◌^◌, ◌<◌, ◌≤◌, length, get_or};
 ghost use Rattle.location.specs.Sets.{registers, limit};
 ghost use Rattle.rules.specs.Rules.Limits.{max_cells, list_size};

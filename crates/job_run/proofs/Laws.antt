@@ -46,14 +46,6 @@ use Rattle.rules.specs.Theorems.Bounds.{PositiveCosts}
 pub same-part : (n : ℕ) (xs : List ℕ) → take (n - 0) (drop 0 xs) ≡ take n xs
 same-part n xs = let z : n - 0 ≡ n = omega arith in rw z
 
--- room for n words before the table, as the code tests it
-pub table-room : (n len : ℕ) → table_size ≤ len → leb n (len - table_size) ≡ leb (n + table_size) len
-table-room n len h = go (leb n (len - table_size)) refl
-  where
-    go : (b : Bool) → leb n (len - table_size) ≡ b → b ≡ leb (n + table_size) len
-    go true e = sym (le-leb (n + table_size) len (omega (arith, leb-true n (len - table_size) e)))
-    go false e = sym (lt-leb (n + table_size) len (omega (arith, leb-false n (len - table_size) e)))
-
 -- cleared words keep only those past them
 pub cleared-same : (n : ℕ) (w before : List ℕ) → drop n w ≡ drop n before → written (replicate n 0) w ≡ written (replicate n 0) before
 unfolding written

@@ -1,6 +1,8 @@
 // The table of window costs: what each kind of instruction takes of an open branch's window, one byte a kind, in kind order.
 #![tactic(auto)]
 
+pub mod table;
+
 ghost use Rattle.std.specs.Prelude.{◌≡◌};
 ghost use Rattle.rules.specs.Rules.Instructions.{window_costs};
 ghost use Rattle.rules.specs.Rules.Costs.{costs_fit};
