@@ -31,17 +31,19 @@ use Rattle.rules.proofs.Theorems.RunLaws.{mispredicting_trace}
 use Rattle.rules.proofs.Theorems.Costs.{tabled-accepted, tabled-refused}
 use Rattle.rules.proofs.Theorems.CallLaws.{length-trace_words}
 use Rattle.rules.proofs.Theorems.PairLaws.{Pairs, pair_runs}
-use Rattle.job.specs.Answers.{Accepts}
+use Rattle.window_costs.specs.declared.table.WindowCosts.{WindowCosts}
+use Rattle.job.specs.declared.accepted.AcceptedJob.{AcceptedJob}
+use Rattle.job.specs.Answers.{Accepts, accepts}
 use Rattle.execution.specs.declared.Mode.TheVariants as modes
 use Rattle.execution.specs.declared.Ran.{Ran}
 use Rattle.execution.specs.Running.{EndsAs}
 use Rattle.execution.proofs.TraceArea.{written-length}
 use Rattle.job_run.specs.Accepted.{accepted-size, accepted-public, accepted-init}
-use Rattle.job_run.specs.JobRuns.{RunOf}
+use Rattle.job_run.specs.JobRuns.{RunFrom}
 use Rattle.job_run.proofs.Laws.{cleared-same, own-run}
 use Rattle.judgement.specs.Words.{pair_word_of, word_same}
 use Rattle.pair.specs.declared.SecondRun.{SecondRun}
-use Rattle.pair.specs.Runs.{word_on, Ready, Comparable, LeftBy, OwnRan, SecondOf, SecondRan}
+use Rattle.pair.specs.Runs.{word_on, Ready, Comparable, OwnRunOf, LeftBy, OwnRan, SecondOf, SecondRan}
 
 -- ---- the areas
 module _ (a b w : List ℕ) where
@@ -65,10 +67,9 @@ module _ (a b w : List ℕ) where
   unfolding pair_fits
   fit-traces h = eqb-true (length a) (length b) (and_right (leb working_words (length w)) (eqb (length a) (length b)) h)
 
--- an accepted job and table, in areas that fit
-pub ready_by : {bs : List ℕ} {t : Trailer} {public : LocationSet} {costs : List ℕ} → Accepts bs t → public ≡ public_of t bs → costs_fit costs ≡ true
-    → (a b w : List ℕ) → pair_fits (pair_lent a b w) ≡ true → Ready bs t public costs a b w
-ready_by k e f a b w fit = record { accepts = k; listed = e; fits = f; work = fit-work a b w fit; traces = fit-traces a b w fit }
+-- areas that fit
+pub ready_by : (a b w : List ℕ) → pair_fits (pair_lent a b w) ≡ true → Ready a b w
+ready_by a b w fit = record { work = fit-work a b w fit; traces = fit-traces a b w fit }
 
 -- ---- a run that has ended: what it wrote fits, and stands from the front
 module _ {t : Trailer} {a w a' : List ℕ} {r : Ran} (job : Job) (e : EndsAs t a w a' r (mispredicting_run job (room a))) where
@@ -104,33 +105,36 @@ module _ {t : Trailer} {a w a' : List ℕ} {r : Ran} (job : Job) (e : EndsAs t a
   left_there = rw same-room (record { counts = e.reports.counts; trace = observed-words })
 
 -- the job's own run, as its code has made it
-pub own-ran : {bs : List ℕ} {t : Trailer} {costs w w' a a' : List ℕ} {r : Ran} → Accepts bs t
-    → RunOf bs t modes.Mispredicting costs bs t.state w w' a a' r → OwnRan bs costs r.counts a'
-own-ran {costs = costs} k o = record { left = λ job p. left_there (with_costs job costs) (own-run k modes.Mispredicting o job p) }
+module _ (j : AcceptedJob) (table : WindowCosts) {w w' a a' : List ℕ} {r : Ran} (o : OwnRunOf j table w w' a a' r) where
+  pub own-ran : OwnRan j table r.counts a'
+  own-ran = record { left = λ job p. left_there (with_costs job table.entries.now) (own-run (accepts j) modes.Mispredicting o job p) }
 
--- after it the areas fit still
-pub ready_again : {bs : List ℕ} {t : Trailer} {public : LocationSet} {costs a b w w' a' : List ℕ} {r : Ran} → Ready bs t public costs a b w
-    → RunOf bs t modes.Mispredicting costs bs t.state w w' a a' r → Ready bs t public costs a' b w'
-ready_again {costs = costs} q o = record {
-  accepts = q.accepts;
-  listed = q.listed;
-  fits = q.fits;
-  work = let z = o.size in let h = q.work in omega arith;
-  traces = same_length (with_costs q.accepts.job costs) (own-run q.accepts modes.Mispredicting o q.accepts.job q.accepts.parsed) ∙ q.traces;
-}
+  -- after it the areas fit still
+  pub ready_again : {b : List ℕ} → Ready a b w → Ready a' b w'
+  ready_again q =
+      let k = accepts j in
+      record {
+        work = let z = o.size in let h = q.work in omega arith;
+        traces = same_length (with_costs k.job table.entries.now) (own-run k modes.Mispredicting o k.job k.parsed) ∙ q.traces;
+      }
 
 -- ---- the word on two runs, of what the code has found
-pub word-found : (bs : List ℕ) (t : Trailer) (public : LocationSet) (second a b : List ℕ) (n n' : Counts) {word : PairWord} {alike : Bool}
-    → alike ≡ alike_from public 0 (words_at (locations t) bs t.state) (words_at (locations t) second 0)
+pub word-found : (j : AcceptedJob) (second a b : List ℕ) (n n' : Counts) {word : PairWord} {alike : Bool}
+    → alike ≡ alike_from j.public 0 (words_at (locations j.trailer) j.bytes.now j.trailer.state) (words_at (locations j.trailer) second 0)
     → word ≡ pair_word_of alike n.stop n'.stop (take (2 * n.observations) a) (take (2 * n'.observations) b)
-    → word ≡ word_on bs t public second n n' a b
-word-found bs t public second a b n n' ea ew =
+    → word ≡ word_on j second n n' a b
+word-found j second a b n n' ea ew =
     rw (ew, ea)
 
 -- ---- the second run
-module _ {bs : List ℕ} {t : Trailer} {public : LocationSet} {second costs a b w w₁ b' : List ℕ} {c : Counts} {r : Ran}
-    (q : Comparable bs t public second costs a b w) (own : OwnRan bs costs c a)
-    (o : RunOf bs t modes.Mispredicting costs second 0 w w₁ b b' r) where
+module _ (j : AcceptedJob) (table : WindowCosts) {second a b w w₁ b' : List ℕ} {c : Counts} {r : Ran}
+    (q : Comparable j second a b w) (own : OwnRan j table c a) (o : RunFrom j modes.Mispredicting table second 0 w w₁ b b' r) where
+  abbrev bs : List ℕ
+  bs = j.bytes.now
+
+  abbrev t : Trailer
+  t = j.trailer
+
   -- the words of the second state
   abbrev vs : List ℕ
   vs = words_at (locations t) second 0
@@ -141,11 +145,11 @@ module _ {bs : List ℕ} {t : Trailer} {public : LocationSet} {second costs a b 
 
   module _ (job : Job) (p : parse bs ≡ accepted job) where
     abbrev known : Accepts bs t
-    known = record { job = job; parsed = p; trailer = q.ready.accepts.trailer }
+    known = record { job = job; parsed = p; trailer = j.read }
 
     -- the job with its table, and the same with the second state
     abbrev table_job : Job
-    table_job = with_costs job costs
+    table_job = with_costs job table.entries.now
 
     abbrev other : Job
     other = with_state table_job vs
@@ -161,16 +165,16 @@ module _ {bs : List ℕ} {t : Trailer} {public : LocationSet} {second costs a b 
     second-trace = observed-words other second-ends ∙ ap (λ (k : ℕ). trace_words (mispredicting_run other k).gathered.trace) rooms
 
     -- the word is that of the rules' two runs
-    same_word : word_on bs t public second c r.counts a b' ≡ pair_word table_job vs (room a)
+    same_word : word_on j second c r.counts a b' ≡ pair_word table_job vs (room a)
     unfolding counts
     same_word =
         let l = own.left job p in
         let n = second-counts in
-        (λ i. pair_word_of (alike_from ((q.ready.listed ∙ accepted-public known) i) 0 (accepted-init known i) vs) (l.counts i).stop (n i).stop
+        (λ i. pair_word_of (alike_from ((j.listed ∙ accepted-public known) i) 0 (accepted-init known i) vs) (l.counts i).stop (n i).stop
         (l.trace i) (second-trace i))
         ∙ word_same table_job vs (room a)
 
-    second-of : {word : PairWord} → word ≡ word_on bs t public second c r.counts a b'
+    second-of : {word : PairWord} → word ≡ word_on j second c r.counts a b'
         → SecondOf table_job vs (room a) b b' (record { word = word; counts = r.counts })
     second-of er = record {
       word = er ∙ same_word;
@@ -181,60 +185,59 @@ module _ {bs : List ℕ} {t : Trailer} {public : LocationSet} {second costs a b 
   pub first_fits : 2 * c.observations ≤ length a
   unfolding room counts
   first_fits =
-      let job = q.ready.accepts.job in
-      let l = own.left job q.ready.accepts.parsed in
-      let x = with_costs job costs in
+      let k = accepts j in
+      let l = own.left k.job k.parsed in
+      let x = with_costs k.job table.entries.now in
       let n : c.observations ≡ length (mispredicting_run x (room a)).gathered.trace = ap (λ (y : Counts). y.observations) l.counts in
       let m = mispredicting_trace x (room a) in omega arith
 
   pub second_fits : 2 * r.counts.observations ≤ length b'
   second_fits =
-      let k = q.ready.accepts in
+      let k = accepts j in
       observed-fits (other k.job k.parsed) (second-ends k.job k.parsed)
 
   pub second-ran : {w₂ : List ℕ} {word : PairWord} → w₂ ≡ written (replicate working_words 0) w₁
-      → word ≡ word_on bs t public second c r.counts a b'
-      → SecondRan bs t second costs (room a) b w b' w₂ (record { word = word; counts = r.counts })
+      → word ≡ word_on j second c r.counts a b'
+      → SecondRan j second table (room a) b w b' w₂ (record { word = word; counts = r.counts })
   second-ran ew er = record {
     ran = λ job p. second-of job p er;
     work = ew ∙ cleared-same working_words w₁ w o.past;
   }
 
 -- ---- both runs
-module _ {bs : List ℕ} {t : Trailer} {public : LocationSet} {second costs a b w w₁ w₂ a' b' : List ℕ} {r : Ran} {s : SecondRun}
-    (q : Comparable bs t public second costs a b w) (o : RunOf bs t modes.Mispredicting costs bs t.state w w₁ a a' r)
-    (x : SecondRan bs t second costs (room a') b w₁ b' w₂ s) where
-  abbrev accepts : Accepts bs t
-  accepts = q.ready.accepts
+module _ (j : AcceptedJob) (table : WindowCosts) {second a b w w₁ w₂ a' b' : List ℕ} {r : Ran} {s : SecondRun}
+    (q : Comparable j second a b w) (o : OwnRunOf j table w w₁ a a' r) (x : SecondRan j second table (room a') b w₁ b' w₂ s) where
+  abbrev mine : Accepts j.bytes.now j.trailer
+  mine = accepts j
 
   -- the job with its table
   abbrev job : Job
-  job = with_costs accepts.job costs
+  job = with_costs mine.job table.entries.now
 
   abbrev areas : PairAreas
   areas = pair_lent a b w
 
-  compares : Pairs bs second costs areas
+  compares : Pairs j.bytes.now second table.entries.now areas
   unfolding second_state_fits
   compares = record {
-    read = accepts.job;
-    parsed = accepts.parsed;
-    sized = eq-eqb (length second) (8 * length job.init) (let z = accepted-size accepts in let s = q.sized in omega arith);
-    fits = q.ready.fits;
+    read = mine.job;
+    parsed = mine.parsed;
+    sized = eq-eqb (length second) (8 * length job.init) (let z = accepted-size mine in let s = q.sized in omega arith);
+    fits = table.fit;
     enough = areas-enough a b w q.ready.work q.ready.traces;
   }
 
-  first_ends : EndsAs t a w₁ a' r (mispredicting_run job (room a))
-  first_ends = own-run accepts modes.Mispredicting o accepts.job accepts.parsed
+  first_ends : EndsAs j.trailer a w₁ a' r (mispredicting_run job (room a))
+  first_ends = own-run mine modes.Mispredicting o mine.job mine.parsed
 
   -- the words of the second state
   abbrev words : List ℕ
   words = words_at (length job.init) second 0
 
   second-there : SecondOf job words (room a) b b' s
-  second-there = rw (← accepted-size accepts, same-room job first_ends) at (x.ran accepts.job accepts.parsed)
+  second-there = rw (← accepted-size mine, same-room job first_ends) at (x.ran mine.job mine.parsed)
 
-  pub exact-compared : Exact (pair_call bs second costs (pair_lent a b w)) (Ok (paired s.word r.counts s.counts)) (pair_lent a' b' w₂)
+  pub exact-compared : Exact (pair_call j.bytes.now second table.entries.now (pair_lent a b w)) (Ok (paired s.word r.counts s.counts)) (pair_lent a' b' w₂)
   unfolding pair_accepted pair_after compares
   exact-compared =
       let y = second-there in

@@ -3,16 +3,15 @@ use Rattle.pair.proofs.Laws.{own-ran, ready_again, exact-compared}
 use Rattle.pair.proofs.compare_runs.Goals as goal
 
 pub run_own-own-requires : goal.run_own-own-requires
-run_own-own-requires c =
-    let k = c.requires.ready in
-    (k.accepts, k.fits, k.work)
+run_own-own-requires c = c.requires.ready.work
 
 pub run_second-other-requires : goal.run_second-other-requires
 run_second-other-requires c =
-    let k = c.requires.ready in
+    let a = c.args in
     let o = c.run_own-own.ensures in
-    (record { ready = ready_again k o; sized = c.requires.sized }, own-ran k.accepts o)
+    (record { ready = ready_again a.job.now a.costs.now o c.requires.ready; sized = c.requires.sized }, own-ran a.job.now a.costs.now o)
 
 pub returns : goal.returns
 returns c =
-    exact-compared c.requires c.run_own-own.ensures c.run_second-other.ensures
+    let a = c.args in
+    exact-compared a.job.now a.costs.now c.requires c.run_own-own.ensures c.run_second-other.ensures

@@ -4,15 +4,17 @@ use Rattle.pair.proofs.run_second.Goals as goal
 
 pub word_on-word-requires : goal.word_on-word-requires
 word_on-word-requires c =
+    let a = c.args in
     let k = c.requires in
     let o = c.run_state-run.ensures in
     record {
-      accepts = k.0.ready.accepts;
       sized = k.0.sized;
-      first_fits = first_fits k.0 k.1 o;
-      second_fits = second_fits k.0 k.1 o;
+      first_fits = first_fits a.job.now a.costs.now k.0 k.1 o;
+      second_fits = second_fits a.job.now a.costs.now k.0 k.1 o;
     }
 
 pub returns : goal.returns
 returns c =
-    let k = c.requires in second-ran k.0 k.1 c.run_state-run.ensures c.clear.ensures c.word_on-word.ensures
+    let a = c.args in
+    let k = c.requires in
+    second-ran a.job.now a.costs.now k.0 k.1 c.run_state-run.ensures c.clear.ensures c.word_on-word.ensures

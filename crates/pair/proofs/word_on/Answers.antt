@@ -2,20 +2,21 @@
 use Prim.Native.Nat.{ℕ}
 use native.Mathlib.Omega.{arith}
 use lib.ListN.{length-take}
+use Rattle.job.specs.Answers.{accepts}
 use Rattle.job_run.specs.Accepted.{accepted-limits, accepted_list, accepted-length}
 use Rattle.pair.proofs.Laws.{word-found}
 use Rattle.pair.proofs.word_on.Goals as goal
 
 pub locations-requires : goal.locations-requires
 locations-requires c =
-    let l = (accepted-limits c.requires.accepts).cells in omega arith
+    let l = (accepted-limits (accepts c.args.job.now)).cells in omega arith
 
 pub alike_bytes-alike-requires : goal.alike_bytes-alike-requires
 alike_bytes-alike-requires c =
-    let k = c.requires in
-    let e = accepted_list k.accepts in
-    let f = accepted-length k.accepts in
-    let s = k.sized in
+    let k = accepts c.args.job.now in
+    let e = accepted_list k in
+    let f = accepted-length k in
+    let s = c.requires.sized in
     (omega arith, omega arith)
 
 pub overflow_mul-c : goal.overflow_mul-c
@@ -37,5 +38,5 @@ slice_bounds-pair_word-end-2 c =
 pub returns : goal.returns
 returns c =
     let a = c.args in
-    word-found a.job.now a.t a.public a.second.now a.first_trace.now a.second_trace.now a.c a.d
+    word-found a.job.now a.second.now a.first_trace.now a.second_trace.now a.c a.d
     (rw c.locations.ensures at c.alike_bytes-alike.ensures) c.pair_word.ensures
