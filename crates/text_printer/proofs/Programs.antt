@@ -12,6 +12,9 @@ use Rattle.rules.specs.declared.Refusal.{Refusal}
 use Rattle.rules.specs.declared.Refusal.TheVariants as refusals
 use Rattle.rules.specs.Rules.Operators.{Op1, neg, inv, Op2, add, sub, mul, and, or, xor, shl, shr, eq, ult}
 use Rattle.rules.specs.Rules.Expressions.{Token, reg, const, op1, op2, Expr, sound}
+use Rattle.std.specs.Prelude.{Result, Ok, Err, IsOk}
+use Rattle.instruction.specs.declared.Decoded.{Decoded}
+use Rattle.instruction.specs.Meaning.{instruction_read_meaning}
 use Rattle.rules.specs.Rules.Instructions.{Instr, skip, assign, load, store, jmp, beqz, cassign, spbarr, kind}
 use Rattle.rules.specs.Rules.JobFile.{Read, got, refused, and_then, refuse, byte, register, word_of, tokens, expr, with_register, jump, branch, conditional}
 use Rattle.rules.specs.Rules.JobFile.{fields, instr, postfix, instruction, nothing_left, program}
@@ -246,8 +249,9 @@ first_of n k i p at h = go (instruction n i p at) refl h
 
 -- what was read at the first instruction's offset is that instruction, and it was read
 module _ {n k i : ℕ} {p : List ℕ} {at : ℕ} (f : First n k i p at) where
-  pub first_unrefused : {A : Type 0} {r : Refusal} → refused r ≡ instr p at → A
-  first_unrefused {A} {r} e = refused-got (e ∙ f.read)
+  pub first_decoded : (r : Result Decoded Refusal) → instruction_read_meaning p r ≡ instr p at → IsOk r
+  first_decoded (Ok d) e = refl
+  first_decoded (Err r) e = refused-got (e ∙ f.read)
 
   module _ {x : Instr} {q : ℕ} (e : got x q ≡ instr p at) where
     same_first : (x ≡ f.instruction) × (q ≡ f.next)

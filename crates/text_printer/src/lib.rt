@@ -20,8 +20,7 @@ ghost use Rattle.job.specs.Answers.{Accepts};
 ghost use Rattle.text_printer.specs.Operands.{sign_part, operator_part, texts_at, below_after, IndexedAll, Operand, Printable};
 ghost use Rattle.text_printer.specs.Programs.{PrintableInstr, word_text, program_printed, printed};
 
-use instruction::{Instruction, InstructionRead};
-use job::JobOutcome;
+use instruction::Instruction;
 use location::Label;
 use rules::limits::MAX_TOKENS;
 use rules::{PrintAnswer, Refusal, Trailer};
@@ -256,19 +255,10 @@ fn put_program(p: &[u8], n: usize, out: &mut [u8]) -> usize
 {
     let mut next = 0;
     let mut offset = 0;
-    let mut i = 0;
-    while i < n {
-        match instruction::decode(p, offset) {
-            InstructionRead::Found(d) => {
-                let x = d.instruction;
-                next = put_instruction(p, x, &mut out[..], next);
-                offset = d.next;
-                i += 1;
-            }
-            InstructionRead::Refused(_) => {
-                return next;
-            }
-        }
+    for _ in 0..n {
+        let d = instruction::decode(p, offset).unwrap();
+        next = put_instruction(p, d.instruction, &mut out[..], next);
+        offset = d.next;
     }
     next
 }
@@ -300,10 +290,6 @@ fn print_accepted(job: &[u8], t: Trailer, out: &mut [u8]) -> PrintAnswer
 pub fn print_text(job: &[u8], out: &mut [u8]) -> PrintAnswer
     ensures { PrintPromise job.now out.old result out.new }
 {
-    let read = job::read_job(job);
-    let outcome = read.outcome;
-    match outcome {
-        JobOutcome::Accepted(t) => print_accepted(job, t, out),
-        JobOutcome::Refused(r) => Err(r),
-    }
+    let read = job::read_job(job)?;
+    print_accepted(job, read.trailer, out)
 }

@@ -1,7 +1,7 @@
 -- `put_program` meets its contract. The invariant: the text of the instructions left ends where the whole text ends. Assumes nothing.
 use mathlib.Core.Path.{◌≡◌, refl}
 use mathlib.Core.List.{◌++◌}
-use Prim.Native.Nat.{suc, zero-le, ◌+◌, ◌-◌, ◌^◌}
+use Prim.Native.Nat.{suc, ◌+◌, ◌-◌, ◌^◌}
 use native.Mathlib.Nat.{sub-zero}
 use native.Mathlib.Omega.{arith}
 use Rattle.rules.specs.Rules.JobFile.{got, instr}
@@ -9,55 +9,53 @@ use Rattle.rules.specs.Rules.TextPrinting.{instr_text}
 use Rattle.instruction.specs.Meaning.{meaning}
 use Rattle.byte_writer.specs.Texts.{left_done, left-room, left-next}
 use Rattle.text_printer.specs.Programs.{program_printed}
-use Rattle.text_printer.proofs.Programs.{first_of, first_unrefused, first_printable, first-later, first-split, none_left, printed-length, text_left}
+use Rattle.text_printer.proofs.Programs.{first_of, first_decoded, first_printable, first-later, first-split, none_left, printed-length, text_left}
 use Rattle.text_printer.proofs.put_program.Goals as goal
 
-pub loop-i-init : goal.loop-i-init
+pub loop-init : goal.loop-init
 unfolding program_printed
-loop-i-init c =
-    (zero-le, rw sub-zero record { area = refl; place = refl }, rw sub-zero c.requires.0)
+loop-init c =
+    (rw sub-zero record { area = refl; place = refl }, rw sub-zero c.requires.0)
 
 pub put_instruction-next-requires : goal.put_instruction-next-requires
 put_instruction-next-requires c =
     let a = c.args in
     let p = a.p.now in
-    let v = c.loop-i in
-    let d = c.in-Found.d in
-    let e : a.n - v.i ≡ suc (a.n - (v.i + 1)) = omega arith in
-    let f = first_of a.n (a.n - (v.i + 1)) v.i p v.offset (rw e at v.invariant.2) in
-    let told : got (meaning p d.instruction) d.next ≡ instr p v.offset = rw c.in-Found.is at c.decode.ensures.0 in
+    let v = c.loop in
+    let d = c.unwrap-d.result in
+    let e : a.n - v.counter ≡ suc (a.n - (v.counter + 1)) = omega arith in
+    let f = first_of a.n (a.n - (v.counter + 1)) v.counter p v.offset (rw e at v.invariant.1) in
+    let told : got (meaning p d.instruction) d.next ≡ instr p v.offset = rw c.unwrap-d.ensures at c.decode.ensures.0 in
     let x = instr_text (meaning p d.instruction) in
-    let later = text_left a.n p d.next (v.i + 1) in
-    let split : text_left a.n p v.offset v.i ≡ x ++ later = rw e (first-split f told) in
+    let later = text_left a.n p d.next (v.counter + 1) in
+    let split : text_left a.n p v.offset v.counter ≡ x ++ later = rw e (first-split f told) in
     let short = printed-length a.n p c.requires.0 c.requires.1 in
-    (first_printable f told, omega (arith, left-room x later v.invariant.1 split (2 ^ 63) (omega (arith, short))))
+    (first_printable f told, omega (arith, left-room x later v.invariant.0 split (2 ^ 63) (omega (arith, short))))
 
-pub loop-i-preserved : goal.loop-i-preserved
-loop-i-preserved c =
+pub loop-preserved : goal.loop-preserved
+loop-preserved c =
     let a = c.args in
     let p = a.p.now in
-    let v = c.loop-i in
-    let d = c.in-Found.d in
-    let e : a.n - v.i ≡ suc (a.n - (v.i + 1)) = omega arith in
-    let f = first_of a.n (a.n - (v.i + 1)) v.i p v.offset (rw e at v.invariant.2) in
-    let told : got (meaning p d.instruction) d.next ≡ instr p v.offset = rw c.in-Found.is at c.decode.ensures.0 in
+    let v = c.loop in
+    let d = c.unwrap-d.result in
+    let e : a.n - v.counter ≡ suc (a.n - (v.counter + 1)) = omega arith in
+    let f = first_of a.n (a.n - (v.counter + 1)) v.counter p v.offset (rw e at v.invariant.1) in
+    let told : got (meaning p d.instruction) d.next ≡ instr p v.offset = rw c.unwrap-d.ensures at c.decode.ensures.0 in
     let x = instr_text (meaning p d.instruction) in
-    let later = text_left a.n p d.next (v.i + 1) in
-    let split : text_left a.n p v.offset v.i ≡ x ++ later = rw e (first-split f told) in
-    (omega arith, left-next x later v.invariant.1 split c.put_instruction-next.ensures, first-later f told)
+    let later = text_left a.n p d.next (v.counter + 1) in
+    let split : text_left a.n p v.offset v.counter ≡ x ++ later = rw e (first-split f told) in
+    (left-next x later v.invariant.0 split c.put_instruction-next.ensures, first-later f told)
 
-pub returns-in-Refused : goal.returns-in-Refused
-returns-in-Refused c =
+pub unwrap-d-requires : goal.unwrap-d-requires
+unwrap-d-requires c =
     let a = c.args in
-    let p = a.p.now in
-    let v = c.loop-i in
-    let e : a.n - v.i ≡ suc (a.n - (v.i + 1)) = omega arith in
-    let f = first_of a.n (a.n - (v.i + 1)) v.i p v.offset (rw e at v.invariant.2) in
-    first_unrefused f (rw c.in-Refused.is at c.decode.ensures.0)
+    let v = c.loop in
+    let e : a.n - v.counter ≡ suc (a.n - (v.counter + 1)) = omega arith in
+    first_decoded (first_of a.n (a.n - (v.counter + 1)) v.counter a.p.now v.offset (rw e at v.invariant.1)) _ c.decode.ensures.0
 
 pub returns : goal.returns
 returns c =
     let a = c.args in
-    let v = c.loop-i in
-    let over : a.n - v.i ≡ 0 = omega arith in
-    left_done (rw (over, none_left a.n v.i a.p.now v.offset) at v.invariant.1)
+    let v = c.loop in
+    let over : a.n - v.counter ≡ 0 = omega arith in
+    left_done (rw (over, none_left a.n v.counter a.p.now v.offset) at v.invariant.0)
