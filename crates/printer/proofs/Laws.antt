@@ -20,7 +20,7 @@ use Rattle.rules.specs.Rules.Calls.{run_report, run_refused, run_parsed, fixed_r
 use Rattle.rules.specs.Rules.Demands.{observation_count, Exact}
 use Rattle.rules.specs.Rules.Listing.{printed_room, listing_of, listing}
 use Rattle.rules.proofs.Theorems.JobLaws.{passed, job-end, init-most}
-use Rattle.job.specs.declared.JobOutcome.TheVariants as outcomes
+use Rattle.std.specs.Prelude.{Result, Ok, Err}
 use Rattle.job.specs.declared.JobRead.{JobRead}
 use Rattle.job.specs.Answers.{job_read_of, read-accepted, read-refused}
 use Rattle.byte_writer.specs.Writing.{Put}
@@ -31,14 +31,14 @@ use Rattle.listing.specs.Lengths.{observations-length, answer-bound}
 use Rattle.printer.specs.Printing.{instruction_count, trace_after, Prints, Listed}
 
 -- ---- the number of instructions
-module _ (bs : List ℕ) {x : JobRead} (read : x ≡ job_read_of (trailer bs) (parse bs)) where
-  pub count-accepted : {t : Trailer} → x.outcome ≡ outcomes.Accepted t → t.count ≡ instruction_count (parse bs)
+module _ (bs : List ℕ) {x : Result JobRead Refusal} (read : x ≡ job_read_of (trailer bs) (parse bs)) where
+  pub count-accepted : {j : JobRead} → x ≡ Ok j → j.trailer.count ≡ instruction_count (parse bs)
   unfolding end_place
   count-accepted e =
       let a = read-accepted bs read e in
       ap (λ (u : Trailer). u.count) a.trailer ∙ sym (job-end (passed bs a.job a.parsed)) ∙ sym (ap instruction_count a.parsed)
 
-  pub count-refused : {r : Refusal} → x.outcome ≡ outcomes.Refused r → 0 ≡ instruction_count (parse bs)
+  pub count-refused : {r : Refusal} → x ≡ Err r → 0 ≡ instruction_count (parse bs)
   count-refused e = rw (read-refused bs read e)
 
 -- ---- the call by the fixed table

@@ -6,7 +6,6 @@ ghost use Rattle.std.specs.Prelude.{◌≡◌, ◌+◌, ◌*◌, ◌≤◌, leng
 ghost use Rattle.rules.specs.Rules.JobFile.{parse};
 ghost use Rattle.printer.specs.Printing.{instruction_count, Prints, Listed};
 
-use job::JobOutcome;
 use location::LocationSet;
 
 // 512 observations of two words each.
@@ -22,11 +21,9 @@ const END: usize = LocationSet::LIMIT + transfer::TABLE_WORDS;
 fn instruction_count(job: &[u8]) -> usize
     ensures { result ≡ instruction_count (parse job.now) }
 {
-    let read = job::read_job(job);
-    let outcome = read.outcome;
-    match outcome {
-        JobOutcome::Accepted(t) => t.count,
-        JobOutcome::Refused(_) => 0,
+    match job::read_job(job) {
+        Ok(read) => read.trailer.count,
+        Err(_) => 0,
     }
 }
 
