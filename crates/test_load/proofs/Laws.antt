@@ -9,13 +9,15 @@ use native.Mathlib.Omega.{arith}
 use borrow.Author.Tests.{eq-eqb, ne_eqb, le-leb, lt-leb}
 use lib.ListN.{length, take, drop, replicate}
 use lib.Seq.{take_at}
+use Rattle.std.specs.Prelude.{Ok, Err}
 use Rattle.location.specs.declared.LocationSet.{LocationSet}
 use Rattle.location.specs.Sets.{union, member}
 use Rattle.rules.specs.declared.Trailer.{Trailer}
 use Rattle.rules.specs.declared.Counts.{Counts}
 use Rattle.rules.specs.declared.Refusal.{Refusal}
 use Rattle.rules.specs.declared.Refusal.TheVariants as refusals
-use Rattle.rules.specs.declared.TestLoadAnswer.TheVariants as answers
+use Rattle.rules.specs.declared.TestLoad.TheVariants as outcomes
+use Rattle.rules.specs.Rules.Outcomes.{paired}
 use Rattle.rules.specs.Rules.Operators.{apply2, xor, shl, shr}
 use Rattle.rules.specs.Rules.Runs.{Job, Result, mispredicting_run, is_finished}
 use Rattle.rules.specs.Rules.JobFile.{accepted, parse, little, locations, words_at}
@@ -37,7 +39,7 @@ use Rattle.execution.specs.declared.Ran.{Ran}
 use Rattle.execution.specs.Running.{EndsAs}
 use Rattle.job_run.specs.Accepted.{accepted-size, accepted-public, accepted-init}
 use Rattle.job_run.specs.JobRuns.{RunOf}
-use Rattle.job_run.proofs.Laws.{same-part, cleared-same, own-run}
+use Rattle.job_run.proofs.Laws.{cleared-same, own-run}
 use Rattle.pair.specs.declared.SecondRun.{SecondRun}
 use Rattle.pair.specs.Runs.{SecondOf, SecondRan}
 use Rattle.pair.proofs.Laws.{same-room, areas-enough}
@@ -106,13 +108,13 @@ rest-first kept bs at n seed =
 
 -- ---- the bytes of the new state, of which the code takes a part
 module _ (vs s : List ℕ) {s' : List ℕ} {n : ℕ} (es : s' ≡ written (word_bytes vs) s) (en : length vs ≡ n) where
-  part_bytes : take (8 * n - 0) (drop 0 s') ≡ word_bytes vs
+  part_bytes : take (8 * n) s' ≡ word_bytes vs
   unfolding written
   part_bytes =
       let z : length (word_bytes vs) ≡ 8 * n = let l = length-word_bytes vs in omega arith in
-      same-part (8 * n) s' ∙ ap (take (8 * n)) es ∙ take_at (word_bytes vs) _ (8 * n) z
+      ap (take (8 * n)) es ∙ take_at (word_bytes vs) _ (8 * n) z
 
-  part_length : length (take (8 * n - 0) (drop 0 s')) ≡ 8 * n
+  part_length : length (take (8 * n) s') ≡ 8 * n
   part_length = ap length part_bytes ∙ (let l = length-word_bytes vs in omega arith)
 
 -- the words of a job's new state, for any set of those that are kept
@@ -124,13 +126,13 @@ module _ {bs : List ℕ} (t : Trailer) (all : Bytes bs) (kept : LocationSet) (se
   size : length vs ≡ n
   size = length-new_words kept 0 seed (words_at n bs t.state) ∙ length-words_at n bs t.state
 
-  pub second-sized : length (take (8 * n - 0) (drop 0 s')) ≡ 8 * locations t
+  pub second-sized : length (take (8 * n) s') ≡ 8 * locations t
   second-sized = part_length vs s es size ∙ ap (λ (k : ℕ). 8 * k) en
 
-  second-read : words_at (locations t) (take (8 * n - 0) (drop 0 s')) 0 ≡ new_words kept 0 seed (words_at (locations t) bs t.state)
+  second-read : words_at (locations t) (take (8 * n) s') 0 ≡ new_words kept 0 seed (words_at (locations t) bs t.state)
   second-read = rw (← en) (ap (λ (p : List ℕ). words_at n p 0) (part_bytes vs s es size) ∙ read-new kept seed n bs t.state all lt)
 
-  pub new-state_ran : {costs : List ℕ} {k : ℕ} {b w b' w' : List ℕ} {r : SecondRun} → SecondRan bs t (take (8 * n - 0) (drop 0 s')) costs k b w b' w' r
+  pub new-state_ran : {costs : List ℕ} {k : ℕ} {b w b' w' : List ℕ} {r : SecondRun} → SecondRan bs t (take (8 * n) s') costs k b w b' w' r
       → NewStateRan bs costs (new_words kept 0 seed (words_at (locations t) bs t.state)) k b w s b' w' s' r
   new-state_ran x = record {
     ran = λ job p. rw second-read at (x.ran job p);
@@ -177,13 +179,13 @@ module _ {bs : List ℕ} {t : Trailer} {public : LocationSet} {costs a b w s : L
 
     pub exact-unfinished : {w₂ : List ℕ} {f : Bool} → f ≡ is_finished r.counts.stop → f ≡ false
         → w₂ ≡ written (replicate working_words 0) w₁
-        → Exact (test_load_call bs seed costs areas) (answers.Undecided r.counts) (test_load_lent a' b w₂ s)
+        → Exact (test_load_call bs seed costs areas) (Ok (outcomes.Undecided r.counts)) (test_load_lent a' b w₂ s)
     unfolding own_run_alone loads
     exact-unfinished ef e ew =
         let u : is_finished own.stop ≡ false = ap is_finished (sym own-stop) ∙ sym ef ∙ e in
         rw (test_load_unfinished loads u)
         (record {
-          answer = ap answers.Undecided ends.reports.counts;
+          answer = ap (λ (n : Counts). Ok (outcomes.Undecided n)) ends.reports.counts;
           areas = λ i. test_load_lent (ends.trace i) b ((ew ∙ cleared-same working_words w₁ w o.past) i) s;
         })
 
@@ -194,7 +196,7 @@ module _ {bs : List ℕ} {t : Trailer} {public : LocationSet} {costs a b w s : L
 
     pub exact-made : {b' w₂ s' : List ℕ} {x : SecondRun} {f : Bool} → f ≡ is_finished r.counts.stop → f ≡ true
         → NewStateRan bs costs (new_words (union public r.plain) 0 seed (words_at (locations t) bs t.state)) (room a') b w₁ s b' w₂ s' x
-        → Exact (test_load_call bs seed costs areas) (answers.Compared x.word r.counts x.counts) (test_load_lent a' b' w₂ s')
+        → Exact (test_load_call bs seed costs areas) (Ok (outcomes.Compared (paired x.word r.counts x.counts))) (test_load_lent a' b' w₂ s')
     unfolding new_state_run pair_accepted pair_after loads
     exact-made {b'} {w₂} {s'} {x} ef e n =
         let u : is_finished own.stop ≡ true = ap is_finished (sym own-stop) ∙ sym ef ∙ e in
@@ -202,7 +204,7 @@ module _ {bs : List ℕ} {t : Trailer} {public : LocationSet} {costs a b w s : L
         let st : s' ≡ written (word_bytes (new_state job own seed)) s = rw same-state at n.state in
         rw (test_load_finished loads u)
         (record {
-          answer = λ i. answers.Compared (y.word i) (ends.reports.counts i) (y.counts i);
+          answer = λ i. Ok (outcomes.Compared (paired (y.word i) (ends.reports.counts i) (y.counts i)));
           areas = λ i. test_load_lent (ends.trace i) (y.trace i) ((n.work ∙ cleared-same working_words w₁ w o.past) i) (st i);
         })
 
@@ -211,11 +213,11 @@ module _ {bs : List ℕ} {t : Trailer} (k : Accepts bs t) (seed : ℕ) (costs a 
   abbrev lent : TestLoadAreas
   lent = test_load_lent a b w s
 
-  refused : (n : Refusal) → test_load_call bs seed costs lent ≡ test_load_refused n lent → Exact (test_load_call bs seed costs lent) (answers.Refused n) lent
+  refused : (n : Refusal) → test_load_call bs seed costs lent ≡ test_load_refused n lent → Exact (test_load_call bs seed costs lent) (Err n) lent
   unfolding test_load_refused
   refused n e = rw e (record { answer = refl; areas = refl })
 
-  pub no_table : costs_fit costs ≡ false → Exact (test_load_call bs seed costs lent) (answers.Refused refusals.Costs) lent
+  pub no_table : costs_fit costs ≡ false → Exact (test_load_call bs seed costs lent) (Err refusals.Costs) lent
   unfolding test_load_call test_load_parsed
   no_table c = refused refusals.Costs (rw (tabled-refused bs costs k.job k.parsed c, test_load_parsed))
 
@@ -224,16 +226,16 @@ module _ {bs : List ℕ} {t : Trailer} (k : Accepts bs t) (seed : ℕ) (costs a 
     tabled-job : tabled (parse bs) costs ≡ accepted (with_costs k.job costs)
     tabled-job = tabled-accepted bs costs k.job k.parsed table
 
-    pub unfit : pair_fits (pair_lent a b w) ≡ false → Exact (test_load_call bs seed costs lent) (answers.Refused refusals.Areas) lent
+    pub unfit : pair_fits (pair_lent a b w) ≡ false → Exact (test_load_call bs seed costs lent) (Err refusals.Areas) lent
     unfolding test_load_call test_load_parsed
     unfit h = refused refusals.Areas (rw (tabled-job, h, test_load_parsed))
 
     module _ (fit : pair_fits (pair_lent a b w) ≡ true) where
-      pub no_seed : seed ≡ 0 → Exact (test_load_call bs seed costs lent) (answers.Refused refusals.Seed) lent
+      pub no_seed : seed ≡ 0 → Exact (test_load_call bs seed costs lent) (Err refusals.Seed) lent
       unfolding test_load_call test_load_parsed
       no_seed z = refused refusals.Seed (rw (tabled-job, fit, eq-eqb seed 0 z, test_load_parsed))
 
-      pub short_state : (seed ≡ 0 → ⊥) → length s < 8 * locations t → Exact (test_load_call bs seed costs lent) (answers.Refused refusals.Output) lent
+      pub short_state : (seed ≡ 0 → ⊥) → length s < 8 * locations t → Exact (test_load_call bs seed costs lent) (Err refusals.Output) lent
       unfolding test_load_call test_load_parsed state_fits
       short_state n l =
           let z = accepted-size k in

@@ -16,7 +16,7 @@ ghost use Rattle.test_load.specs.Loads.{new_word_of, Loadable, NewStateRan};
 
 use location::{Location, LocationSet};
 use pair::SecondRun;
-use rules::{Counts, Refusal, TestLoadAnswer, Trailer};
+use rules::{Compared, Counts, Refusal, TestLoad, TestLoadAnswer, Trailer};
 
 // The word of xorshift after x.
 fn next_word(x: u64) -> u64
@@ -60,7 +60,7 @@ fn write_state(bytes: &[u8], at: usize, n: usize, kept: LocationSet, seed: u64, 
         let keep = kept.member(Location::new(l));
         let own = transfer::word_at(bytes, at, l);
         let made = new_word(keep, own, last);
-        place = byte_writer::put_number(&mut state[..], place, made.word, transfer::WORD_BYTES);
+        place = byte_writer::put_number(state, place, made.word, transfer::WORD_BYTES);
         last = made.last;
         l += 1;
     }
@@ -89,18 +89,17 @@ fn run_new_state(
 {
     let n = t.locations();
     let kept = public.union(plain);
-    write_state(job, t.state, n, kept, seed, &mut state[..]);
-    let size = transfer::WORD_BYTES * n;
+    write_state(job, t.state, n, kept, seed, state);
     pair::run_second(
         job,
         t,
         public,
-        &state[0..size],
+        &state[..transfer::WORD_BYTES * n],
         costs,
         c,
         first_trace,
-        &mut second_trace[..],
-        &mut work[..],
+        second_trace,
+        work,
     )
 }
 
@@ -120,30 +119,29 @@ fn run_load(
     ensures { Exact (test_load_call job.now seed costs.now (test_load_at_entry first_trace second_trace work state)) result
         (test_load_at_exit first_trace second_trace work state) }
 {
-    let r = pair::run_own(job, t, costs, &mut work[..], &mut first_trace[..]);
-    let c = r.counts;
-    let plain = r.plain;
-    let stop = c.stop;
-    if !judgement::finished(stop) {
-        work::clear(&mut work[..]);
-        return TestLoadAnswer::Undecided(c);
+    let own = pair::run_own(job, t, costs, work, first_trace);
+    if !judgement::finished(own.counts.stop) {
+        work::clear(work);
+        return Ok(TestLoad::Undecided(own.counts));
     }
-    let s = run_new_state(
+    let other = run_new_state(
         job,
         t,
         public,
         seed,
         costs,
-        plain,
-        c,
-        &first_trace[..],
-        &mut second_trace[..],
-        &mut work[..],
-        &mut state[..],
+        own.plain,
+        own.counts,
+        first_trace,
+        second_trace,
+        work,
+        state,
     );
-    let word = s.word;
-    let d = s.counts;
-    TestLoadAnswer::Compared(word, c, d)
+    Ok(TestLoad::Compared(Compared {
+        word: other.word,
+        first: own.counts,
+        second: other.counts,
+    }))
 }
 
 // The test load of an accepted job: a table that is none, then too short or unequal areas, then a seed of 0, then too few bytes for the new
@@ -163,19 +161,17 @@ pub fn test_accepted(
     ensures { Exact (test_load_call job.now seed costs.now (test_load_at_entry first_trace second_trace work state)) result
         (test_load_at_exit first_trace second_trace work state) }
 {
-    let n = t.locations();
     if !window_costs::costs_fit(costs) {
-        return TestLoadAnswer::Refused(Refusal::Costs);
+        return Err(Refusal::Costs);
     }
-    let fit = pair::areas_fit(&first_trace[..], &second_trace[..], &work[..]);
-    if !fit {
-        return TestLoadAnswer::Refused(Refusal::Areas);
+    if !pair::areas_fit(first_trace, second_trace, work) {
+        return Err(Refusal::Areas);
     }
     if seed == 0 {
-        return TestLoadAnswer::Refused(Refusal::Seed);
+        return Err(Refusal::Seed);
     }
-    if state.len() < transfer::WORD_BYTES * n {
-        return TestLoadAnswer::Refused(Refusal::Output);
+    if state.len() < transfer::WORD_BYTES * t.locations() {
+        return Err(Refusal::Output);
     }
     run_load(
         job,
@@ -183,9 +179,9 @@ pub fn test_accepted(
         public,
         seed,
         costs,
-        &mut first_trace[..],
-        &mut second_trace[..],
-        &mut work[..],
-        &mut state[..],
+        first_trace,
+        second_trace,
+        work,
+        state,
     )
 }

@@ -4,29 +4,29 @@ use Rattle.pair.proofs.Laws.{own-ran, ready_again}
 use Rattle.test_load.proofs.Laws.{exact-unfinished, exact-made}
 use Rattle.test_load.proofs.run_load.Goals as goal
 
-pub run_own-r-requires : goal.run_own-r-requires
-run_own-r-requires c =
+pub run_own-own-requires : goal.run_own-own-requires
+run_own-own-requires c =
     let k = c.requires.0.ready in
     (k.accepts, k.fits, k.work)
 
 pub clear-requires : goal.clear-requires
 clear-requires c =
-    let z = c.run_own-r.ensures.size in
+    let z = c.run_own-own.ensures.size in
     let h = c.requires.0.ready.work in
     omega arith
 
 pub returns-then-not-finished : goal.returns-then-not-finished
 returns-then-not-finished c =
-    exact-unfinished c.requires.0 c.requires.1 c.run_own-r.ensures c.finished.ensures (c.if-not-finished.true)
+    exact-unfinished c.requires.0 c.requires.1 c.run_own-own.ensures c.finished.ensures (c.if-not-finished.true)
     c.clear.ensures
 
-pub run_new_state-s-requires : goal.run_new_state-s-requires
-run_new_state-s-requires c =
+pub run_new_state-other-requires : goal.run_new_state-other-requires
+run_new_state-other-requires c =
     let k = c.requires.0 in
-    let o = c.run_own-r.ensures in
+    let o = c.run_own-own.ensures in
     (record { ready = ready_again k.ready o; state = k.state }, own-ran k.ready.accepts o)
 
 pub returns : goal.returns
 returns c =
-    exact-made c.requires.0 c.requires.1 c.run_own-r.ensures c.finished.ensures (c.if-not-finished.false)
-    c.run_new_state-s.ensures
+    exact-made c.requires.0 c.requires.1 c.run_own-own.ensures c.finished.ensures (c.if-not-finished.false)
+    c.run_new_state-other.ensures

@@ -18,8 +18,8 @@ write_state-requires c =
     let s = k.state in
     (omega arith, omega arith)
 
-pub overflow_mul-size : goal.overflow_mul-size
-overflow_mul-size c =
+pub overflow_mul-n : goal.overflow_mul-n
+overflow_mul-n c =
     let n = c.locations-n.ensures in
     let l = (accepted-limits c.requires.0.ready.accepts).cells in omega arith
 

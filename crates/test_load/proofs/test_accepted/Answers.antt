@@ -6,8 +6,8 @@ use Rattle.pair.proofs.Laws.{ready_by}
 use Rattle.test_load.proofs.Laws.{no_table, unfit, no_seed, short_state}
 use Rattle.test_load.proofs.test_accepted.Goals as goal
 
-pub locations-n-requires : goal.locations-n-requires
-locations-n-requires c =
+pub locations-requires : goal.locations-requires
+locations-requires c =
     let l = (accepted-limits c.requires.0).cells in omega arith
 
 pub returns-then-not-costs_fit : goal.returns-then-not-costs_fit
@@ -16,38 +16,38 @@ returns-then-not-costs_fit c =
     no_table c.requires.0 a.seed a.costs.now a.first_trace.now a.second_trace.now a.work.now a.state.now
     (sym c.costs_fit.ensures ∙ c.if-not-costs_fit.true)
 
-pub returns-then-not-fit : goal.returns-then-not-fit
-returns-then-not-fit c =
+pub returns-then-not-areas_fit : goal.returns-then-not-areas_fit
+returns-then-not-areas_fit c =
     let a = c.args in
     unfit c.requires.0 a.seed a.costs.now a.first_trace.now a.second_trace.now a.work.now a.state.now
-    (sym c.costs_fit.ensures ∙ c.if-not-costs_fit.false) (sym c.areas_fit-fit.ensures ∙ c.if-not-fit.true)
+    (sym c.costs_fit.ensures ∙ c.if-not-costs_fit.false) (sym c.areas_fit.ensures ∙ c.if-not-areas_fit.true)
 
 pub returns-then-seed-eq0 : goal.returns-then-seed-eq0
 returns-then-seed-eq0 c =
     let a = c.args in
     no_seed c.requires.0 a.seed a.costs.now a.first_trace.now a.second_trace.now a.work.now a.state.now
-    (sym c.costs_fit.ensures ∙ c.if-not-costs_fit.false) (sym c.areas_fit-fit.ensures ∙ c.if-not-fit.false)
+    (sym c.costs_fit.ensures ∙ c.if-not-costs_fit.false) (sym c.areas_fit.ensures ∙ c.if-not-areas_fit.false)
     c.if-seed-eq0.true
 
-pub overflow_mul-n : goal.overflow_mul-n
-overflow_mul-n c =
-    let n = c.locations-n.ensures in
+pub overflow_mul-locations : goal.overflow_mul-locations
+overflow_mul-locations c =
+    let n = c.locations.ensures in
     let l = (accepted-limits c.requires.0).cells in omega arith
 
-pub returns-then-state-n : goal.returns-then-state-n
-returns-then-state-n c =
+pub returns-then-state-locations : goal.returns-then-state-locations
+returns-then-state-locations c =
     let a = c.args in
-    let n = c.locations-n.ensures in
+    let n = c.locations.ensures in
     short_state c.requires.0 a.seed a.costs.now a.first_trace.now a.second_trace.now a.work.now a.state.now
-    (sym c.costs_fit.ensures ∙ c.if-not-costs_fit.false) (sym c.areas_fit-fit.ensures ∙ c.if-not-fit.false)
+    (sym c.costs_fit.ensures ∙ c.if-not-costs_fit.false) (sym c.areas_fit.ensures ∙ c.if-not-areas_fit.false)
     c.if-seed-eq0.false (omega arith)
 
 pub run_load-requires : goal.run_load-requires
 run_load-requires c =
     let a = c.args in
-    let n = c.locations-n.ensures in
+    let n = c.locations.ensures in
     let table = sym c.costs_fit.ensures ∙ c.if-not-costs_fit.false in
-    let fit = sym c.areas_fit-fit.ensures ∙ c.if-not-fit.false in (
+    let fit = sym c.areas_fit.ensures ∙ c.if-not-areas_fit.false in (
       record {
         ready = ready_by c.requires.0 c.requires.1 table a.first_trace.now a.second_trace.now a.work.now fit;
         state = omega arith;
