@@ -1,6 +1,6 @@
 -- What the readers of operands say of the rules' reading: what was read, and what was written of it.
 -- Assumes nothing.
-use Rattle.std.specs.Prelude.{◌≡◌, List, [], ◌∷◌, ℕ, ◌+◌, ◌-◌, ◌*◌, ◌^◌, ◌<◌, ◌≤◌, length, drop}
+use Rattle.std.specs.Prelude.{◌≡◌, List, [], ◌∷◌, ℕ, ◌+◌, ◌-◌, ◌*◌, ◌^◌, ◌<◌, ◌≤◌, length, drop, Option, Some, None}
 use Rattle.rules.specs.Rules.Limits.{max_tokens}
 use Rattle.rules.specs.Rules.Operators.{Op2}
 use Rattle.rules.specs.Rules.Expressions.{Expr, after, held, sound}
@@ -9,12 +9,8 @@ use Rattle.rules.specs.Rules.Parts.{Part, parts, closing}
 use Rattle.rules.specs.Rules.TextReading.{Taken, took, nothing, by_name, closed, operator_named, whole_operand}
 use Rattle.byte_writer.specs.Writing.{Put}
 use Rattle.operand.specs.declared.Progress.{Progress}
-use Rattle.operand.specs.declared.OperandRead.{OperandRead}
-use Rattle.operand.specs.declared.OperandRead.TheVariants as operands
 use Rattle.operand.specs.declared.OperatorAt.{OperatorAt}
 use Rattle.operand.specs.declared.Whole.{Whole}
-use Rattle.operand.specs.declared.WholeRead.{WholeRead}
-use Rattle.operand.specs.declared.WholeRead.TheVariants as wholes
 
 -- There is room for as many tokens as an expression may still have: at most nine bytes each.
 pub record Roomy (p : Progress) : Type 0 where
@@ -39,9 +35,9 @@ pub record Advanced (p : Progress) (next : ℕ) (bytes : List ℕ) (takes : ℕ)
   pub few : q.count ≤ max_tokens
   pub held : q.held ≡ after p.held takes
 
-abbrev pub TokenPut : Progress → ℕ → List ℕ → ℕ → List ℕ → List ℕ → OperandRead → Type 0
-TokenPut p at bytes takes a b (operands.Read q) = Advanced p at bytes takes a b q
-TokenPut p at bytes takes a b operands.Refused = max_tokens ≤ p.count
+abbrev pub TokenPut : Progress → ℕ → List ℕ → ℕ → List ℕ → List ℕ → Option Progress → Type 0
+TokenPut p at bytes takes a b (Some q) = Advanced p at bytes takes a b q
+TokenPut p at bytes takes a b None = max_tokens ≤ p.count
 
 -- ---- tokens read and written from p to q
 pub record Tokens (p : Progress) (e : Expr) (a b : List ℕ) (q : Progress) : Type 0 where
@@ -62,11 +58,11 @@ pub record Brought (t : List ℕ) (R : Taken Expr) (p : Progress) (a b : List �
 pub record Unread (R : Taken Expr) (c : ℕ) : Type 0 where
   pub many : (e : Expr) (ps : List Part) → R ≡ took e ps → max_tokens < c + length e
 
-abbrev pub OperandTold : List ℕ → Taken Expr → Progress → List ℕ → List ℕ → OperandRead → Type 0
-OperandTold t R p a b (operands.Read q) = Brought t R p a b q
-OperandTold t R p a b operands.Refused = Unread R p.count
+abbrev pub OperandTold : List ℕ → Taken Expr → Progress → List ℕ → List ℕ → Option Progress → Type 0
+OperandTold t R p a b (Some q) = Brought t R p a b q
+OperandTold t R p a b None = Unread R p.count
 
--- ---- an operator's name: 0 is the byte of none
+-- ---- an operator's name
 pub record OperatorRead (t : List ℕ) (at : ℕ) (r : OperatorAt) : Type 0 where
   pub operator : Op2
   pub read : by_name operator_named (parts (drop at t)) ≡ took operator (parts (drop r.next t))
@@ -74,9 +70,9 @@ pub record OperatorRead (t : List ℕ) (at : ℕ) (r : OperatorAt) : Type 0 wher
   pub on : at < r.next
   pub within : r.next ≤ length t
 
-pub record OperatorTold (t : List ℕ) (at : ℕ) (r : OperatorAt) : Type 0 where
-  pub none : r.byte ≡ 0 → by_name operator_named (parts (drop at t)) ≡ nothing
-  pub some : (r.byte ≡ 0 → ⊥) → OperatorRead t at r
+abbrev pub OperatorTold : List ℕ → ℕ → Option OperatorAt → Type 0
+OperatorTold t at (Some r) = OperatorRead t at r
+OperatorTold t at None = by_name operator_named (parts (drop at t)) ≡ nothing
 
 -- ---- the closing bracket, and the operator's token
 pub record ClosedBy (t : List ℕ) (p : Progress) (byte : ℕ) (a b : List ℕ) (q : Progress) : Type 0 where
@@ -89,9 +85,9 @@ pub record ClosedBy (t : List ℕ) (p : Progress) (byte : ℕ) (a b : List ℕ) 
 pub record Unclosed (t : List ℕ) (p : Progress) : Type 0 where
   pub many : (x y : Expr) (ps : List Part) → closed x (parts (drop p.at t)) ≡ took y ps → max_tokens ≤ p.count
 
-abbrev pub ClosedTold : List ℕ → Progress → ℕ → List ℕ → List ℕ → OperandRead → Type 0
-ClosedTold t p byte a b (operands.Read q) = ClosedBy t p byte a b q
-ClosedTold t p byte a b operands.Refused = Unclosed t p
+abbrev pub ClosedTold : List ℕ → Progress → ℕ → List ℕ → List ℕ → Option Progress → Type 0
+ClosedTold t p byte a b (Some q) = ClosedBy t p byte a b q
+ClosedTold t p byte a b None = Unclosed t p
 
 -- ---- a whole operand as an expression of the file
 pub record WholeBrought (t : List ℕ) (at : ℕ) (a : List ℕ) (to : ℕ) (b : List ℕ) (q : Whole) : Type 0 where
@@ -101,6 +97,6 @@ pub record WholeBrought (t : List ℕ) (at : ℕ) (a : List ℕ) (to : ℕ) (b :
   pub sound : q.sound ≡ sound tokens
   pub size : q.to ≤ to + 9 * max_tokens + 1
 
-abbrev pub WholeTold : List ℕ → ℕ → List ℕ → ℕ → List ℕ → WholeRead → Type 0
-WholeTold t at a to b (wholes.Read q) = WholeBrought t at a to b q
-WholeTold t at a to b wholes.Refused = whole_operand (parts (drop at t)) ≡ nothing
+abbrev pub WholeTold : List ℕ → ℕ → List ℕ → ℕ → List ℕ → Option Whole → Type 0
+WholeTold t at a to b (Some q) = WholeBrought t at a to b q
+WholeTold t at a to b None = whole_operand (parts (drop at t)) ≡ nothing

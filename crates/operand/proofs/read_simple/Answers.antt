@@ -2,21 +2,20 @@
 use Rattle.operand.proofs.Found.{register-told, constant-told, simple_unread}
 use Rattle.operand.proofs.read_simple.Goals as goal
 
-pub returns-then-register-lt-REGISTERS : goal.returns-then-register-lt-REGISTERS
-returns-then-register-lt-REGISTERS c =
+pub returns-in-Some : goal.returns-in-Some
+returns-in-Some c =
     let a = c.args in
-    register-told a.text.now a.p a.start a.end c.requires.0 a.out.now c.put_token.new.out
-    c.put_token.result c.register_named-register.ensures c.if-register-lt-REGISTERS.true c.put_token.ensures
+    register-told a.text.now a.p a.start a.end c.requires.0 a.out.now c.put_token.new.out c.put_token.result c.in-Some.ensures
+    c.put_token.ensures
 
-pub returns-in-Found : goal.returns-in-Found
-returns-in-Found c =
+pub returns-in_err-constant_named : goal.returns-in_err-constant_named
+returns-in_err-constant_named c =
     let a = c.args in
-    constant-told a.text.now a.p a.start a.end c.requires.0 a.out.now c.put_constant.new.out
-    c.register_named-register.ensures c.if-register-lt-REGISTERS.false c.constant_named.ensures
-    c.put_constant.result c.in-Found.is c.put_constant.ensures
+    simple_unread a.text.now a.p a.start a.end c.requires.0 a.out.now a.out.now c.in_default.ensures c.in_err-constant_named.ensures
+    c.from_residual.ensures
 
-pub returns-in-Missing : goal.returns-in-Missing
-returns-in-Missing c =
+pub returns : goal.returns
+returns c =
     let a = c.args in
-    simple_unread a.text.now a.p a.start a.end c.requires.0 a.out.now a.out.now
-    c.register_named-register.ensures c.if-register-lt-REGISTERS.false c.constant_named.ensures c.in-Missing.is
+    constant-told a.text.now a.p a.start a.end c.requires.0 a.out.now c.put_constant.new.out c.in_default.ensures c.put_constant.result
+    c.in_ok-constant_named.ensures c.put_constant.ensures
