@@ -23,7 +23,7 @@ use Rattle.rules.specs.Rules.Listing.{summary, first_line, first_lines, outcome_
 use Rattle.byte_writer.specs.Lengths.{cond-length, decimal-length}
 use Rattle.listing.specs.Lines.{observations_in}
 
-line-length : (word rest : List ℕ) → length (line word rest) ≡ length word + length rest + 1
+pub line-length : (word rest : List ℕ) → length (line word rest) ≡ length word + length rest + 1
 unfolding line
 line-length word rest = omega (arith, length-append (word ++ rest) (10 ∷ []), length-append word rest)
 

@@ -1,41 +1,31 @@
 -- `put_members` meets its contract. The invariant: what is left of the locations ends where all of them end. Assumes nothing.
-use mathlib.Core.Path.{◌≡◌, refl}
-use Prim.Native.Nat.{◌-◌, ◌^◌}
+use mathlib.Core.Path.{◌≡◌}
+use Prim.Native.Nat.{◌+◌, ◌-◌}
 use native.Mathlib.Omega.{arith}
 use Rattle.location.specs.Sets.{limit}
 use Rattle.rules.specs.Rules.Listing.{members}
 use Rattle.listing.specs.Lines.{member_text}
-use Rattle.byte_writer.specs.Texts.{left_done, left-length, left-room, left-next}
 use Rattle.listing.proofs.Texts.{members-next}
+use Rattle.byte_writer.specs.Writers.{remains-whole, remains-nothing, remains-room, remains-next}
 use Rattle.listing.proofs.put_members.Goals as goal
 
-pub loop-left-init : goal.loop-left-init
-loop-left-init c = (omega arith, record { area = refl; place = refl })
+pub loop-l-init : goal.loop-l-init
+loop-l-init c = remains-whole _ _
 
-pub put_member-next-requires : goal.put_member-next-requires
-put_member-next-requires c =
-    let a = c.args in
-    let v = c.loop-left in
-    let x = member_text a.s (limit - v.left) in
-    let later = members a.s (limit - (v.left - 1)) (v.left - 1) in
-    let split = members-next a.s v.left (omega arith) (omega arith) in
-    left-room x later v.invariant.1 split (2 ^ 64) (omega arith)
+pub put_member-requires : goal.put_member-requires
+put_member-requires c =
+    let s = c.args.s in
+    let l = c.loop-l.l in
+    remains-room (member_text s l) (members s (l + 1) (limit - (l + 1))) c.loop-l.invariant (members-next s l c.loop-l-test.true) c.requires
 
-pub loop-left-preserved : goal.loop-left-preserved
-loop-left-preserved c =
-    let a = c.args in
-    let v = c.loop-left in
-    let x = member_text a.s (limit - v.left) in
-    let later = members a.s (limit - (v.left - 1)) (v.left - 1) in
-    let split = members-next a.s v.left (omega arith) (omega arith) in
-    (omega arith, left-next x later v.invariant.1 split c.put_member-next.ensures)
-
-pub shape_of-out : goal.shape_of-out
-shape_of-out c = left-length c.loop-left.invariant.1
+pub loop-l-preserved : goal.loop-l-preserved
+loop-l-preserved c =
+    let s = c.args.s in
+    let l = c.loop-l.l in
+    remains-next (member_text s l) (members s (l + 1) (limit - (l + 1))) c.loop-l.invariant (members-next s l c.loop-l-test.true) c.put_member.ensures
 
 pub returns : goal.returns
 unfolding members
 returns c =
-    let v = c.loop-left in
-    let none : v.left ≡ 0 = omega arith in
-    left_done (rw none at v.invariant.1)
+    let none : limit - c.loop-l.l ≡ 0 = omega arith in
+    remains-nothing (rw none at c.loop-l.invariant)

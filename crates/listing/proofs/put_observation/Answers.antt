@@ -1,67 +1,39 @@
--- `put_observation` meets its contract, kind by kind. Assumes nothing.
-use mathlib.Core.Path.{ap}
-use native.Mathlib.Omega.{arith}
-use lib.ListN.{length}
+-- `put_observation` meets its contract: END is written for the number of instructions. Assumes nothing.
+use mathlib.Core.Path.{◌≡◌}
 use Rattle.rules.specs.Rules.Answers.{text}
-use Rattle.listing.proofs.Texts.{start-line, rollback-line, pc-line, load_line, store_line}
+use Rattle.rules.specs.Rules.Instructions.{pc_kind}
+use Rattle.listing.proofs.Texts.{observation_end, observation-number}
+use Rattle.listing.proofs.put_observation.Goals.{else-kind-eq-PC-via-then-kind-eq-PC+else-value-n, else-kind-eq-PC-via-else-kind-eq-PC}
 use Rattle.listing.proofs.put_observation.Goals as goal
 
-pub put_number_line-requires : goal.put_number_line-requires
+pub put_line-requires : goal.put_line-requires
 unfolding text
+put_line-requires c =
+    let a = c.args in
+    rw (observation_end a.n a.kind a.value c.if-kind-eq-PC.true c.if-value-n.true, ← c.kind_text.ensures) at c.requires
+
+pub returns-then-value-n : goal.returns-then-value-n
+unfolding text
+returns-then-value-n c =
+    let a = c.args in
+    rw (observation_end a.n a.kind a.value c.if-kind-eq-PC.true c.if-value-n.true, ← c.kind_text.ensures) c.put_line.ensures
+
+pub put_number_line-requires : goal.put_number_line-requires
 put_number_line-requires c =
     let a = c.args in
-    omega (arith, ap length (start-line a.n a.kind a.value c.in-0.is))
+    let other : a.kind ≡ pc_kind → a.value ≡ a.n → ⊥ =
+    elim c.else-kind-eq-PC.branch [
+      | else-kind-eq-PC-via-then-kind-eq-PC+else-value-n w ↦ λ e f. w.if-value-n.false f
+      | else-kind-eq-PC-via-else-kind-eq-PC w ↦ λ e f. w.if-kind-eq-PC.false e
+    ] in
+    rw (observation-number a.n a.kind a.value other, ← c.kind_text-else-kind-eq-PC.ensures) at c.requires
 
-pub put_number_line-requires-in-1 : goal.put_number_line-requires-in-1
-unfolding text
-put_number_line-requires-in-1 c =
+pub returns-else-kind-eq-PC : goal.returns-else-kind-eq-PC
+returns-else-kind-eq-PC c =
     let a = c.args in
-    omega (arith, ap length (rollback-line a.n a.kind a.value c.in-1.is))
-
-pub put_place_line-requires : goal.put_place_line-requires
-unfolding text
-put_place_line-requires c =
-    let a = c.args in
-    omega (arith, ap length (pc-line a.n a.kind a.value c.in-2.is))
-
-pub put_number_line-requires-in-3 : goal.put_number_line-requires-in-3
-unfolding text
-put_number_line-requires-in-3 c =
-    let a = c.args in
-    omega (arith, ap length (load_line a.n a.kind a.value c.in-3.is))
-
-pub put_number_line-requires-in_default : goal.put_number_line-requires-in_default
-unfolding text
-put_number_line-requires-in_default c =
-    let a = c.args in
-    omega (arith, ap length (store_line a.n a.kind a.value (omega arith)))
-
-pub returns-in-0 : goal.returns-in-0
-unfolding text
-returns-in-0 c =
-    let a = c.args in
-    rw (start-line a.n a.kind a.value c.in-0.is) c.put_number_line.ensures
-
-pub returns-in-1 : goal.returns-in-1
-unfolding text
-returns-in-1 c =
-    let a = c.args in
-    rw (rollback-line a.n a.kind a.value c.in-1.is) c.put_number_line-in-1.ensures
-
-pub returns-in-2 : goal.returns-in-2
-unfolding text
-returns-in-2 c =
-    let a = c.args in
-    rw (pc-line a.n a.kind a.value c.in-2.is) c.put_place_line.ensures
-
-pub returns-in-3 : goal.returns-in-3
-unfolding text
-returns-in-3 c =
-    let a = c.args in
-    rw (load_line a.n a.kind a.value c.in-3.is) c.put_number_line-in-3.ensures
-
-pub returns-in_default : goal.returns-in_default
-unfolding text
-returns-in_default c =
-    let a = c.args in
-    rw (store_line a.n a.kind a.value (omega arith)) c.put_number_line-in_default.ensures
+    let other : a.kind ≡ pc_kind → a.value ≡ a.n → ⊥ =
+    elim c.else-kind-eq-PC.branch [
+      | else-kind-eq-PC-via-then-kind-eq-PC+else-value-n w ↦ λ e f. w.if-value-n.false f
+      | else-kind-eq-PC-via-else-kind-eq-PC w ↦ λ e f. w.if-kind-eq-PC.false e
+    ] in
+    rw (observation-number a.n a.kind a.value other, ← c.kind_text-else-kind-eq-PC.ensures) c.put_number_line.ensures

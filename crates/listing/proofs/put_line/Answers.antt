@@ -1,0 +1,8 @@
+-- `put_line` meets its contract: its parts one after the other. Assumes nothing.
+use Rattle.rules.specs.Rules.Listing.{line}
+use Rattle.byte_writer.specs.Writers.{writes-append}
+use Rattle.listing.proofs.put_line.Goals as goal
+
+pub returns : goal.returns
+unfolding line
+returns c = writes-append (writes-append c.put_text.ensures c.put_text-2.ensures) c.put_byte.ensures
