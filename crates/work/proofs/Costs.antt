@@ -2,11 +2,10 @@
 -- Assumes nothing.
 use mathlib.Core.Path.{◌≡◌, sym, ap, ◌∙◌}
 use mathlib.Core.List.{List}
-use Prim.Native.Nat.{ℕ, suc, ◌+◌, ◌<◌, ◌≤◌}
-use native.Mathlib.Numerals.{add-one}
+use Prim.Native.Nat.{ℕ, ◌+◌, ◌<◌, ◌≤◌}
 use native.Mathlib.Omega.{arith}
-use lib.ListN.{length, get_or, drop, take, set, length-take, length-drop}
-use lib.Seq.{sets, length-sets, get_or-take, get_or-drop, drop-drop, drop-cons, drop-length, ext_get_or}
+use lib.ListN.{length, get_or, drop, take, length-take, length-drop}
+use lib.Seq.{sets, length-sets, get_or-take, get_or-drop, drop-drop, ext_get_or}
 use Rattle.rules.specs.Rules.Limits.{kinds}
 use Rattle.work.specs.Layout.{labels, cost_place, cost_base}
 use Rattle.work.specs.Words.{costs_in}
@@ -22,19 +21,6 @@ pub cost_at : (w : List ℕ) (k : ℕ) → k < kinds → get_or w (cost_base + k
 cost_at w k h = rw (costs-in w) (sym (get_or-take kinds (drop cost_base w) k 0 h ∙ get_or-drop cost_base w k 0))
 
 -- ---- a table that was stored
--- entry number i, then those after it; x is what the code stores
-pub stored_on : (w w₀ cs : List ℕ) (i x : ℕ) → i < length cs → x ≡ get_or cs i 0 → sets w (cost_base + i) (drop i cs) ≡ sets w₀ cost_base cs
-    → sets (set w (cost_base + i) x) (cost_base + (i + 1)) (drop (i + 1) cs) ≡ sets w₀ cost_base cs
-stored_on w w₀ cs i x h ex e =
-    let s : cost_base + (i + 1) ≡ suc (cost_base + i) = omega arith in
-    rw (s, add-one, ex) (rw (drop-cons cs i 0 h) at e)
-
-pub stored-all : (w w₀ cs : List ℕ) (i : ℕ) → length cs ≤ i → i ≤ length cs → sets w (cost_base + i) (drop i cs) ≡ sets w₀ cost_base cs
-    → w ≡ sets w₀ cost_base cs
-stored-all w w₀ cs i m l e =
-    let s : i ≡ length cs = omega arith in
-    rw (s, drop-length cs) at e
-
 -- it is the table
 pub costs-stored : (w cs : List ℕ) → length cs ≡ kinds → cost_base + kinds ≤ length w → costs_in (drop labels (sets w cost_base cs)) ≡ cs
 costs-stored w cs l f =

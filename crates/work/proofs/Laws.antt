@@ -4,7 +4,7 @@ use mathlib.Core.Path.{◌≡◌, refl, ap, ◌∙◌}
 use mathlib.Core.List.{List, [], ◌∷◌}
 use Prim.Native.Nat.{ℕ, zero, suc, ◌+◌, ◌-◌, ◌*◌, ◌/◌, ◌%◌, ◌^◌, ◌<◌, ◌≤◌}
 use native.Mathlib.Nat.{add-zero, le_refl}
-use native.Mathlib.Numerals.{add-one, add-two, add-three, add-four}
+use native.Mathlib.Numerals.{add-one}
 use native.Mathlib.Omega.{arith}
 use lib.ListN.{length, set}
 use lib.Seq.{sets, length-sets, set-set, set_comm}
@@ -15,14 +15,6 @@ use Rattle.rules.specs.declared.Tagged.{Tagged}
 use Rattle.rules.specs.Rules.Expressions.{tagged}
 use Rattle.work.specs.Layout.{operand_base, change_base}
 use Rattle.work.specs.Words.{tagged_in, tagged_at, stored_in, stored, number_at, operand_logged, changed, undone, tagged_words}
-
-pub store_five : (w : List ℕ) (i a b c d e : ℕ)
-    → set (set (set (set (set w i a) (i + 1) b) (i + 2) c) (i + 3) d) (i + 4) e ≡ sets w i (a ∷ b ∷ c ∷ d ∷ e ∷ [])
-store_five w i a b c d e = rw (add-one, add-two, add-three, add-four)
-
-pub store_four : (w : List ℕ) (i a b c d : ℕ)
-    → set (set (set (set w i a) (i + 1) b) (i + 2) c) (i + 3) d ≡ sets w i (a ∷ b ∷ c ∷ d ∷ [])
-store_four w i a b c d = rw (add-one, add-two, add-three)
 
 -- ---- the operand of a value that rests on its location l alone
 -- one word stored before those that are
@@ -59,11 +51,7 @@ own_law w w₁ v l k s h ek es e =
     let vs = tagged_words (tagged v empty) in
     rw (e, es, ek, word-bit (l % 64) (omega arith)) (set-sets vs w i q x (omega arith) ∙ ap (sets w i) (own-words q x v (omega arith)))
 
--- an operand logged, of what the code read and of the words after its stores
-pub log_law : (w w₁ : List ℕ) (k l : ℕ) (x : Tagged) → x ≡ tagged_at w l
-    → w₁ ≡ stored_in (set w (change_base k) l) (change_base k + 1) x → w₁ ≡ operand_logged w k l
-log_law w w₁ k l x ex e₁ = e₁ ∙ (λ i. stored_in (set w (change_base k) l) (add-one (change_base k) i) (ex i))
-
+-- ---- a change
 length_logged : (w : List ℕ) (k l : ℕ) → length (operand_logged w k l) ≡ length w
 length_logged w k l = length-sets w (change_base k) (l ∷ tagged_words (tagged_at w l))
 

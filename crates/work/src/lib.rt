@@ -70,22 +70,21 @@ fn load_at(work: &[u64], at: usize) -> Tagged
     requires { at + 5 ≤ length work.now }
     ensures { result ≡ tagged_in work.now at }
 {
-    let deps = set_at(work, at);
     Tagged {
+        deps: set_at(work, at),
         value: work[at + VALUE],
-        deps,
     }
 }
 
+// Word by word: `copy_from_slice` of so few words is a call, in each step that writes.
 fn store_at(work: &mut [u64], at: usize, value: u64, deps: LocationSet)
     requires { at + 5 ≤ length work.old }
     ensures { work.new ≡ stored_in work.old at (tagged value deps) }
 {
-    let words = deps.words;
-    work[at] = words[0];
-    work[at + 1] = words[1];
-    work[at + 2] = words[2];
-    work[at + 3] = words[3];
+    work[at] = deps.words[0];
+    work[at + 1] = deps.words[1];
+    work[at + 2] = deps.words[2];
+    work[at + 3] = deps.words[3];
     work[at + VALUE] = value;
 }
 
@@ -117,8 +116,7 @@ pub fn store(work: &mut [u64], k: usize, v: Tagged)
     requires { operand_base k + 5 ≤ length work.old }
     ensures { work.new ≡ stored work.old k v }
 {
-    let deps = v.deps;
-    store_at(&mut work[..], OPERAND * k, v.value, deps);
+    store_at(work, OPERAND * k, v.value, v.deps);
 }
 
 // Location l takes a value that rests on l alone: of its set only the word that has its bit is not 0.
@@ -129,7 +127,7 @@ pub fn store_own(work: &mut [u64], l: Location, value: u64)
 {
     let k = l.index();
     let at = OPERAND * k;
-    store_at(&mut work[..], at, value, LocationSet::empty());
+    store_at(work, at, value, LocationSet::empty());
     work[at + k / 64] = 1 << (k % 64);
 }
 
@@ -140,10 +138,9 @@ fn log_operand(work: &mut [u64], count: usize, k: usize)
     ensures { work.new ≡ operand_logged work.old count k }
 {
     let at = LOG + CHANGE * count;
-    let old = load_at(&work[..], OPERAND * k);
-    let deps = old.deps;
+    let old = load_at(work, OPERAND * k);
     work[at] = k as u64;
-    store_at(&mut work[..], at + 1, old.value, deps);
+    store_at(work, at + 1, old.value, old.deps);
 }
 
 // Operand k takes v; what it was before goes to the log as change number count.
@@ -152,8 +149,8 @@ pub fn change(work: &mut [u64], count: usize, k: usize, v: Tagged)
     requires count_in_bounds { change_base count + 6 ≤ length work.old }
     ensures { work.new ≡ changed work.old count k v }
 {
-    log_operand(&mut work[..], count, k);
-    store(&mut work[..], k, v);
+    log_operand(work, count, k);
+    store(work, k, v);
 }
 
 // How many entries the table has: a count over the limit is read as the limit.
@@ -197,7 +194,7 @@ pub fn append(work: &mut [u64], i: usize, address: u64, v: Tagged)
     requires { (i < max_entries) × (log_base ≤ length work.old) }
     ensures { work.new ≡ appended work.old i address v }
 {
-    store(&mut work[..], LocationSet::LIMIT + i, v);
+    store(work, LocationSet::LIMIT + i, v);
     work[ADDRESSES + i] = address;
     work[ENTRY_COUNT] = (i + 1) as u64;
 }
@@ -207,8 +204,8 @@ pub fn extend(work: &mut [u64], count: usize, i: usize, address: u64, v: Tagged)
     requires { (i < max_entries) × (change_base count + 6 ≤ length work.old) }
     ensures { work.new ≡ extended work.old count i address v }
 {
-    log_operand(&mut work[..], count, OPERANDS);
-    append(&mut work[..], i, address, v);
+    log_operand(work, count, OPERANDS);
+    append(work, i, address, v);
 }
 
 // The changes from the last of count down to number mark are undone. No operand is tested: there is one of each number in the log.
@@ -217,13 +214,11 @@ pub fn undo(work: &mut [u64], count: usize, mark: usize)
     requires by_index { (j : ℕ) → mark ≤ j → j < count → number_at work.old j ≤ operands }
     ensures { work.new ≡ undone work.old count (count - mark) }
 {
-    let mut k = count;
-    while mark < k {
-        k -= 1;
+    for k in (mark..count).rev() {
         let at = LOG + CHANGE * k;
-        let before = load_at(&work[..], at + 1);
+        let before = load_at(work, at + 1);
         let x = work[at] as usize;
-        store(&mut work[..], x, before);
+        store(work, x, before);
     }
 }
 
@@ -262,22 +257,13 @@ pub fn cost_of(work: &[u64], kind: usize) -> u64
     work[COSTS + kind]
 }
 
-// A byte as a word: apart, so that the loop below asks for the index alone.
-fn wide(b: u8) -> u64
-    ensures { result ≡ b }
-{
-    b as u64
-}
-
 // The window costs become those of a table, a byte each.
 pub fn store_costs(work: &mut [u64], costs: &[u8])
     requires { cost_base + length costs.now ≤ length work.old }
     ensures { work.new ≡ sets work.old cost_base costs.now }
 {
-    let mut k = 0;
-    while k < costs.len() {
-        work[COSTS + k] = wide(costs[k]);
-        k += 1;
+    for (k, cost) in costs.iter().enumerate() {
+        work[COSTS + k] = u64::from(*cost);
     }
 }
 
@@ -286,9 +272,5 @@ pub fn clear(work: &mut [u64])
     requires { working_words ≤ length work.old }
     ensures { work.new ≡ written (replicate working_words 0) work.old }
 {
-    let mut i = 0;
-    while i < WORDS {
-        work[i] = 0;
-        i += 1;
-    }
+    work[..WORDS].fill(0);
 }

@@ -39,19 +39,16 @@ pub fn roll_back(work: &mut [u64], c: Control) -> RolledBack
     ensures { RollsBack work.old work.new c result }
 {
     let depth = c.depth - 1;
-    let log = c.log;
-    let top = super::load_branch(&work[..], depth);
-    let mark = top.mark;
-    super::undo(&mut work[..], log, mark);
-    let control = Control {
-        place: top.target,
-        depth,
-        log: mark,
-        opened: c.opened,
-        window: top.outer,
-    };
+    let top = super::load_branch(work, depth);
+    super::undo(work, c.log, top.mark);
     RolledBack {
-        control,
+        control: Control {
+            place: top.target,
+            depth,
+            log: top.mark,
+            window: top.outer,
+            ..c
+        },
         id: top.id,
         target: top.target,
     }
@@ -83,22 +80,19 @@ pub fn open_branch(
     requires opened_bound { c.opened + 1 < 2 ^ 64 }
     ensures { Moves work.old work.new c result (λ M. opening_next M wrong target window remaining) }
 {
-    let k = c.depth;
-    let log = c.log;
-    let opened = c.opened;
     let b = OpenBranch {
-        id: opened,
+        id: c.opened,
         target,
         outer: remaining,
-        mark: log,
+        mark: c.log,
     };
-    super::push_branch(&mut work[..], k, b);
+    super::push_branch(work, c.depth, b);
     Control {
         place: wrong,
-        depth: k + 1,
-        log,
-        opened: opened + 1,
-        window: window_at(k, window, remaining),
+        depth: c.depth + 1,
+        opened: c.opened + 1,
+        window: window_at(c.depth, window, remaining),
+        ..c
     }
 }
 
@@ -108,11 +102,8 @@ fn logged(c: Control, place: usize, remaining: usize) -> Control
     ensures { result ≡ logged_to c place remaining }
 {
     Control {
-        place,
-        depth: c.depth,
         log: c.log + 1,
-        opened: c.opened,
-        window: remaining,
+        ..go(c, place, remaining)
     }
 }
 
@@ -129,14 +120,12 @@ pub fn assign(
     requires { Fit work.old c × Left c remaining × (l.0 < limit) }
     ensures { Moves work.old work.new c result (λ M. ordinary_next M (put M.state l.0 v) place remaining) }
 {
-    let depth = c.depth;
-    let log = c.log;
     let k = l.index();
-    if depth == 0 {
-        super::store(&mut work[..], k, v);
+    if c.depth == 0 {
+        super::store(work, k, v);
         return go(c, place, remaining);
     }
-    super::change(&mut work[..], log, k, v);
+    super::change(work, c.log, k, v);
     logged(c, place, remaining)
 }
 
@@ -153,14 +142,12 @@ pub fn replace(
     ensures { Moves work.old work.new c result
         (λ M. ordinary_next M (with_outside M.state (reworded M.state.outside i v)) place remaining) }
 {
-    let depth = c.depth;
-    let log = c.log;
     let entry = LocationSet::LIMIT + i;
-    if depth == 0 {
-        super::store(&mut work[..], entry, v);
+    if c.depth == 0 {
+        super::store(work, entry, v);
         return go(c, place, remaining);
     }
-    super::change(&mut work[..], log, entry, v);
+    super::change(work, c.log, entry, v);
     logged(c, place, remaining)
 }
 
@@ -177,14 +164,12 @@ pub fn append(
     requires { Fit work.old c × Left c remaining × (i ≡ count_in work.old) × (i < max_entries) }
     ensures { Moves work.old work.new c result (λ M. ordinary_next M (with_entry M.state a.0 v) place remaining) }
 {
-    let depth = c.depth;
-    let log = c.log;
     let address = a.value();
-    if depth == 0 {
-        super::append(&mut work[..], i, address, v);
+    if c.depth == 0 {
+        super::append(work, i, address, v);
         return go(c, place, remaining);
     }
-    super::extend(&mut work[..], log, i, address, v);
+    super::extend(work, c.log, i, address, v);
     logged(c, place, remaining)
 }
 
@@ -194,9 +179,7 @@ pub fn go(c: Control, place: usize, remaining: usize) -> Control
 {
     Control {
         place,
-        depth: c.depth,
-        log: c.log,
-        opened: c.opened,
         window: remaining,
+        ..c
     }
 }

@@ -13,8 +13,8 @@ store-requires c =
     let f = c.requires.0 in
     omega (arith, f.room, c.requires.2)
 
-pub returns-then-depth-eq0 : goal.returns-then-depth-eq0
-returns-then-depth-eq0 c =
+pub returns-then-c-eq0 : goal.returns-then-c-eq0
+returns-then-c-eq0 c =
     let a = c.args in
     let p = c.requires in
     let i = p.2 in
@@ -22,7 +22,7 @@ returns-then-depth-eq0 c =
     let h : length a.v.deps.words ≡ 4 = search (rules, of-set) in
     entry-moved a.i a.v
     (moved_as c.store.ensures c.go.ensures
-    (give_plain a.work.now a.c (limit + a.i) a.place a.remaining a.v p.0 p.1 (omega arith) h c.if-depth-eq0.true))
+    (give_plain a.work.now a.c (limit + a.i) a.place a.remaining a.v p.0 p.1 (omega arith) h c.if-c-eq0.true))
 
 pub change-requires : goal.change-requires
 change-requires c =
@@ -42,4 +42,4 @@ returns c =
     let h : length a.v.deps.words ≡ 4 = search (rules, of-set) in
     entry-moved a.i a.v
     (moved_as c.change.ensures c.logged.ensures
-    (give_open a.work.now a.c (limit + a.i) a.place a.remaining a.v p.0 p.1 (omega arith) h c.if-depth-eq0.false))
+    (give_open a.work.now a.c (limit + a.i) a.place a.remaining a.v p.0 p.1 (omega arith) h c.if-c-eq0.false))
