@@ -20,12 +20,12 @@ pub fn evaluate(p: &[u8], work: &[u64], e: Expression) -> Tagged
     requires { (sound (tokens_of p.now e) ≡ true) × (operand_base registers ≤ length work.now) }
     ensures { result ≡ eval (tagged_at work.now) (tokens_of p.now e) }
 {
-    let at = e.at;
-    let count = e.count;
-    let whole = Expression { at, count };
-    let deps = sets::set_of(p, work, whole);
+    let whole = Expression {
+        at: e.at,
+        count: e.count,
+    };
     Tagged {
+        deps: sets::set_of(p, work, whole),
         value: values::value_of(p, work, whole),
-        deps,
     }
 }

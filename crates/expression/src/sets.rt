@@ -19,11 +19,8 @@ pub fn set_of(p: &[u8], work: &[u64], e: Expression) -> LocationSet
 {
     let mut deps = LocationSet::empty();
     let mut from = e.at;
-    let count = e.count;
-    let mut i = 0;
-    while i < count {
+    for i in 0..e.count {
         let byte = p[from + i];
-        i += 1;
         if byte < 16 {
             let more = work::load_set(work, Location::register(byte));
             deps = deps.union(more);

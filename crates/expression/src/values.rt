@@ -15,7 +15,10 @@ use token::Expression;
 // is before the first value.
 const SLOTS: usize = 8;
 
-// An operator of one operand, by its place in the rules' table.
+// An operator goes by its number, its place in the rules' table, and is no enum: a token's byte is looked at once, in this pass that steps wait for
+// (docs/DECISIONS.md, "The code").
+
+// An operator of one operand.
 fn operate_one(i: u8, x: u64) -> u64
     ensures { result ≡ apply1 (get_or unary i neg) x }
 {
@@ -25,7 +28,7 @@ fn operate_one(i: u8, x: u64) -> u64
     }
 }
 
-// An operator of two operands, by its place in the rules' table.
+// An operator of two operands.
 pub fn operate_two(i: u8, x: u64, y: u64) -> u64
     ensures { result ≡ apply2 (get_or binary i add) x y }
 {
@@ -54,11 +57,8 @@ pub fn value_of(p: &[u8], work: &[u64], e: Expression) -> u64
     let mut top: u64 = 0;
     let mut held = 0;
     let mut from = e.at;
-    let count = e.count;
-    let mut i = 0;
-    while i < count {
+    for i in 0..e.count {
         let byte = p[from + i];
-        i += 1;
         if byte < 16 {
             stack[held] = top;
             held += 1;
@@ -70,7 +70,7 @@ pub fn value_of(p: &[u8], work: &[u64], e: Expression) -> u64
         } else if byte == 16 {
             stack[held] = top;
             held += 1;
-            top = token::word(p, from + i);
+            top = token::word(p, from + i + 1);
             from += 8;
         } else {
             top = operate_one(byte - 17, top);
