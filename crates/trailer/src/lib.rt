@@ -22,66 +22,42 @@ fn field(s: &[u8], at: usize) -> usize
 }
 
 // The numbers of the trailer, in the 16 bytes at an offset.
+#[tactic(auto, unfolding(rules::specs::Rules::JobFile::trailer_at))]
 pub fn trailer_at(s: &[u8], at: usize) -> Trailer
     requires { at + trailer_size ≤ length s.now }
     ensures { result ≡ trailer_at s.now at }
 {
-    let state = field(s, at);
-    let list = field(s, at + 2);
-    let count = field(s, at + 4);
-    let cells = field(s, at + 6);
-    let window = field(s, at + 8);
-    let zero = field(s, at + 10);
-    let budget = token::four_bytes(s, at + 12) as usize;
     Trailer {
-        state,
-        list,
-        count,
-        cells,
-        window,
-        zero,
-        budget,
+        state: field(s, at),
+        list: field(s, at + 2),
+        count: field(s, at + 4),
+        cells: field(s, at + 6),
+        window: field(s, at + 8),
+        zero: field(s, at + 10),
+        budget: token::four_bytes(s, at + 12) as usize,
     }
 }
 
 // Whether each number is within its limits, and the zero is 0.
+#[tactic(auto, unfolding(rules::specs::Rules::JobFile::limits))]
 pub fn limits_hold(t: Trailer) -> bool
     ensures { result ≡ limits t }
 {
-    if t.count < 1 {
-        return false;
-    }
-    if MAX_INSTRUCTIONS < t.count {
-        return false;
-    }
-    if MAX_CELLS < t.cells {
-        return false;
-    }
-    if MAX_WINDOW < t.window {
-        return false;
-    }
-    if t.zero != 0 {
-        return false;
-    }
-    t.budget <= MAX_BUDGET
+    (1..=MAX_INSTRUCTIONS).contains(&t.count)
+        && t.cells <= MAX_CELLS
+        && t.window <= MAX_WINDOW
+        && t.zero == 0
+        && t.budget <= MAX_BUDGET
 }
 
 // Whether the offsets of the state and of the list fit each other, the cells and the file's length.
+#[tactic(auto, unfolding(rules::specs::Rules::JobFile::offsets))]
 pub fn offsets_hold(t: Trailer, len: usize) -> bool
     requires { t.cells ≤ max_cells }
     ensures { result ≡ offsets t len }
 {
-    if t.list < t.state {
-        return false;
-    }
-    if t.list - t.state != REGISTERS_SIZE + 8 * t.cells {
-        return false;
-    }
-    if len < TAIL {
-        return false;
-    }
-    if t.list == len - TAIL {
-        return true;
-    }
-    false
+    t.state <= t.list
+        && t.list - t.state == REGISTERS_SIZE + 8 * t.cells
+        && TAIL <= len
+        && t.list == len - TAIL
 }
