@@ -1,5 +1,6 @@
 // The three kinds of number that must not be mixed up (labels, addresses, locations), and the set of locations.
-// Fields are private: a number of one kind becomes one of another only by the functions here.
+// Fields are private: a number of one kind becomes one of another only by the functions here, each of which says so by its name, so that
+// there is no `From` between them and numbers.
 #![tactic(auto)]
 
 ghost use Rattle.std.specs.Prelude.{◌≡◌, ◌+◌, ◌<◌, ◌^◌};
@@ -24,11 +25,11 @@ impl Label {
         Label(n)
     }
 
+    // The label's number.
     pub fn index(self) -> usize
         ensures { result ≡ self.0 }
     {
-        let label = self.0;
-        label
+        self.0
     }
 }
 
@@ -39,11 +40,11 @@ impl Address {
         Address(a)
     }
 
+    // The address's value.
     pub fn value(self) -> u64
         ensures { result ≡ self.0 }
     {
-        let address = self.0;
-        address
+        self.0
     }
 }
 
@@ -68,14 +69,14 @@ impl Location {
         requires { registers + a.0 < 2 ^ 64 }
         ensures { result.0 ≡ registers + a.0 }
     {
-        Location((Location::REGISTERS + a.0) as usize)
+        Location((Self::REGISTERS + a.0) as usize)
     }
 
+    // The location's number.
     pub fn index(self) -> usize
         ensures { result ≡ self.0 }
     {
-        let location = self.0;
-        location
+        self.0
     }
 }
 
@@ -99,23 +100,11 @@ impl LocationSet {
     pub fn single(l: Location) -> Self
         ensures { result ≡ single l.0 }
     {
-        let k = l.0;
-        let bit = 1 << (k % 64);
-        match k / 64 {
-            0 => LocationSet {
-                words: [bit, 0, 0, 0],
-            },
-            1 => LocationSet {
-                words: [0, bit, 0, 0],
-            },
-            2 => LocationSet {
-                words: [0, 0, bit, 0],
-            },
-            3 => LocationSet {
-                words: [0, 0, 0, bit],
-            },
-            _ => LocationSet::empty(),
+        let mut words = [0; 4];
+        if l.0 < Self::LIMIT {
+            words[l.0 / Self::BITS] = 1 << (l.0 % Self::BITS);
         }
+        LocationSet { words }
     }
 
     pub fn union(self, other: Self) -> Self
@@ -142,13 +131,7 @@ impl LocationSet {
     pub fn member(self, l: Location) -> bool
         ensures { result ≡ member self l.0 }
     {
-        let words = self.words;
-        let k = l.0;
-        if LocationSet::LIMIT <= k {
-            return false;
-        }
-        let i = k / 64;
-        (words[i] >> (k % 64)) % 2 == 1
+        l.0 < Self::LIMIT && (self.words[l.0 / Self::BITS] >> (l.0 % Self::BITS)) % 2 == 1
     }
 
     // The locations of the set from l to the end of l's word: location l + k is bit k.
@@ -156,8 +139,6 @@ impl LocationSet {
         requires { l.0 < limit }
         ensures { result ≡ rest self l.0 }
     {
-        let words = self.words;
-        let k = l.0;
-        words[k / 64] >> (k % 64)
+        self.words[l.0 / Self::BITS] >> (l.0 % Self::BITS)
     }
 }
