@@ -33,18 +33,19 @@ use Rattle.rules.proofs.Theorems.Costs.{tabled-accepted, tabled-refused}
 use Rattle.rules.proofs.Theorems.EncodedWords.{length-word_bytes}
 use Rattle.rules.proofs.Theorems.NewStates.{length-new_words, read-new}
 use Rattle.rules.proofs.Theorems.TestLoads.{TestLoads, test_load_unfinished, test_load_finished}
-use Rattle.job.specs.Answers.{Accepts}
+use Rattle.window_costs.specs.declared.table.WindowCosts.{WindowCosts}
+use Rattle.job.specs.declared.accepted.AcceptedJob.{AcceptedJob}
+use Rattle.job.specs.Answers.{Accepts, accepts}
 use Rattle.execution.specs.declared.Mode.TheVariants as modes
 use Rattle.execution.specs.declared.Ran.{Ran}
 use Rattle.execution.specs.Running.{EndsAs}
 use Rattle.job_run.specs.Accepted.{accepted-size, accepted-public, accepted-init}
-use Rattle.job_run.specs.JobRuns.{RunOf}
 use Rattle.job_run.proofs.Laws.{cleared-same, own-run}
 use Rattle.pair.specs.declared.SecondRun.{SecondRun}
-use Rattle.pair.specs.Runs.{SecondOf, SecondRan}
+use Rattle.pair.specs.Runs.{OwnRunOf, SecondOf, SecondRan}
 use Rattle.pair.proofs.Laws.{same-room, areas-enough}
 use Rattle.test_load.specs.declared.NewWord.{NewWord}
-use Rattle.test_load.specs.Loads.{new_word_of, Loadable, NewStateRan}
+use Rattle.test_load.specs.Loads.{own_words, new_word_of, Loadable, NewStateRan}
 
 -- ---- the words of a new state
 -- the six operations of xorshift, one after the other
@@ -118,22 +119,28 @@ module _ (vs s : List ℕ) {s' : List ℕ} {n : ℕ} (es : s' ≡ written (word_
   part_length = ap length part_bytes ∙ (let l = length-word_bytes vs in omega arith)
 
 -- the words of a job's new state, for any set of those that are kept
-module _ {bs : List ℕ} (t : Trailer) (all : Bytes bs) (kept : LocationSet) (seed : ℕ) (lt : seed < 2 ^ 64) (s : List ℕ) {s' : List ℕ} {n : ℕ}
-    (en : n ≡ locations t) (es : s' ≡ written (word_bytes (new_words kept 0 seed (words_at n bs t.state))) s) where
+module _ (j : AcceptedJob) (all : Bytes j.bytes.now) (kept : LocationSet) (seed : ℕ) (lt : seed < 2 ^ 64) (s : List ℕ) {s' : List ℕ} {n : ℕ}
+    (en : n ≡ locations j.trailer) (es : s' ≡ written (word_bytes (new_words kept 0 seed (words_at n j.bytes.now j.trailer.state))) s) where
+  abbrev bs : List ℕ
+  bs = j.bytes.now
+
+  abbrev at : ℕ
+  at = j.trailer.state
+
   abbrev vs : List ℕ
-  vs = new_words kept 0 seed (words_at n bs t.state)
+  vs = new_words kept 0 seed (words_at n bs at)
 
   size : length vs ≡ n
-  size = length-new_words kept 0 seed (words_at n bs t.state) ∙ length-words_at n bs t.state
+  size = length-new_words kept 0 seed (words_at n bs at) ∙ length-words_at n bs at
 
-  pub second-sized : length (take (8 * n) s') ≡ 8 * locations t
+  pub second-sized : length (take (8 * n) s') ≡ 8 * locations j.trailer
   second-sized = part_length vs s es size ∙ ap (λ (k : ℕ). 8 * k) en
 
-  second-read : words_at (locations t) (take (8 * n) s') 0 ≡ new_words kept 0 seed (words_at (locations t) bs t.state)
-  second-read = rw (← en) (ap (λ (p : List ℕ). words_at n p 0) (part_bytes vs s es size) ∙ read-new kept seed n bs t.state all lt)
+  second-read : words_at (locations j.trailer) (take (8 * n) s') 0 ≡ new_words kept 0 seed (own_words j)
+  second-read = rw (← en) (ap (λ (p : List ℕ). words_at n p 0) (part_bytes vs s es size) ∙ read-new kept seed n bs at all lt)
 
-  pub new-state_ran : {costs : List ℕ} {k : ℕ} {b w b' w' : List ℕ} {r : SecondRun} → SecondRan bs t (take (8 * n) s') costs k b w b' w' r
-      → NewStateRan bs costs (new_words kept 0 seed (words_at (locations t) bs t.state)) k b w s b' w' s' r
+  pub new-state_ran : {table : WindowCosts} {k : ℕ} {b w b' w' : List ℕ} {r : SecondRun} → SecondRan j (take (8 * n) s') table k b w b' w' r
+      → NewStateRan j table (new_words kept 0 seed (own_words j)) k b w s b' w' s' r
   new-state_ran x = record {
     ran = λ job p. rw second-read at (x.ran job p);
     work = x.work;
@@ -141,37 +148,36 @@ module _ {bs : List ℕ} (t : Trailer) (all : Bytes bs) (kept : LocationSet) (se
   }
 
 -- ---- the call, where nothing is refused
-module _ {bs : List ℕ} {t : Trailer} {public : LocationSet} {costs a b w s : List ℕ} {seed : ℕ} (q : Loadable bs t public costs a b w s)
-    (positive : 0 < seed) where
-  abbrev accepts : Accepts bs t
-  accepts = q.ready.accepts
+module _ (j : AcceptedJob) (table : WindowCosts) {a b w s : List ℕ} {seed : ℕ} (q : Loadable j a b w s) (positive : 0 < seed) where
+  abbrev mine : Accepts j.bytes.now j.trailer
+  mine = accepts j
 
   -- the job with its table
   abbrev job : Job
-  job = with_costs accepts.job costs
+  job = with_costs mine.job table.entries.now
 
   -- the lent areas
   abbrev areas : TestLoadAreas
   areas = test_load_lent a b w s
 
-  loads : TestLoads bs seed costs areas
+  loads : TestLoads j.bytes.now seed table.entries.now areas
   unfolding state_fits
   loads = record {
-    read = accepts.job;
-    parsed = accepts.parsed;
-    table = q.ready.fits;
+    read = mine.job;
+    parsed = mine.parsed;
+    table = table.fit;
     enough = areas-enough a b w q.ready.work q.ready.traces;
     seeded = ne_eqb seed 0 (λ e. omega arith);
-    fits = le-leb (8 * length job.init) (length s) (let z = accepted-size accepts in let f = q.state in omega arith);
+    fits = le-leb (8 * length job.init) (length s) (let z = accepted-size mine in let f = q.state in omega arith);
   }
 
   -- the job's own run
-  module _ {w₁ a' : List ℕ} {r : Ran} (o : RunOf bs t modes.Mispredicting costs bs t.state w w₁ a a' r) where
+  module _ {w₁ a' : List ℕ} {r : Ran} (o : OwnRunOf j table w w₁ a a' r) where
     abbrev own : Result
     own = mispredicting_run job (room a)
 
-    ends : EndsAs t a w₁ a' r own
-    ends = own-run accepts modes.Mispredicting o accepts.job accepts.parsed
+    ends : EndsAs j.trailer a w₁ a' r own
+    ends = own-run mine modes.Mispredicting o mine.job mine.parsed
 
     own-stop : r.counts.stop ≡ own.stop
     unfolding counts
@@ -179,7 +185,7 @@ module _ {bs : List ℕ} {t : Trailer} {public : LocationSet} {costs a b w s : L
 
     pub exact-unfinished : {w₂ : List ℕ} {f : Bool} → f ≡ is_finished r.counts.stop → f ≡ false
         → w₂ ≡ written (replicate working_words 0) w₁
-        → Exact (test_load_call bs seed costs areas) (Ok (outcomes.Undecided r.counts)) (test_load_lent a' b w₂ s)
+        → Exact (test_load_call j.bytes.now seed table.entries.now areas) (Ok (outcomes.Undecided r.counts)) (test_load_lent a' b w₂ s)
     unfolding own_run_alone loads
     exact-unfinished ef e ew =
         let u : is_finished own.stop ≡ false = ap is_finished (sym own-stop) ∙ sym ef ∙ e in
@@ -190,17 +196,18 @@ module _ {bs : List ℕ} {t : Trailer} {public : LocationSet} {costs a b w s : L
         })
 
     -- the words of the new state are the rules'
-    same-state : new_words (union public r.plain) 0 seed (words_at (locations t) bs t.state) ≡ new_state job own seed
+    same-state : new_words (union j.public r.plain) 0 seed (own_words j) ≡ new_state job own seed
     unfolding new_state
-    same-state = λ i. new_words (union ((q.ready.listed ∙ accepted-public accepts) i) (ends.reports.plain i)) 0 seed (accepted-init accepts i)
+    same-state = λ i. new_words (union ((j.listed ∙ accepted-public mine) i) (ends.reports.plain i)) 0 seed (accepted-init mine i)
 
     pub exact-made : {b' w₂ s' : List ℕ} {x : SecondRun} {f : Bool} → f ≡ is_finished r.counts.stop → f ≡ true
-        → NewStateRan bs costs (new_words (union public r.plain) 0 seed (words_at (locations t) bs t.state)) (room a') b w₁ s b' w₂ s' x
-        → Exact (test_load_call bs seed costs areas) (Ok (outcomes.Compared (paired x.word r.counts x.counts))) (test_load_lent a' b' w₂ s')
+        → NewStateRan j table (new_words (union j.public r.plain) 0 seed (own_words j)) (room a') b w₁ s b' w₂ s' x
+        → Exact (test_load_call j.bytes.now seed table.entries.now areas) (Ok (outcomes.Compared (paired x.word r.counts x.counts)))
+        (test_load_lent a' b' w₂ s')
     unfolding new_state_run pair_accepted pair_after loads
     exact-made {b'} {w₂} {s'} {x} ef e n =
         let u : is_finished own.stop ≡ true = ap is_finished (sym own-stop) ∙ sym ef ∙ e in
-        let y : SecondOf job (new_state job own seed) (room a) b b' x = rw (same-state, same-room job ends) at (n.ran accepts.job accepts.parsed) in
+        let y : SecondOf job (new_state job own seed) (room a) b b' x = rw (same-state, same-room job ends) at (n.ran mine.job mine.parsed) in
         let st : s' ≡ written (word_bytes (new_state job own seed)) s = rw same-state at n.state in
         rw (test_load_finished loads u)
         (record {

@@ -2,21 +2,22 @@
 // first run of the pair, and its plain set says which words the new state keeps.
 #![tactic(auto)]
 
-ghost use Rattle.std.specs.Prelude.{◌≡◌, ◌+◌, ◌*◌, ◌<◌, ◌≤◌, length};
+ghost use Rattle.std.specs.Prelude.{◌≡◌, Ok, ◌+◌, ◌*◌, ◌<◌, ◌≤◌, length};
 ghost use Rattle.location.specs.Sets.{union};
-ghost use Rattle.rules.specs.Rules.JobFile.{locations, public_of, words_at};
-ghost use Rattle.rules.specs.Rules.Encoding.{word_bytes};
+ghost use Rattle.rules.specs.Rules.JobFile.{words_at};
+ghost use Rattle.rules.specs.Rules.Encoding.{word_bytes, Bytes};
 ghost use Rattle.rules.specs.Rules.Calls.{room, written};
 ghost use Rattle.rules.specs.Rules.TestLoads.{next_word, new_words, test_load_call};
 ghost use Rattle.rules.specs.Rules.TestLoadPromises.{test_load_at_entry, test_load_at_exit};
 ghost use Rattle.rules.specs.Rules.Demands.{Exact};
-ghost use Rattle.job.specs.Answers.{Accepts};
 ghost use Rattle.pair.specs.Runs.{OwnRan};
-ghost use Rattle.test_load.specs.Loads.{new_word_of, Loadable, NewStateRan};
+ghost use Rattle.test_load.specs.Loads.{new_word_of, own_words, Loadable, NewStateRan};
 
+use job::accepted::AcceptedJob;
 use location::{Location, LocationSet};
 use pair::SecondRun;
-use rules::{Compared, Counts, Refusal, TestLoad, TestLoadAnswer, Trailer};
+use rules::{Compared, Counts, Refusal, TestLoad, TestLoadAnswer};
+use window_costs::table::WindowCosts;
 
 // The word of xorshift after x.
 fn next_word(x: u64) -> u64
@@ -48,31 +49,29 @@ fn new_word(keep: bool, own: u64, last: u64) -> NewWord
     }
 }
 
-// The new state of n locations, from the state at an offset of the bytes: the words in the set are kept.
+// The new state of n locations, from the state at an offset of the bytes: the words in the set are kept. That the bytes are bytes is said for a
+// caller that has them in a struct.
 fn write_state(bytes: &[u8], at: usize, n: usize, kept: LocationSet, seed: u64, state: &mut [u8])
     requires { (at + 8 * n ≤ length bytes.now) × (8 * n ≤ length state.old) }
-    ensures { state.new ≡ written (word_bytes (new_words kept 0 seed (words_at n bytes.now at))) state.old }
+    ensures state { state.new ≡ written (word_bytes (new_words kept 0 seed (words_at n bytes.now at))) state.old }
+    ensures bytes { Bytes bytes.now }
 {
     let mut last = seed;
     let mut place = 0;
-    let mut l = 0;
-    while l < n {
+    for l in 0..n {
         let keep = kept.member(Location::new(l));
         let own = transfer::word_at(bytes, at, l);
         let made = new_word(keep, own, last);
         place = byte_writer::put_number(state, place, made.word, transfer::WORD_BYTES);
         last = made.last;
-        l += 1;
     }
 }
 
 // The new state is made and run. The job's own run has been made: c are its counts, `plain` is its plain set.
 fn run_new_state(
-    job: &[u8],
-    t: Trailer,
-    public: LocationSet,
+    job: &AcceptedJob,
     seed: u64,
-    costs: &[u8],
+    costs: &WindowCosts,
     plain: LocationSet,
     c: Counts,
     first_trace: &[u64],
@@ -80,54 +79,38 @@ fn run_new_state(
     work: &mut [u64],
     state: &mut [u8],
 ) -> SecondRun
-    requires { Loadable job.now t public costs.now first_trace.now second_trace.old work.old state.old
-        × OwnRan job.now costs.now c first_trace.now }
-    ensures { NewStateRan job.now costs.now
-        (new_words (union public plain) 0 seed (words_at (locations t) job.now t.state))
-        (room first_trace.now) second_trace.old work.old state.old
-        second_trace.new work.new state.new result }
+    requires { Loadable job.now first_trace.now second_trace.old work.old state.old × OwnRan job.now costs.now c first_trace.now }
+    ensures { NewStateRan job.now costs.now (new_words (union job.now.public plain) 0 seed (own_words job.now))
+        (room first_trace.now) second_trace.old work.old state.old second_trace.new work.new state.new result }
 {
-    let n = t.locations();
-    let kept = public.union(plain);
-    write_state(job, t.state, n, kept, seed, state);
-    pair::run_second(
-        job,
-        t,
-        public,
-        &state[..transfer::WORD_BYTES * n],
-        costs,
-        c,
-        first_trace,
-        second_trace,
-        work,
-    )
+    let n = job.trailer.locations();
+    let kept = job.public.union(plain);
+    write_state(job.bytes, job.trailer.state, n, kept, seed, state);
+    let second = &state[..transfer::WORD_BYTES * n];
+    pair::run_second(job, second, costs, c, first_trace, second_trace, work)
 }
 
 // The job's own run; where it has not finished it is all that is done.
 fn run_load(
-    job: &[u8],
-    t: Trailer,
-    public: LocationSet,
+    job: &AcceptedJob,
     seed: u64,
-    costs: &[u8],
+    costs: &WindowCosts,
     first_trace: &mut [u64],
     second_trace: &mut [u64],
     work: &mut [u64],
     state: &mut [u8],
-) -> TestLoadAnswer
-    requires { Loadable job.now t public costs.now first_trace.old second_trace.old work.old state.old × (0 < seed) }
-    ensures { Exact (test_load_call job.now seed costs.now (test_load_at_entry first_trace second_trace work state)) result
+) -> TestLoad
+    requires { Loadable job.now first_trace.old second_trace.old work.old state.old × (0 < seed) }
+    ensures { Exact (test_load_call job.now.bytes.now seed costs.now.entries.now (test_load_at_entry first_trace second_trace work state)) (Ok result)
         (test_load_at_exit first_trace second_trace work state) }
 {
-    let own = pair::run_own(job, t, costs, work, first_trace);
+    let own = pair::run_own(job, costs, work, first_trace);
     if !judgement::finished(own.counts.stop) {
         work::clear(work);
-        return Ok(TestLoad::Undecided(own.counts));
+        return TestLoad::Undecided(own.counts);
     }
     let other = run_new_state(
         job,
-        t,
-        public,
         seed,
         costs,
         own.plain,
@@ -137,19 +120,17 @@ fn run_load(
         work,
         state,
     );
-    Ok(TestLoad::Compared(Compared {
+    TestLoad::Compared(Compared {
         word: other.word,
         first: own.counts,
         second: other.counts,
-    }))
+    })
 }
 
 // The test load of an accepted job: a table that is none, then too short or unequal areas, then a seed of 0, then too few bytes for the new
 // state are refused before anything is written.
 pub fn test_accepted(
-    job: &[u8],
-    t: Trailer,
-    public: LocationSet,
+    job: &AcceptedJob,
     seed: u64,
     costs: &[u8],
     first_trace: &mut [u64],
@@ -157,31 +138,18 @@ pub fn test_accepted(
     work: &mut [u64],
     state: &mut [u8],
 ) -> TestLoadAnswer
-    requires { Accepts job.now t × (public ≡ public_of t job.now) }
-    ensures { Exact (test_load_call job.now seed costs.now (test_load_at_entry first_trace second_trace work state)) result
+    ensures { Exact (test_load_call job.now.bytes.now seed costs.now (test_load_at_entry first_trace second_trace work state)) result
         (test_load_at_exit first_trace second_trace work state) }
 {
-    if !window_costs::costs_fit(costs) {
-        return Err(Refusal::Costs);
-    }
+    let costs = WindowCosts::new(costs)?;
     if !pair::areas_fit(first_trace, second_trace, work) {
         return Err(Refusal::Areas);
     }
     if seed == 0 {
         return Err(Refusal::Seed);
     }
-    if state.len() < transfer::WORD_BYTES * t.locations() {
+    if state.len() < transfer::WORD_BYTES * job.trailer.locations() {
         return Err(Refusal::Output);
     }
-    run_load(
-        job,
-        t,
-        public,
-        seed,
-        costs,
-        first_trace,
-        second_trace,
-        work,
-        state,
-    )
+    Ok(run_load(job, seed, &costs, first_trace, second_trace, work, state))
 }
