@@ -7,6 +7,7 @@ use Prim.Native.Nat.{ℕ, ◌+◌}
 use borrow.Author.Tests.{leb-true}
 use lib.Dec.{leb}
 use lib.ListN.{length, replicate}
+use Rattle.std.specs.Prelude.{Err}
 use Rattle.location.specs.declared.LocationSet.{LocationSet}
 use Rattle.location.specs.Sets.{limit}
 use Rattle.location.specs.SetLaws.{and_left, and_right}
@@ -15,8 +16,6 @@ use Rattle.rules.specs.declared.Refusal.{Refusal}
 use Rattle.rules.specs.declared.Refusal.TheVariants as refusals
 use Rattle.rules.specs.declared.RunAnswer.{RunAnswer}
 use Rattle.rules.specs.declared.PlainAnswer.{PlainAnswer}
-use Rattle.rules.specs.declared.PairAnswer.TheVariants as pairs
-use Rattle.rules.specs.declared.TestLoadAnswer.TheVariants as tests
 use Rattle.rules.specs.Rules.Runs.{Result, mispredicting_run, plain_run}
 use Rattle.rules.specs.Rules.JobFile.{rejected, parse, locations, public_of}
 use Rattle.rules.specs.Rules.Calls.{Areas, Called, lent, table_size, working_words, room, long_enough, written, areas_after}
@@ -108,11 +107,11 @@ module _ (bs : List ℕ) (n : Refusal) (p : parse bs ≡ rejected n) (a : Areas)
   plain-exact_rejected e = exact_of (plain_refused n) a (plain-rejected bs a n p) e refl
 
 pub pair-rejected : (bs second costs : List ℕ) (n : Refusal) → parse bs ≡ rejected n → (a : PairAreas)
-    → Exact (pair_call bs second costs a) (pairs.Refused n) a
+    → Exact (pair_call bs second costs a) (Err n) a
 unfolding pair_call pair_parsed pair_refused
 pair-rejected bs second costs n p a = rw (p, pair_parsed) (record { answer = refl; areas = refl })
 
 pub test_load_rejected : (bs : List ℕ) (seed : ℕ) (costs : List ℕ) (n : Refusal) → parse bs ≡ rejected n → (a : TestLoadAreas)
-    → Exact (test_load_call bs seed costs a) (tests.Refused n) a
+    → Exact (test_load_call bs seed costs a) (Err n) a
 unfolding test_load_call test_load_parsed test_load_refused
 test_load_rejected bs seed costs n p a = rw (tabled-rejected bs costs n p, test_load_parsed) (record { answer = refl; areas = refl })

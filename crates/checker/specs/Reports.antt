@@ -1,13 +1,12 @@
 -- From a run that has ended to what the calls return and leave.
 -- Assumes nothing.
-use Rattle.std.specs.Prelude.{◌≡◌, true, List, ℕ}
+use Rattle.std.specs.Prelude.{◌≡◌, true, List, ℕ, Ok}
 use Rattle.std.proofs.Math.Bool.{false}
 use Rattle.location.specs.declared.LocationSet.{LocationSet}
 use Rattle.rules.specs.declared.Refusal.{Refusal}
 use Rattle.rules.specs.declared.Refusal.TheVariants as refusals
-use Rattle.rules.specs.declared.RunOutcome.TheVariants as runs
 use Rattle.rules.specs.declared.RunAnswer.{RunAnswer}
-use Rattle.rules.specs.declared.PlainOutcome.TheVariants as plains
+use Rattle.rules.specs.Rules.Outcomes.{judged}
 use Rattle.rules.specs.declared.PlainAnswer.{PlainAnswer}
 use Rattle.rules.specs.declared.First.{First}
 use Rattle.rules.specs.Rules.Firsts.{firsts_of}
@@ -22,7 +21,7 @@ use Rattle.execution.specs.Running.{Reports}
 -- ---- what is returned of a run that has ended
 abbrev pub answer_of : LocationSet → Ran → List First → RunAnswer
 answer_of public r xs = record {
-  outcome = runs.Ran r.counts (judge public r.counts.stop r.full r.plain);
+  outcome = Ok (judged r.counts (judge public r.counts.stop r.full r.plain));
   full = r.full;
   plain = r.plain;
   firsts = xs;
@@ -30,7 +29,7 @@ answer_of public r xs = record {
 
 abbrev pub plain_answer_of : Ran → PlainAnswer
 plain_answer_of r = record {
-  outcome = plains.Ran (record { stop = r.counts.stop; observations = r.counts.observations; steps = r.counts.steps });
+  outcome = Ok (record { stop = r.counts.stop; observations = r.counts.observations; steps = r.counts.steps });
   plain = r.plain;
 }
 

@@ -19,18 +19,16 @@ ghost use Rattle.firsts.specs.Reports.{reports_in};
 ghost use Rattle.checker.specs.Reports.{answer_of, plain_answer_of};
 
 use execution::{Mode, Ran};
-use job::JobOutcome;
 use location::LocationSet;
 use rules::{
-    PairAnswer, PlainAnswer, PlainCounts, PlainOutcome, Refusal, RunAnswer, RunOutcome,
-    TestLoadAnswer, Trailer,
+    Judged, PairAnswer, PlainAnswer, PlainCounts, Refusal, RunAnswer, TestLoadAnswer, Trailer,
 };
 
 fn run_refused(n: Refusal) -> RunAnswer
     ensures { result ≡ run_refused n }
 {
     RunAnswer {
-        outcome: RunOutcome::Refused(n),
+        outcome: Err(n),
         full: LocationSet::empty(),
         plain: LocationSet::empty(),
         firsts: firsts::nothing(),
@@ -41,7 +39,7 @@ fn plain_refused(n: Refusal) -> PlainAnswer
     ensures { result ≡ plain_refused n }
 {
     PlainAnswer {
-        outcome: PlainOutcome::Refused(n),
+        outcome: Err(n),
         plain: LocationSet::empty(),
     }
 }
@@ -51,16 +49,15 @@ fn report(public: LocationSet, r: Ran, work: &[u64]) -> RunAnswer
     requires { working_words ≤ length work.now }
     ensures { result ≡ answer_of public r (reports_in work.now r.full 0 limit) }
 {
-    let counts = r.counts;
-    let stop = counts.stop;
-    let full = r.full;
-    let plain = r.plain;
-    let verdict = judgement::verdict_of(public, stop, full, plain);
+    let judged = Judged {
+        counts: r.counts,
+        verdict: judgement::verdict_of(public, r.counts.stop, r.full, r.plain),
+    };
     RunAnswer {
-        outcome: RunOutcome::Ran(counts, verdict),
-        full,
-        plain,
-        firsts: firsts::reports(work, full),
+        outcome: Ok(judged),
+        full: r.full,
+        plain: r.plain,
+        firsts: firsts::reports(work, r.full),
     }
 }
 
@@ -68,17 +65,14 @@ fn report(public: LocationSet, r: Ran, work: &[u64]) -> RunAnswer
 fn plain_report(r: Ran) -> PlainAnswer
     ensures { result ≡ plain_answer_of r }
 {
-    let counts = r.counts;
-    let stop = counts.stop;
-    let plain = r.plain;
     let reported = PlainCounts {
-        stop,
-        observations: counts.observations,
-        steps: counts.steps,
+        stop: r.counts.stop,
+        observations: r.counts.observations,
+        steps: r.counts.steps,
     };
     PlainAnswer {
-        outcome: PlainOutcome::Ran(reported),
-        plain,
+        outcome: Ok(reported),
+        plain: r.plain,
     }
 }
 
@@ -94,25 +88,15 @@ fn run_accepted(
     requires { Accepts job.now t × (public ≡ public_of t job.now) }
     ensures { Exact (run_call job.now costs.now (areas_at_entry trace end work)) result (areas_at_exit trace end work) }
 {
-    let n = t.locations();
     if !window_costs::costs_fit(costs) {
         return run_refused(Refusal::Costs);
     }
-    if !job_run::areas_fit(n, &end[..], &work[..]) {
+    if !job_run::areas_fit(t.locations(), end, work) {
         return run_refused(Refusal::Areas);
     }
-    let mode = Mode::Mispredicting;
-    let r = job_run::run_in_areas(
-        job,
-        t,
-        mode,
-        costs,
-        &mut trace[..],
-        &mut end[..],
-        &mut work[..],
-    );
-    let answer = report(public, r, &work[..]);
-    work::clear(&mut work[..]);
+    let r = job_run::run_in_areas(job, t, Mode::Mispredicting, costs, trace, end, work);
+    let answer = report(public, r, work);
+    work::clear(work);
     answer
 }
 
@@ -126,11 +110,9 @@ pub fn run(
 ) -> RunAnswer
     ensures { RunPromise job.now costs.now (areas_at_entry trace end work) result (areas_at_exit trace end work) }
 {
-    let read = job::read_job(job);
-    let outcome = read.outcome;
-    match outcome {
-        JobOutcome::Accepted(t) => run_accepted(job, t, read.public, costs, trace, end, work),
-        JobOutcome::Refused(n) => run_refused(n),
+    match job::read_job(job) {
+        Ok(read) => run_accepted(job, read.trailer, read.public, costs, trace, end, work),
+        Err(n) => run_refused(n),
     }
 }
 
@@ -144,22 +126,12 @@ fn plain_accepted(
     requires { Accepts job.now t }
     ensures { Exact (plain_call job.now (areas_at_entry trace end work)) result (areas_at_exit trace end work) }
 {
-    let n = t.locations();
-    if !job_run::areas_fit(n, &end[..], &work[..]) {
+    if !job_run::areas_fit(t.locations(), end, work) {
         return plain_refused(Refusal::Areas);
     }
-    let mode = Mode::Plain;
     let costs = window_costs::fixed();
-    let r = job_run::run_in_areas(
-        job,
-        t,
-        mode,
-        &costs,
-        &mut trace[..],
-        &mut end[..],
-        &mut work[..],
-    );
-    work::clear(&mut work[..]);
+    let r = job_run::run_in_areas(job, t, Mode::Plain, &costs, trace, end, work);
+    work::clear(work);
     plain_report(r)
 }
 
@@ -167,11 +139,9 @@ fn plain_accepted(
 pub fn plain_run(job: &[u8], trace: &mut [u64], end: &mut [u64], work: &mut [u64]) -> PlainAnswer
     ensures { PlainPromise job.now (areas_at_entry trace end work) result (areas_at_exit trace end work) }
 {
-    let read = job::read_job(job);
-    let outcome = read.outcome;
-    match outcome {
-        JobOutcome::Accepted(t) => plain_accepted(job, t, trace, end, work),
-        JobOutcome::Refused(n) => plain_refused(n),
+    match job::read_job(job) {
+        Ok(read) => plain_accepted(job, read.trailer, trace, end, work),
+        Err(n) => plain_refused(n),
     }
 }
 
@@ -187,21 +157,17 @@ pub fn compare(
     ensures { PairPromise job.now second.now costs.now (pair_at_entry first_trace second_trace work) result
         (pair_at_exit first_trace second_trace work) }
 {
-    let read = job::read_job(job);
-    let outcome = read.outcome;
-    match outcome {
-        JobOutcome::Accepted(t) => pair::compare_accepted(
-            job,
-            t,
-            read.public,
-            second,
-            costs,
-            &mut first_trace[..],
-            &mut second_trace[..],
-            &mut work[..],
-        ),
-        JobOutcome::Refused(n) => PairAnswer::Refused(n),
-    }
+    let read = job::read_job(job)?;
+    pair::compare_accepted(
+        job,
+        read.trailer,
+        read.public,
+        second,
+        costs,
+        first_trace,
+        second_trace,
+        work,
+    )
 }
 
 // A test load: where the job's own run finishes, a new state is made from the seed and the pair of the two is checked.
@@ -217,21 +183,16 @@ pub fn test_load(
     ensures { TestLoadPromise job.now seed costs.now (test_load_at_entry first_trace second_trace work state) result
         (test_load_at_exit first_trace second_trace work state) }
 {
-    let read = job::read_job(job);
-    let outcome = read.outcome;
-    let public = read.public;
-    match outcome {
-        JobOutcome::Accepted(t) => test_load::test_accepted(
-            job,
-            t,
-            public,
-            seed,
-            costs,
-            first_trace,
-            second_trace,
-            work,
-            state,
-        ),
-        JobOutcome::Refused(n) => TestLoadAnswer::Refused(n),
-    }
+    let accepted = job::read_job(job)?;
+    test_load::test_accepted(
+        job,
+        accepted.trailer,
+        accepted.public,
+        seed,
+        costs,
+        first_trace,
+        second_trace,
+        work,
+        state,
+    )
 }

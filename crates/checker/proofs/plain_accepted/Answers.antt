@@ -5,21 +5,21 @@ use Rattle.job_run.specs.Accepted.{accepted-limits}
 use Rattle.checker.proofs.Laws.{plain_short_areas, areas-fit, plain-ran}
 use Rattle.checker.proofs.plain_accepted.Goals as goal
 
-pub locations-n-requires : goal.locations-n-requires
-locations-n-requires c =
+pub locations-requires : goal.locations-requires
+locations-requires c =
     let l = (accepted-limits c.requires).cells in omega arith
 
 pub returns-then-not-areas_fit : goal.returns-then-not-areas_fit
 returns-then-not-areas_fit c =
     let a = c.args in
     plain_short_areas c.requires a.trace.now a.end.now a.work.now
-    (rw c.locations-n.ensures at c.areas_fit.ensures) (c.if-not-areas_fit.true) c.plain_refused.ensures
+    (rw c.locations.ensures at c.areas_fit.ensures) (c.if-not-areas_fit.true) c.plain_refused.ensures
 
 pub run_in_areas-r-requires : goal.run_in_areas-r-requires
 run_in_areas-r-requires c =
     let a = c.args in
     areas-fit c.requires a.trace.now a.end.now a.work.now
-    (rw c.locations-n.ensures at c.areas_fit.ensures) (c.if-not-areas_fit.false)
+    (rw c.locations.ensures at c.areas_fit.ensures) (c.if-not-areas_fit.false)
     (rw c.fixed-costs.ensures ones_fit)
 
 pub clear-requires : goal.clear-requires
@@ -30,5 +30,5 @@ pub returns : goal.returns
 returns c =
     let a = c.args in
     plain-ran c.requires a.trace.now a.end.now a.work.now
-    (rw c.locations-n.ensures at c.areas_fit.ensures) (c.if-not-areas_fit.false) _
+    (rw c.locations.ensures at c.areas_fit.ensures) (c.if-not-areas_fit.false) _
     c.run_in_areas-r.ensures c.plain_report.ensures c.clear.ensures

@@ -7,17 +7,17 @@ use Rattle.checker.proofs.plain_run.Goals as goal
 
 pub plain_accepted-requires : goal.plain_accepted-requires
 plain_accepted-requires c =
-    read-accepted c.args.job.now c.read_job-read.ensures c.in-Accepted.is
+    read-accepted c.args.job.now c.read_job.ensures c.in-Ok.is
 
-pub returns-in-Accepted : goal.returns-in-Accepted
-returns-in-Accepted c =
+pub returns-in-Ok : goal.returns-in-Ok
+returns-in-Ok c =
     let a = c.args in
     plain-promise a.job.now (lent a.trace.now a.end.now a.work.now) c.plain_accepted.ensures
 
-pub returns-in-Refused : goal.returns-in-Refused
-returns-in-Refused c =
+pub returns-in-Err : goal.returns-in-Err
+returns-in-Err c =
     let a = c.args in
     let f = a.job.now in
     let l = lent a.trace.now a.end.now a.work.now in
-    let p = read-refused f c.read_job-read.ensures c.in-Refused.is in
+    let p = read-refused f c.read_job.ensures c.in-Err.is in
     plain-promise f l (plain-exact_rejected f _ p l c.plain_refused.ensures)

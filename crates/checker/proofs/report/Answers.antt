@@ -1,8 +1,9 @@
 -- `report` meets its contract. Assumes nothing.
-use Rattle.rules.specs.declared.RunOutcome.TheVariants as runs
+use Rattle.std.specs.Prelude.{Ok}
+use Rattle.rules.specs.Rules.Outcomes.{judged}
 use Rattle.checker.proofs.report.Goals as goal
 
 pub returns : goal.returns
 returns c =
     let r = c.args.r in
-    λ i. record { outcome = runs.Ran r.counts (c.verdict_of-verdict.ensures i); full = r.full; plain = r.plain; firsts = c.reports.ensures i }
+    λ i. record { outcome = Ok (judged r.counts (c.verdict_of.ensures i)); full = r.full; plain = r.plain; firsts = c.reports.ensures i }

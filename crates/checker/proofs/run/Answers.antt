@@ -8,19 +8,18 @@ use Rattle.checker.proofs.run.Goals as goal
 pub run_accepted-requires : goal.run_accepted-requires
 run_accepted-requires c =
     let f = c.args.job.now in
-    let e = c.read_job-read.ensures in
-    let k = read-accepted f e c.in-Accepted.is in
-    (k, read-public f e k)
+    let e = c.read_job.ensures in
+    (read-accepted f e c.in-Ok.is, read-public f e c.in-Ok.is)
 
-pub returns-in-Accepted : goal.returns-in-Accepted
-returns-in-Accepted c =
+pub returns-in-Ok : goal.returns-in-Ok
+returns-in-Ok c =
     let a = c.args in
     run-promise a.job.now a.costs.now (lent a.trace.now a.end.now a.work.now) c.run_accepted.ensures
 
-pub returns-in-Refused : goal.returns-in-Refused
-returns-in-Refused c =
+pub returns-in-Err : goal.returns-in-Err
+returns-in-Err c =
     let a = c.args in
     let f = a.job.now in
     let l = lent a.trace.now a.end.now a.work.now in
-    let p = read-refused f c.read_job-read.ensures c.in-Refused.is in
+    let p = read-refused f c.read_job.ensures c.in-Err.is in
     run-promise f a.costs.now l (exact-rejected f _ p l a.costs.now c.run_refused.ensures)
