@@ -4,23 +4,22 @@
 use mathlib.Core.Path.{◌≡◌, refl, sym, ap, subst, ◌∙◌}
 use mathlib.Core.Bool.{Bool, true, false, ◌&&◌}
 use mathlib.Core.List.{List, []}
-use Prim.Native.Nat.{ℕ, zero, suc, ◌<◌, ◌≤◌}
+use Prim.Native.Nat.{ℕ, ◌≤◌}
 use native.Mathlib.Omega.{arith}
 use lib.ListN.{drop, get_or-eq_default}
 use Rattle.location.specs.SetLaws.{and_true}
 use Rattle.rules.specs.Rules.Expressions.{Expr, sound}
-use Rattle.rules.specs.Rules.Instructions.{Instr, skip, assign, load, store, jmp, beqz, cassign, spbarr, kind}
+use Rattle.rules.specs.Rules.Instructions.{Instr, skip, assign, load, store, jmp, beqz, cassign, spbarr, kind, kind_number}
 use Rattle.rules.specs.Rules.Encoding.{field_bytes}
 use Rattle.rules.specs.Rules.Parts.{Part, parts}
 use Rattle.rules.specs.Rules.TextReading.{Taken, took, nothing, and_take, PartReader, by_name, register_named, constant_named, whole_operand}
 use Rattle.rules.specs.Rules.TextReading.{with_register, jump, branch, conditional, fields}
 use Rattle.byte_writer.specs.Texts.{put-append, put-nothing}
 use Rattle.operand.specs.declared.Whole.{Whole}
-use Rattle.operand.specs.declared.WholeRead.{WholeRead}
-use Rattle.operand.specs.Operands.{WholeBrought, WholeTold}
+use Rattle.std.proofs.Common.{Option, Some, None}
+use Rattle.rules.specs.declared.Kind.{Kind}
+use Rattle.operand.specs.Operands.{WholeBrought}
 use Rattle.text_reader.specs.declared.Progress.{Progress}
-use Rattle.text_reader.specs.declared.FieldRead.{FieldRead}
-use Rattle.text_reader.specs.declared.FieldRead.TheVariants as reads
 use Rattle.text_reader.specs.Faults.{passes}
 use Rattle.text_reader.specs.Fields.{Field, Brought, Unread, FieldTold, both, and_then, register, expression, label, assignment_reader}
 use Rattle.text_reader.specs.Fields.{AssignmentTold, OperandTold, BranchTold, ConditionalTold, instruction, fields_of, FieldsTold}
@@ -38,13 +37,9 @@ and_true_right true = refl
 and_true_right false = refl
 
 -- what is told of a reading, by its case
-pub told-by : {A : Type 0} (F : Field A) (t : List ℕ) (R : Taken A) (a : List ℕ) (to : ℕ) (b : List ℕ) {x y : FieldRead} → x ≡ y
+pub told-by : {A : Type 0} (F : Field A) (t : List ℕ) (R : Taken A) (a : List ℕ) (to : ℕ) (b : List ℕ) {x y : Option Progress} → x ≡ y
     → FieldTold F t R a to b x → FieldTold F t R a to b y
 told-by F t R a to b e h = subst (FieldTold F t R a to b) e h
-
-pub fields-by : (t : List ℕ) (at k n i : ℕ) (a : List ℕ) (to : ℕ) (b : List ℕ) {x y : FieldRead} → x ≡ y
-    → FieldsTold t at k n i a to b x → FieldsTold t at k n i a to b y
-fields-by t at k n i a to b e h = subst (FieldsTold t at k n i a to b) e h
 
 -- ---- one field, then another
 module _ {A B : Type 0} (F : Field A) (G : Field B) (f : PartReader A) (g : PartReader B) (t : List ℕ) (ps : List Part) where
@@ -69,24 +64,21 @@ module _ {A B : Type 0} (F : Field A) (G : Field B) (f : PartReader A) (g : Part
     first_read : and_then f g ps ≡ paired (g rest)
     first_read = ap (λ (R : Taken A). and_take R (λ x qs. and_take (g qs) (λ y rs. took (x, y) rs))) h.read
 
-    pub both_told : (d : List ℕ) (x : FieldRead) → FieldTold G t (g rest) b p.to d x → FieldTold (both F G) t (and_then f g ps) a to d x
-    both_told d (reads.Read q) k = record {
+    pub both_told : (d : List ℕ) (x : Option Progress) → FieldTold G t (g rest) b p.to d x → FieldTold (both F G) t (and_then f g ps) a to d x
+    both_told d (Some q) k = record {
       value = (h.value, k.value);
       read = first_read ∙ ap paired k.read;
       kept = and_true (F.kept h.value) (G.kept k.value) h.kept k.kept;
       put = put-append h.put k.put;
       size = omega (arith, h.size, k.size);
     }
-    both_told d reads.Refused u = subst (Unread (both F G)) (sym first_read) (go (g rest) u)
+    both_told d None u = subst (Unread (both F G)) (sym first_read) (go (g rest) u)
       where
         go : (S : Taken B) → Unread G S → Unread (both F G) (paired S)
         go nothing v = unread-nothing refl
         go (took y rs) v = unread-broken refl (and_false (F.kept h.value) (G.kept y) (v.breaks y rs refl))
 
 -- ---- an operand, by what the reader of operands tells
-pub whole_by : (t : List ℕ) (at : ℕ) (a : List ℕ) (to : ℕ) (b : List ℕ) {x y : WholeRead} → x ≡ y → WholeTold t at a to b x → WholeTold t at a to b y
-whole_by t at a to b e h = subst (WholeTold t at a to b) e h
-
 module _ {t a b : List ℕ} {at to : ℕ} {q : Whole} (h : WholeBrought t at a to b q) where
   pub whole-read : q.sound ≡ true → Brought expression t (whole_operand (parts (drop at t))) a to b (record { at = q.at; to = q.to })
   whole-read e = record { value = h.tokens; read = h.read; kept = sym h.sound ∙ e; put = h.put; size = omega (arith, h.size) }
@@ -101,8 +93,8 @@ whole-unread t at e = unread-nothing e
 module _ {A : Type 0} (F : Field A) (t : List ℕ) (at k n i : ℕ) (h : A → Instr) (R : Taken A)
     (read : fields_of k (parts (drop at t)) ≡ and_take R (λ x ps. took (h x) ps)) (kinds : (x : A) → kind (h x) ≡ k)
     (bytes : (x : A) → field_bytes (h x) ≡ F.bytes x) (kept : (x : A) → passes n i (h x) ≡ F.kept x) (small : F.size ≤ 291) where
-  fields_told : (a : List ℕ) (to : ℕ) (b : List ℕ) (x : FieldRead) → FieldTold F t R a to b x → FieldsTold t at k n i a to b x
-  fields_told a to b (reads.Read q) f = record {
+  fields_told : (a : List ℕ) (to : ℕ) (b : List ℕ) (x : Option Progress) → FieldTold F t R a to b x → FieldsTold t at k n i a to b x
+  fields_told a to b (Some q) f = record {
     fields = record {
       value = h f.value;
       read = read ∙ ap (λ (S : Taken A). and_take S (λ x ps. took (h x) ps)) f.read;
@@ -112,7 +104,7 @@ module _ {A : Type 0} (F : Field A) (t : List ℕ) (at k n i : ℕ) (h : A → I
     };
     kind = kinds f.value;
   }
-  fields_told a to b reads.Refused u = subst (Unread (instruction n i)) (sym read) (go R u)
+  fields_told a to b None u = subst (Unread (instruction n i)) (sym read) (go R u)
     where
       go : (S : Taken A) → Unread F S → Unread (instruction n i) (and_take S (λ x ps. took (h x) ps))
       go nothing v = unread-nothing refl
@@ -173,64 +165,66 @@ conditional_reader ps = go (by_name register_named ps)
     go (took r qs) = second r (whole_operand qs)
 
 -- ---- by kind
-pub beyond : {k : ℕ} → 3 < k → (k ≡ 4 → ⊥) → (k ≡ 5 → ⊥) → (k ≡ 6 → ⊥) → (k ≡ 7 → ⊥) → 7 < k
-beyond h a b d e = omega arith
-
 module _ (t : List ℕ) (at n i : ℕ) where
   bare-told : (x : Instr) (a : List ℕ) (to : ℕ) → fields_of (kind x) (parts (drop at t)) ≡ took x (parts (drop at t)) → field_bytes x ≡ [] → passes n i x ≡ true
-      → FieldsTold t at (kind x) n i a to a (reads.Read (record { at = at; to = to }))
+      → FieldsTold t at (kind x) n i a to a (Some (record { at = at; to = to }))
   bare-told x a to read bytes kept = record {
     fields = record { value = x; read = read; kept = kept; put = rw bytes (put-nothing a to); size = omega arith };
     kind = refl;
   }
 
-  pub skip-told : (k : ℕ) (a : List ℕ) (to : ℕ) → k < 1 → FieldsTold t at k n i a to a (reads.Read (record { at = at; to = to }))
-  unfolding fields
-  skip-told zero a to h = bare-told skip a to refl refl refl
-  skip-told (suc k) a to h = absurd (omega arith)
+  -- what is told of fields, by their kind
+  pub kind-told : {k l : Kind} (a : List ℕ) (to : ℕ) (b : List ℕ) (x : Option Progress) → k ≡ l → FieldsTold t at (kind_number l) n i a to b x
+      → FieldsTold t at (kind_number k) n i a to b x
+  kind-told a to b x e h = subst (λ (k : Kind). FieldsTold t at (kind_number k) n i a to b x) (sym e) h
 
-  pub barrier_told : (k : ℕ) (a : List ℕ) (to : ℕ) → k ≡ 7 → FieldsTold t at k n i a to a (reads.Read (record { at = at; to = to }))
+  pub skip-told : (a : List ℕ) (to : ℕ) → FieldsTold t at 0 n i a to a (Some (record { at = at; to = to }))
   unfolding fields
-  barrier_told k a to e =
-      subst (λ (j : ℕ). FieldsTold t at j n i a to a (reads.Read (record { at = at; to = to }))) (sym e) (bare-told spbarr a to refl refl refl)
+  skip-told a to = bare-told skip a to refl refl refl
 
-  pub no_kind_told : (k : ℕ) → 7 < k → Unread (instruction n i) (fields_of k (parts (drop at t)))
+  pub barrier_told : (a : List ℕ) (to : ℕ) → FieldsTold t at 7 n i a to a (Some (record { at = at; to = to }))
   unfolding fields
-  no_kind_told k h = unread-nothing (ap (λ (f : PartReader Instr). f (parts (drop at t))) (get_or-eq_default fields (λ ps. nothing) {n = k} (omega arith)))
+  barrier_told a to = bare-told spbarr a to refl refl refl
 
-  module _ (a : List ℕ) (to : ℕ) (b : List ℕ) (x : FieldRead) where
-    pub assignment_told : (k : ℕ) → 1 ≤ k → k ≤ 3 → AssignmentTold t at a to b x → FieldsTold t at k n i a to b x
+  module _ (a : List ℕ) (to : ℕ) (b : List ℕ) (x : Option Progress) where
+    pub assign_told : AssignmentTold t at a to b x → FieldsTold t at 1 n i a to b x
     unfolding fields
-    assignment_told zero l m f = absurd (omega arith)
-    assignment_told (suc zero) l m f =
+    assign_told f =
         fields_told (both register expression) t at 1 n i (λ z. assign z.0 z.1) (assignment_reader (parts (drop at t)))
         (register_reader assign (parts (drop at t))) (λ z. refl) (λ z. refl) (λ z. and_true_right (sound z.1)) (omega arith) a to b x f
-    assignment_told (suc (suc zero)) l m f =
+
+    pub load-told : AssignmentTold t at a to b x → FieldsTold t at 2 n i a to b x
+    unfolding fields
+    load-told f =
         fields_told (both register expression) t at 2 n i (λ z. load z.0 z.1) (assignment_reader (parts (drop at t)))
         (register_reader load (parts (drop at t))) (λ z. refl) (λ z. refl) (λ z. and_true_right (sound z.1)) (omega arith) a to b x f
-    assignment_told (suc (suc (suc zero))) l m f =
+
+    pub store-told : AssignmentTold t at a to b x → FieldsTold t at 3 n i a to b x
+    unfolding fields
+    store-told f =
         fields_told (both register expression) t at 3 n i (λ z. store z.0 z.1) (assignment_reader (parts (drop at t)))
         (register_reader store (parts (drop at t))) (λ z. refl) (λ z. refl) (λ z. and_true_right (sound z.1)) (omega arith) a to b x f
-    assignment_told (suc (suc (suc (suc k)))) l m f = absurd (omega arith)
 
-    pub jump-told : (k : ℕ) → k ≡ 4 → OperandTold t at a to b x → FieldsTold t at k n i a to b x
+    pub jump-told : OperandTold t at a to b x → FieldsTold t at 4 n i a to b x
     unfolding fields jump
-    jump-told k e f =
-        subst (λ (j : ℕ). FieldsTold t at j n i a to b x) (sym e)
-        (fields_told expression t at 4 n i jmp (whole_operand (parts (drop at t))) refl (λ z. refl) (λ z. refl) (λ z. and_true_right (sound z))
-        (omega arith) a to b x f)
+    jump-told f =
+        fields_told expression t at 4 n i jmp (whole_operand (parts (drop at t))) refl (λ z. refl) (λ z. refl) (λ z. and_true_right (sound z))
+        (omega arith) a to b x f
 
-    pub branch-told : (k : ℕ) → k ≡ 5 → BranchTold t at n i a to b x → FieldsTold t at k n i a to b x
+    pub branch-told : BranchTold t at n i a to b x → FieldsTold t at 5 n i a to b x
     unfolding fields
-    branch-told k e f =
-        subst (λ (j : ℕ). FieldsTold t at j n i a to b x) (sym e)
-        (fields_told (both register (label n i)) t at 5 n i (λ z. beqz z.0 z.1)
+    branch-told f =
+        fields_told (both register (label n i)) t at 5 n i (λ z. beqz z.0 z.1)
         (and_then (by_name register_named) (by_name constant_named) (parts (drop at t)))
-        (branch_reader (parts (drop at t))) (λ z. refl) (λ z. refl) (λ z. refl) (omega arith) a to b x f)
+        (branch_reader (parts (drop at t))) (λ z. refl) (λ z. refl) (λ z. refl) (omega arith) a to b x f
 
-    pub conditional-told : (k : ℕ) → k ≡ 6 → ConditionalTold t at a to b x → FieldsTold t at k n i a to b x
+    pub conditional-told : ConditionalTold t at a to b x → FieldsTold t at 6 n i a to b x
     unfolding fields
-    conditional-told k e f =
-        subst (λ (j : ℕ). FieldsTold t at j n i a to b x) (sym e)
-        (fields_told (both (both register expression) expression) t at 6 n i conditional_of (and_then assignment_reader whole_operand (parts (drop at t)))
-        (conditional_reader (parts (drop at t))) (λ z. refl) (λ z. refl) (λ z. and_true_right (sound z.0.1 && sound z.1)) (omega arith) a to b x f)
+    conditional-told f =
+        fields_told (both (both register expression) expression) t at 6 n i conditional_of (and_then assignment_reader whole_operand (parts (drop at t)))
+        (conditional_reader (parts (drop at t))) (λ z. refl) (λ z. refl) (λ z. and_true_right (sound z.0.1 && sound z.1)) (omega arith) a to b x f
+
+-- ---- no instruction word
+pub no_kind_unread : (n i k : ℕ) (ps : List Part) → k ≡ 8 → Unread (instruction n i) (fields_of k ps)
+unfolding fields
+no_kind_unread n i k ps e = unread-nothing (ap (λ (f : PartReader Instr). f ps) (get_or-eq_default fields (λ ps. nothing) {n = k} (omega arith)))

@@ -1,11 +1,12 @@
 -- All lines of a text, from a place on: what the two loops over them keep, and what they leave at the end.
 -- Assumes nothing.
 use mathlib.Core.Path.{◌≡◌, refl, sym, ap, subst, ◌∙◌}
-use mathlib.Core.Bool.{Bool, true, false, not, cond}
+use mathlib.Core.Bool.{Bool, true, false, cond}
 use mathlib.Core.List.{List, [], ◌∷◌, ◌++◌}
 use Prim.Native.Nat.{ℕ, ◌+◌, ◌-◌, ◌*◌, ◌^◌, ◌<◌, ◌≤◌}
 use native.Mathlib.Omega.{arith}
-use borrow.Author.Tests.{le-leb, lt-leb, leb-true, leb-false}
+use Rattle.std.proofs.Common.{Some, None}
+use borrow.Author.Tests.{le-leb, lt-leb, leb-true, leb-false, ne_eqb}
 use lib.Dec.{leb}
 use lib.ListN.{length, drop}
 use Rattle.rules.specs.Rules.Limits.{max_instructions}
@@ -19,7 +20,7 @@ use Rattle.lexer.specs.Lines.{next-within, line-parts, last_line, line_before}
 use Rattle.text_reader.specs.declared.LineRead.{LineRead}
 use Rattle.text_reader.specs.Faults.{held_line, held_lines, faulty, first_fault}
 use Rattle.text_reader.specs.FaultLaws.{held-few}
-use Rattle.text_reader.specs.Reading.{largest, line_bytes, lines_bytes, LineTold, CountTold, ScanTold}
+use Rattle.text_reader.specs.Reading.{largest, line_bytes, lines_bytes, LineKept, line_if, CountTold, ScanTold}
 
 -- ---- the lines that go on from an offset; none past the text's end
 unfoldable pub lines_from : List ℕ → ℕ → List (List ℕ)
@@ -171,47 +172,48 @@ module _ (t : List ℕ) where
     fault-later i k e f = rw e (rw f)
 
     -- one line more
-    module _ (p : Place) {l : LineAt} (found : l ≡ line_at t p) (inside : p.at ≤ length t) {count to : ℕ} {b d : List ℕ} {r : LineRead}
-        (s : Scanning n a p count b to) (told : LineTold (line_of (parts (drop l.start t))) n count b to d r) where
-      there : LineTold (line_there p) n count b to d r
-      there = subst (λ (L : Line). LineTold L n count b to d r) (line-start p found inside) told
-
-      pub scan_goes_on : r.sound ≡ true → Scanning n a l.next r.count d r.to
-      scan_goes_on e =
+    module _ (p : Place) {l : LineAt} (found : l ≡ line_at t p) (inside : p.at ≤ length t) {count to : ℕ} {b : List ℕ} (s : Scanning n a p count b to) where
+      pub scan_goes_on : {d : List ℕ} {r : LineRead} → LineKept (line_of (parts (drop l.start t))) n count b to d r → Scanning n a l.next r.count d r.to
+      scan_goes_on {d} {r} told =
           let next = line-next p found inside in
           let number = next-number p found inside in
-          let fine : faulty n count (line_there p) ≡ false = there.fault ∙ ap not e in
-          let k = there.kept e in
+          let k : LineKept (line_there p) n count b to d r =
+          subst (λ (L : Line). LineKept L n count b to d r) (line-start p found inside) told in
           let step = held-step next in
           record {
             stands = next-there p found inside s.stands;
-            few = omega (arith, k.count, held-few n count (line_there p) fine s.few);
+            few = omega (arith, k.count, held-few n count (line_there p) k.fault s.few);
             size = omega (arith, k.count, k.size, s.size);
             fault =
-                s.fault ∙ fault-later count (p.line + 1) next fine
+                s.fault ∙ fault-later count (p.line + 1) next k.fault
                 ∙ ap (λ (i : ℕ). first_fault n i (p.line + 1 + 1) (lines_from t l.next.at)) (sym k.count)
                 ∙ ap (λ (m : ℕ). first_fault n r.count (m + 1) (lines_from t l.next.at)) (sym number);
             held = omega (arith, k.count, s.held);
             left = left-next (line_bytes (line_there p)) (lines_bytes (lines_from t l.next.at)) s.left (bytes-step next) k.put;
           }
 
-      pub scan_faulty : {c o : ℕ} {f : List ℕ} → r.sound ≡ false → ScanTold t n a f (record { to = o; count = c; fault = l.next.line })
-      scan_faulty e =
+      -- a line's number is not 0
+      line-some : {k : ℕ} → k ≡ p.line + 1 → Some k ≡ line_if k
+      line-some {k} e = rw (ne_eqb k 0 (λ z. omega arith))
+
+      pub scan_faulty : {c o : ℕ} {f : List ℕ} → faulty n count (line_of (parts (drop l.start t))) ≡ true
+          → ScanTold t n a f (record { to = o; count = c; fault = Some l.next.line })
+      scan_faulty bad =
           let number = next-number p found inside in
-          let bad : faulty n count (line_there p) ≡ true = there.fault ∙ ap not e in
+          let there : faulty n count (line_there p) ≡ true = sym (ap (λ (L : Line). faulty n count L) (line-start p found inside)) ∙ bad in
           record {
-            fault = number ∙ sym (s.fault ∙ fault-here count (p.line + 1) (line-next p found inside) bad);
-            kept = λ z. absurd (omega arith);
+            fault = line-some number ∙ ap line_if (number ∙ sym (s.fault ∙ fault-here count (p.line + 1) (line-next p found inside) there));
+            kept = λ z. (cc);
           }
 
     pub scan_ends : {p : Place} {count to : ℕ} {b : List ℕ} → length t < p.at → Scanning n a p count b to
-        → ScanTold t n a b (record { to = to; count = count; fault = 0 })
+        → ScanTold t n a b (record { to = to; count = count; fault = None })
     unfolding held_lines lines_bytes first_fault
     scan_ends {p} {count} {to} {b} h s =
         let none = past h in
         let rest = ap held_lines none in
         record {
-          fault = sym (s.fault ∙ ap (first_fault n count (p.line + 1)) none);
+          fault = ap line_if (sym (s.fault ∙ ap (first_fault n count (p.line + 1)) none));
           kept = λ _. record {
             put = left_done (rw none at s.left);
             count = omega (arith, s.held);

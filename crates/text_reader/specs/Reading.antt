@@ -1,6 +1,6 @@
 -- What the readers of lines say of the rules' reading: how many lines are not blank, what a line leaves, and what all lines leave.
 -- Assumes nothing.
-use Rattle.std.specs.Prelude.{◌≡◌, Bool, true, false, not, List, [], ◌∷◌, ◌++◌, ℕ, ◌+◌, ◌*◌, ◌≤◌, length, drop}
+use Rattle.std.specs.Prelude.{◌≡◌, Bool, true, false, cond, List, [], ◌∷◌, ◌++◌, ℕ, ◌+◌, ◌*◌, ◌≤◌, eqb, length, drop, Option, Some, None}
 use Rattle.rules.specs.Rules.Encoding.{instr_bytes}
 use Rattle.rules.specs.Rules.Parts.{Part, parts, lines_of}
 use Rattle.rules.specs.Rules.TextReading.{Line, blank, holds, unreadable, whole_line, line_of}
@@ -34,14 +34,15 @@ lines_bytes [] = []
 lines_bytes (l ∷ ls) = line_bytes (line_of (parts l)) ++ lines_bytes ls
 
 -- ---- a line without fault: it is written, and counted if it is not blank
-pub record LineKept (L : Line) (i : ℕ) (a : List ℕ) (to : ℕ) (b : List ℕ) (r : LineRead) : Type 0 where
+pub record LineKept (L : Line) (n i : ℕ) (a : List ℕ) (to : ℕ) (b : List ℕ) (r : LineRead) : Type 0 where
+  pub fault : faulty n i L ≡ false
   pub put : Put a to (line_bytes L) b r.to
   pub count : r.count ≡ i + held_line L
   pub size : r.to ≤ to + largest * held_line L
 
-pub record LineTold (L : Line) (n i : ℕ) (a : List ℕ) (to : ℕ) (b : List ℕ) (r : LineRead) : Type 0 where
-  pub fault : faulty n i L ≡ not r.sound
-  pub kept : r.sound ≡ true → LineKept L i a to b r
+abbrev pub LineTold : Line → ℕ → ℕ → List ℕ → ℕ → List ℕ → Option LineRead → Type 0
+LineTold L n i a to b (Some r) = LineKept L n i a to b r
+LineTold L n i a to b None = faulty n i L ≡ true
 
 -- ---- all lines
 pub record CountTold (t : List ℕ) (r : Counted) : Type 0 where
@@ -52,6 +53,10 @@ pub record ScanKept (t a b : List ℕ) (r : Scanned) : Type 0 where
   pub put : Put a 0 (lines_bytes (lines_of t)) b r.to
   pub count : r.count ≡ held_lines (lines_of t)
 
+-- the line of a number, if there is one: 0 is none
+abbrev pub line_if : ℕ → Option ℕ
+line_if k = cond (eqb k 0) None (Some k)
+
 pub record ScanTold (t : List ℕ) (n : ℕ) (a b : List ℕ) (r : Scanned) : Type 0 where
-  pub fault : r.fault ≡ first_fault n 0 1 (lines_of t)
-  pub kept : r.fault ≡ 0 → ScanKept t a b r
+  pub fault : r.fault ≡ line_if (first_fault n 0 1 (lines_of t))
+  pub kept : r.fault ≡ None → ScanKept t a b r

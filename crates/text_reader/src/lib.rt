@@ -4,6 +4,7 @@
 
 ghost use Rattle.std.specs.Prelude.{◌≡◌, ◌+◌, ◌^◌, ◌<◌, drop};
 ghost use Rattle.rules.specs.Rules.Limits.{max_instructions};
+ghost use Rattle.rules.specs.Rules.Instructions.{kind_number};
 ghost use Rattle.rules.specs.Rules.Parts.{parts};
 ghost use Rattle.rules.specs.Rules.TextReading.{line_of};
 ghost use Rattle.rules.specs.Rules.TextPromises.{ReadPromise};
@@ -12,252 +13,194 @@ ghost use Rattle.text_reader.specs.Fields.{RegisterTold, OperandTold, LabelTold,
 ghost use Rattle.text_reader.specs.Reading.{largest, no_parts, instruction_line, LineTold, CountTold, ScanTold};
 
 use lexer::{Part, Place};
-use names::{NO_REGISTER, Number};
-use operand::WholeRead;
 use rules::limits::MAX_INSTRUCTIONS;
-use rules::{ReadAnswer, ReadProgram, Refusal};
+use rules::{Kind, ReadAnswer, ReadProgram, Refusal};
 
-// The kinds of instruction by which fields are told apart: set, load and store, 1 to 3, have the same.
-const SET: u8 = 1;
-
-const STORE: u8 = 3;
-
-const JUMP: u8 = 4;
-
-const BRANCH: u8 = 5;
-
-const CONDITIONAL: u8 = 6;
-
-const BARRIER: u8 = 7;
-
-// How far a reading has come: the offset in the text, and the place in the area.
+// How far a reading has come: the offset in the text, and the place in the area. A field that is not there, or that breaks a rule, gives none.
 #[derive(Drop)]
 struct Progress {
     at: usize,
     to: usize,
 }
 
-#[derive(Drop)]
-enum FieldRead {
-    Read(Progress),
-    // The field is not there, or it breaks a rule.
-    Refused,
-}
-
 // Whether no part stands in the line from an offset on.
 fn ends_at(text: &[u8], at: usize) -> bool
     ensures { result ≡ no_parts (parts (drop at text.now)) }
 {
-    match lexer::part_at(text, at) {
-        Part::End => true,
-        Part::Name(_, _) => false,
-        Part::Opening(_) => false,
-        Part::Closing(_) => false,
-        Part::Other => false,
-    }
+    matches!(lexer::part_at(text, at), Part::End)
 }
 
-fn read_register(text: &[u8], at: usize, out: &mut [u8], to: usize) -> FieldRead
+fn read_register(text: &[u8], at: usize, out: &mut [u8], to: usize) -> Option<Progress>
     requires { to + 1 < 2 ^ 64 }
     ensures { RegisterTold text.now at out.old to out.new result }
 {
-    match lexer::part_at(text, at) {
-        Part::Name(start, end) => {
-            let register = names::register_named(text, start, end);
-            if register == NO_REGISTER {
-                return FieldRead::Refused;
-            }
-            let next = byte_writer::put_byte(&mut out[..], to, register);
-            FieldRead::Read(Progress { at: end, to: next })
-        }
-        Part::Opening(_) => FieldRead::Refused,
-        Part::Closing(_) => FieldRead::Refused,
-        Part::Other => FieldRead::Refused,
-        Part::End => FieldRead::Refused,
-    }
+    let Part::Name(start, end) = lexer::part_at(text, at) else {
+        return None;
+    };
+    let register = names::register_named(&text[start..end])?;
+    let next = byte_writer::put_byte(out, to, register);
+    Some(Progress { at: end, to: next })
 }
 
 // An expression that keeps the postfix rule.
-fn read_operand(text: &[u8], at: usize, out: &mut [u8], to: usize) -> FieldRead
+fn read_operand(text: &[u8], at: usize, out: &mut [u8], to: usize) -> Option<Progress>
     requires { to + 145 < 2 ^ 64 }
     ensures { OperandTold text.now at out.old to out.new result }
 {
-    match operand::read_whole(text, at, &mut out[..], to) {
-        WholeRead::Read(q) => {
-            if !q.sound {
-                return FieldRead::Refused;
-            }
-            FieldRead::Read(Progress { at: q.at, to: q.to })
-        }
-        WholeRead::Refused => FieldRead::Refused,
+    let whole = operand::read_whole(text, at, out, to)?;
+    if !whole.sound {
+        return None;
     }
+    Some(Progress {
+        at: whole.at,
+        to: whole.to,
+    })
 }
 
 // The label of a branch that has label i itself, in a program of n instructions.
-fn read_label(text: &[u8], at: usize, n: usize, i: usize, out: &mut [u8], to: usize) -> FieldRead
+fn read_label(
+    text: &[u8],
+    at: usize,
+    n: usize,
+    i: usize,
+    out: &mut [u8],
+    to: usize,
+) -> Option<Progress>
     requires { (to + 2 < 2 ^ 64) × (i + 1 < 2 ^ 64) }
     ensures { LabelTold text.now at n i out.old to out.new result }
 {
-    match lexer::part_at(text, at) {
-        Part::Name(start, end) => match names::constant_named(text, start, end) {
-            Number::Found(label) => {
-                if (n as u64) < label {
-                    return FieldRead::Refused;
-                }
-                if label == (i + 1) as u64 {
-                    return FieldRead::Refused;
-                }
-                let next = byte_writer::put_number(&mut out[..], to, label, 2);
-                FieldRead::Read(Progress { at: end, to: next })
-            }
-            Number::Missing => FieldRead::Refused,
-        },
-        Part::Opening(_) => FieldRead::Refused,
-        Part::Closing(_) => FieldRead::Refused,
-        Part::Other => FieldRead::Refused,
-        Part::End => FieldRead::Refused,
+    let Part::Name(start, end) = lexer::part_at(text, at) else {
+        return None;
+    };
+    let label = names::constant_named(&text[start..end])?;
+    if (n as u64) < label {
+        return None;
     }
+    if label == (i + 1) as u64 {
+        return None;
+    }
+    let next = byte_writer::put_number(out, to, label, 2);
+    Some(Progress { at: end, to: next })
 }
 
 // A register, then an operand.
-fn read_assignment(text: &[u8], at: usize, out: &mut [u8], to: usize) -> FieldRead
+fn read_assignment(text: &[u8], at: usize, out: &mut [u8], to: usize) -> Option<Progress>
     requires { to + 146 < 2 ^ 64 }
     ensures { AssignmentTold text.now at out.old to out.new result }
 {
-    match read_register(text, at, &mut out[..], to) {
-        FieldRead::Read(p) => read_operand(text, p.at, &mut out[..], p.to),
-        FieldRead::Refused => FieldRead::Refused,
-    }
+    let p = read_register(text, at, out, to)?;
+    read_operand(text, p.at, out, p.to)
 }
 
 // A register, then a label.
-fn read_branch(text: &[u8], at: usize, n: usize, i: usize, out: &mut [u8], to: usize) -> FieldRead
+fn read_branch(
+    text: &[u8],
+    at: usize,
+    n: usize,
+    i: usize,
+    out: &mut [u8],
+    to: usize,
+) -> Option<Progress>
     requires { (to + 3 < 2 ^ 64) × (i + 1 < 2 ^ 64) }
     ensures { BranchTold text.now at n i out.old to out.new result }
 {
-    match read_register(text, at, &mut out[..], to) {
-        FieldRead::Read(p) => read_label(text, p.at, n, i, &mut out[..], p.to),
-        FieldRead::Refused => FieldRead::Refused,
-    }
+    let p = read_register(text, at, out, to)?;
+    read_label(text, p.at, n, i, out, p.to)
 }
 
 // A register, then two operands.
-fn read_conditional(text: &[u8], at: usize, out: &mut [u8], to: usize) -> FieldRead
+fn read_conditional(text: &[u8], at: usize, out: &mut [u8], to: usize) -> Option<Progress>
     requires { to + 291 < 2 ^ 64 }
     ensures { ConditionalTold text.now at out.old to out.new result }
 {
-    match read_assignment(text, at, &mut out[..], to) {
-        FieldRead::Read(p) => read_operand(text, p.at, &mut out[..], p.to),
-        FieldRead::Refused => FieldRead::Refused,
-    }
+    let p = read_assignment(text, at, out, to)?;
+    read_operand(text, p.at, out, p.to)
 }
 
 // What follows an instruction word, by kind. The instruction has label i, of n.
 fn read_fields(
     text: &[u8],
     at: usize,
-    kind: u8,
+    kind: Kind,
     n: usize,
     i: usize,
     out: &mut [u8],
     to: usize,
-) -> FieldRead
+) -> Option<Progress>
     requires { (to + 291 < 2 ^ 64) × (i + 1 < 2 ^ 64) }
-    ensures { FieldsTold text.now at kind n i out.old to out.new result }
+    ensures { FieldsTold text.now at (kind_number kind) n i out.old to out.new result }
 {
-    if kind < SET {
-        return FieldRead::Read(Progress { at, to });
+    match kind {
+        Kind::Skip | Kind::Barrier => Some(Progress { at, to }),
+        Kind::Assign | Kind::Load | Kind::Store => read_assignment(text, at, out, to),
+        Kind::Jump => read_operand(text, at, out, to),
+        Kind::BranchZero => read_branch(text, at, n, i, out, to),
+        Kind::AssignIf => read_conditional(text, at, out, to),
     }
-    if kind <= STORE {
-        return read_assignment(text, at, &mut out[..], to);
-    }
-    if kind == JUMP {
-        return read_operand(text, at, &mut out[..], to);
-    }
-    if kind == BRANCH {
-        return read_branch(text, at, n, i, &mut out[..], to);
-    }
-    if kind == CONDITIONAL {
-        return read_conditional(text, at, &mut out[..], to);
-    }
-    if kind == BARRIER {
-        return FieldRead::Read(Progress { at, to });
-    }
-    FieldRead::Refused
 }
 
-// What a line leaves: the place after its bytes, the instructions so far, and whether it is free of faults.
+// What a line without fault leaves: the place after its bytes, and the instructions so far. A faulty line gives none.
 #[derive(Drop)]
 struct LineRead {
     to: usize,
     count: usize,
-    sound: bool,
 }
 
 // The instruction whose word is known, which has to be the whole line.
 fn read_instruction(
     text: &[u8],
     at: usize,
-    kind: u8,
+    kind: Kind,
     n: usize,
     i: usize,
     out: &mut [u8],
     to: usize,
-) -> LineRead
+) -> Option<LineRead>
     requires { (to + largest < 2 ^ 64) × (i < max_instructions) }
-    ensures { LineTold (instruction_line text.now at kind) n i out.old to out.new result }
+    ensures { LineTold (instruction_line text.now at (kind_number kind)) n i out.old to out.new result }
 {
-    let next = byte_writer::put_byte(&mut out[..], to, kind);
-    match read_fields(text, at, kind, n, i, &mut out[..], next) {
-        FieldRead::Read(p) => LineRead {
-            to: p.to,
-            count: i + 1,
-            sound: ends_at(text, p.at),
-        },
-        FieldRead::Refused => LineRead {
-            to,
-            count: i,
-            sound: false,
-        },
+    let next = byte_writer::put_byte(out, to, u8::from(kind));
+    let p = read_fields(text, at, kind, n, i, out, next)?;
+    if !ends_at(text, p.at) {
+        return None;
     }
+    Some(LineRead {
+        to: p.to,
+        count: i + 1,
+    })
 }
 
 // The line whose first part may stand at an offset. Its instruction has label i, of n.
-fn read_line(text: &[u8], at: usize, n: usize, i: usize, out: &mut [u8], to: usize) -> LineRead
+fn read_line(
+    text: &[u8],
+    at: usize,
+    n: usize,
+    i: usize,
+    out: &mut [u8],
+    to: usize,
+) -> Option<LineRead>
     requires { to + largest < 2 ^ 64 }
     ensures { LineTold (line_of (parts (drop at text.now))) n i out.old to out.new result }
 {
-    let fault = LineRead {
-        to,
-        count: i,
-        sound: false,
-    };
     match lexer::part_at(text, at) {
-        Part::End => LineRead {
-            to,
-            count: i,
-            sound: true,
-        },
+        Part::End => Some(LineRead { to, count: i }),
         Part::Name(start, end) => {
             if MAX_INSTRUCTIONS <= i {
-                return fault;
+                return None;
             }
-            let kind = names::kind_named(text, start, end);
-            read_instruction(text, end, kind, n, i, &mut out[..], to)
+            let kind = names::kind_named(&text[start..end])?;
+            read_instruction(text, end, kind, n, i, out, to)
         }
-        Part::Opening(_) => fault,
-        Part::Closing(_) => fault,
-        Part::Other => fault,
+        _ => None,
     }
 }
 
-// What reading all lines gives: the place after the program's bytes, its instructions, and the line of the first fault, counted from 1;
-// 0 where there is none.
+// What reading all lines gives: the place after the program's bytes, its instructions, and the line of the first fault, counted from 1.
 #[derive(Drop)]
 struct Scanned {
     to: usize,
     count: usize,
-    fault: usize,
+    fault: Option<usize>,
 }
 
 // All lines of a text, of which n are not blank.
@@ -269,22 +212,21 @@ fn read_lines(text: &[u8], n: usize, out: &mut [u8]) -> Scanned
     let mut to = 0;
     while place.at <= text.len() {
         let line = lexer::line_at(text, place);
-        let read = read_line(text, line.start, n, count, &mut out[..], to);
         place = line.next;
-        to = read.to;
-        count = read.count;
-        if !read.sound {
+        let Some(read) = read_line(text, line.start, n, count, out, to) else {
             return Scanned {
                 to,
                 count,
-                fault: place.line,
+                fault: Some(place.line),
             };
-        }
+        };
+        to = read.to;
+        count = read.count;
     }
     Scanned {
         to,
         count,
-        fault: 0,
+        fault: None,
     }
 }
 
@@ -299,10 +241,7 @@ struct Counted {
 fn held_at(text: &[u8], at: usize) -> usize
     ensures { result ≡ held_line (line_of (parts (drop at text.now))) }
 {
-    if ends_at(text, at) {
-        return 0;
-    }
-    1
+    usize::from(!ends_at(text, at))
 }
 
 fn count_lines(text: &[u8]) -> Counted
@@ -332,7 +271,7 @@ pub fn read_text(text: &[u8], out: &mut [u8]) -> ReadAnswer
         return Err(Refusal::Text);
     }
     let first = read_lines(text, n, &mut out[0..0]);
-    if first.fault != 0 {
+    if first.fault.is_some() {
         return Err(Refusal::Text);
     }
     if out.len() < first.to {
@@ -354,6 +293,5 @@ pub fn fault_line(text: &[u8]) -> usize
     if n == 0 {
         return counted.lines;
     }
-    let mut none = [0u8; 0];
-    read_lines(text, n, &mut none).fault
+    read_lines(text, n, &mut []).fault.unwrap_or(0)
 }

@@ -1,32 +1,23 @@
 -- `read_branch` meets its contract: a register, then a label. Assumes nothing.
-use native.Mathlib.Omega.{arith}
-use lib.ListN.{drop}
+use Rattle.std.proofs.Common.{sym, drop, arith}
 use Rattle.rules.specs.Rules.Parts.{parts}
 use Rattle.rules.specs.Rules.TextReading.{by_name, register_named, constant_named}
-use Rattle.text_reader.specs.Fields.{register, label}
+use Rattle.text_reader.specs.Fields.{both, register, label, and_then}
 use Rattle.text_reader.proofs.Fields.{told-by, first-unread, both_told}
 use Rattle.text_reader.proofs.read_branch.Goals as goal
 
 pub read_label-requires : goal.read_label-requires
-read_label-requires c =
-    let a = c.args in
-    let r = c.read_register in
-    let h = told-by register a.text.now ((by_name register_named) (parts (drop a.at a.text.now))) a.out.now a.to r.new.out
-    c.in-Read.is r.ensures in (omega (arith, h.size), c.requires.1)
+read_label-requires c = (omega (arith, c.in_ok-p.ensures.size), c.requires.1)
 
-pub returns-in-Read : goal.returns-in-Read
-returns-in-Read c =
+pub returns-in_err-p : goal.returns-in_err-p
+returns-in_err-p c =
     let a = c.args in
-    let r = c.read_register in
+    let ps = parts (drop a.at a.text.now) in
+    told-by (both register (label a.n a.i)) a.text.now (and_then (by_name register_named) (by_name constant_named) ps) a.out.now a.to c.read_register.new.out (sym c.from_residual.ensures)
+    (first-unread register (label a.n a.i) (by_name register_named) (by_name constant_named) a.text.now ps c.in_err-p.ensures)
+
+pub returns : goal.returns
+returns c =
+    let a = c.args in
     let s = c.read_label in
-    both_told register (label a.n a.i) (by_name register_named) (by_name constant_named) a.text.now (parts (drop a.at a.text.now))
-    (told-by register a.text.now ((by_name register_named) (parts (drop a.at a.text.now))) a.out.now a.to r.new.out
-    c.in-Read.is r.ensures) s.new.out s.result s.ensures
-
-pub returns-in-Refused : goal.returns-in-Refused
-returns-in-Refused c =
-    let a = c.args in
-    let r = c.read_register in
-    first-unread register (label a.n a.i) (by_name register_named) (by_name constant_named) a.text.now (parts (drop a.at a.text.now))
-    (told-by register a.text.now ((by_name register_named) (parts (drop a.at a.text.now))) a.out.now a.to r.new.out
-    c.in-Refused.is r.ensures)
+    both_told register (label a.n a.i) (by_name register_named) (by_name constant_named) a.text.now (parts (drop a.at a.text.now)) c.in_ok-p.ensures s.new.out s.result s.ensures

@@ -1,32 +1,23 @@
 -- `read_conditional` meets its contract: a register and an operand, then another operand. Assumes nothing.
-use native.Mathlib.Omega.{arith}
-use lib.ListN.{drop}
+use Rattle.std.proofs.Common.{sym, drop, arith}
 use Rattle.rules.specs.Rules.Parts.{parts}
 use Rattle.rules.specs.Rules.TextReading.{whole_operand}
-use Rattle.text_reader.specs.Fields.{both, register, expression, assignment_reader}
+use Rattle.text_reader.specs.Fields.{both, register, expression, and_then, assignment_reader}
 use Rattle.text_reader.proofs.Fields.{told-by, first-unread, both_told}
 use Rattle.text_reader.proofs.read_conditional.Goals as goal
 
 pub read_operand-requires : goal.read_operand-requires
-read_operand-requires c =
-    let a = c.args in
-    let r = c.read_assignment in
-    let h = told-by (both register expression) a.text.now (assignment_reader (parts (drop a.at a.text.now))) a.out.now a.to r.new.out
-    c.in-Read.is r.ensures in omega (arith, h.size)
+read_operand-requires c = omega (arith, c.in_ok-p.ensures.size)
 
-pub returns-in-Read : goal.returns-in-Read
-returns-in-Read c =
+pub returns-in_err-p : goal.returns-in_err-p
+returns-in_err-p c =
     let a = c.args in
-    let r = c.read_assignment in
+    let ps = parts (drop a.at a.text.now) in
+    told-by (both (both register expression) expression) a.text.now (and_then assignment_reader whole_operand ps) a.out.now a.to c.read_assignment.new.out (sym c.from_residual.ensures)
+    (first-unread (both register expression) expression assignment_reader whole_operand a.text.now ps c.in_err-p.ensures)
+
+pub returns : goal.returns
+returns c =
+    let a = c.args in
     let s = c.read_operand in
-    both_told (both register expression) expression assignment_reader whole_operand a.text.now (parts (drop a.at a.text.now))
-    (told-by (both register expression) a.text.now (assignment_reader (parts (drop a.at a.text.now))) a.out.now a.to r.new.out
-    c.in-Read.is r.ensures) s.new.out s.result s.ensures
-
-pub returns-in-Refused : goal.returns-in-Refused
-returns-in-Refused c =
-    let a = c.args in
-    let r = c.read_assignment in
-    first-unread (both register expression) expression assignment_reader whole_operand a.text.now (parts (drop a.at a.text.now))
-    (told-by (both register expression) a.text.now (assignment_reader (parts (drop a.at a.text.now))) a.out.now a.to r.new.out
-    c.in-Refused.is r.ensures)
+    both_told (both register expression) expression assignment_reader whole_operand a.text.now (parts (drop a.at a.text.now)) c.in_ok-p.ensures s.new.out s.result s.ensures

@@ -1,42 +1,49 @@
 -- `read_fields` meets its contract, by the kind of instruction. Assumes nothing.
-use Rattle.text_reader.proofs.Fields.{skip-told, barrier_told, beyond, no_kind_told, assignment_told, jump-told, branch-told, conditional-told}
+use Rattle.std.proofs.Common.{Option, Some}
+use mathlib.Core.Logic.{inl, inr}
+use Rattle.text_reader.specs.declared.Progress.{Progress}
+use Rattle.text_reader.proofs.Fields.{kind-told, skip-told, barrier_told, assign_told, load-told, store-told, jump-told, branch-told, conditional-told}
 use Rattle.text_reader.proofs.read_fields.Goals as goal
 
-pub returns-then-kind-lt-SET : goal.returns-then-kind-lt-SET
-returns-then-kind-lt-SET c = let a = c.args in skip-told a.text.now a.at a.n a.i a.kind a.out.now a.to c.if-kind-lt-SET.true
+pub returns-in-Skip : goal.returns-in-Skip
+returns-in-Skip c =
+    let a = c.args in
+    let x : Option Progress = Some (record { at = a.at; to = a.to }) in
+    elim c.in-Skip.is [
+      | inl e ↦ kind-told a.text.now a.at a.n a.i a.out.now a.to a.out.now x e (skip-told a.text.now a.at a.n a.i a.out.now a.to)
+      | inr e ↦ kind-told a.text.now a.at a.n a.i a.out.now a.to a.out.now x e (barrier_told a.text.now a.at a.n a.i a.out.now a.to)
+    ]
 
-pub returns-then-kind-le-STORE : goal.returns-then-kind-le-STORE
-returns-then-kind-le-STORE c =
+pub returns-in-Assign : goal.returns-in-Assign
+returns-in-Assign c =
     let a = c.args in
     let r = c.read_assignment in
-    assignment_told a.text.now a.at a.n a.i a.out.now a.to r.new.out r.result a.kind
-    c.if-kind-lt-SET.false c.if-kind-le-STORE.true r.ensures
+    elim c.in-Assign.is [
+      | inl e ↦ kind-told a.text.now a.at a.n a.i a.out.now a.to r.new.out r.result e (assign_told a.text.now a.at a.n a.i a.out.now a.to r.new.out r.result r.ensures)
+      | inr other ↦
+          elim other [
+            | inl e ↦ kind-told a.text.now a.at a.n a.i a.out.now a.to r.new.out r.result e (load-told a.text.now a.at a.n a.i a.out.now a.to r.new.out r.result r.ensures)
+            | inr e ↦ kind-told a.text.now a.at a.n a.i a.out.now a.to r.new.out r.result e (store-told a.text.now a.at a.n a.i a.out.now a.to r.new.out r.result r.ensures)
+          ]
+    ]
 
-pub returns-then-kind-eq-JUMP : goal.returns-then-kind-eq-JUMP
-returns-then-kind-eq-JUMP c =
+pub returns-in-Jump : goal.returns-in-Jump
+returns-in-Jump c =
     let a = c.args in
     let r = c.read_operand in
-    jump-told a.text.now a.at a.n a.i a.out.now a.to r.new.out r.result a.kind c.if-kind-eq-JUMP.true r.ensures
+    kind-told a.text.now a.at a.n a.i a.out.now a.to r.new.out r.result c.in-Jump.is
+    (jump-told a.text.now a.at a.n a.i a.out.now a.to r.new.out r.result r.ensures)
 
-pub returns-then-kind-eq-BRANCH : goal.returns-then-kind-eq-BRANCH
-returns-then-kind-eq-BRANCH c =
+pub returns-in-BranchZero : goal.returns-in-BranchZero
+returns-in-BranchZero c =
     let a = c.args in
     let r = c.read_branch in
-    branch-told a.text.now a.at a.n a.i a.out.now a.to r.new.out r.result a.kind c.if-kind-eq-BRANCH.true r.ensures
+    kind-told a.text.now a.at a.n a.i a.out.now a.to r.new.out r.result c.in-BranchZero.is
+    (branch-told a.text.now a.at a.n a.i a.out.now a.to r.new.out r.result r.ensures)
 
-pub returns-then-kind-eq-CONDITIONAL : goal.returns-then-kind-eq-CONDITIONAL
-returns-then-kind-eq-CONDITIONAL c =
+pub returns-in-AssignIf : goal.returns-in-AssignIf
+returns-in-AssignIf c =
     let a = c.args in
     let r = c.read_conditional in
-    conditional-told a.text.now a.at a.n a.i a.out.now a.to r.new.out r.result a.kind c.if-kind-eq-CONDITIONAL.true r.ensures
-
-pub returns-then-kind-eq-BARRIER : goal.returns-then-kind-eq-BARRIER
-returns-then-kind-eq-BARRIER c =
-    let a = c.args in
-    barrier_told a.text.now a.at a.n a.i a.kind a.out.now a.to c.if-kind-eq-BARRIER.true
-
-pub returns : goal.returns
-returns c =
-    let a = c.args in
-    no_kind_told a.text.now a.at a.n a.i a.kind
-    (beyond c.if-kind-le-STORE.false c.if-kind-eq-JUMP.false c.if-kind-eq-BRANCH.false c.if-kind-eq-CONDITIONAL.false c.if-kind-eq-BARRIER.false)
+    kind-told a.text.now a.at a.n a.i a.out.now a.to r.new.out r.result c.in-AssignIf.is
+    (conditional-told a.text.now a.at a.n a.i a.out.now a.to r.new.out r.result r.ensures)

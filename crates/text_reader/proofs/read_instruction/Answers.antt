@@ -1,21 +1,23 @@
 -- `read_instruction` meets its contract: the kind, the fields, and then the line is over. Assumes nothing.
-use Rattle.text_reader.proofs.Fields.{fields-by}
-use Rattle.text_reader.proofs.Lines.{fields_told, refused-told}
+use Rattle.std.proofs.Common.{ℕ, [], ◌∷◌, subst, sym, ◌∙◌}
+use Rattle.byte_writer.specs.Writing.{Put}
+use Rattle.rules.specs.Rules.Instructions.{kind_number}
+use Rattle.text_reader.specs.Reading.{instruction_line}
+use Rattle.text_reader.proofs.Lines.{line_by, fields_told, line_goes_on, refused-told}
 use Rattle.text_reader.proofs.read_instruction.Goals as goal
 
-pub returns-in-Read : goal.returns-in-Read
-returns-in-Read c =
+pub returns-in_err-p : goal.returns-in_err-p
+returns-in_err-p c =
     let a = c.args in
-    let r = c.read_fields in
-    let p = c.put_byte-next in
-    fields_told a.n a.i c.requires.1 p.ensures
-    (fields-by a.text.now a.at a.kind a.n a.i p.new.out p.result r.new.out c.in-Read.is r.ensures)
-    c.ends_at.ensures
+    line_by a.n a.i (instruction_line a.text.now a.at (kind_number a.kind)) a.out.now a.to c.read_fields.new.out c.from_residual.ensures
+    (refused-told a.n a.i a.text.now a.at (kind_number a.kind) c.in_err-p.ensures)
 
-pub returns-in-Refused : goal.returns-in-Refused
-returns-in-Refused c =
+pub returns-then-not-ends_at : goal.returns-then-not-ends_at
+returns-then-not-ends_at c =
+    let a = c.args in line_goes_on a.n a.i c.in_ok-p.ensures (sym c.if-not-ends_at.true ∙ c.ends_at.ensures)
+
+pub returns : goal.returns
+returns c =
     let a = c.args in
-    let r = c.read_fields in
-    let p = c.put_byte-next in
-    refused-told a.n a.i a.text.now a.at a.kind
-    (fields-by a.text.now a.at a.kind a.n a.i p.new.out p.result r.new.out c.in-Refused.is r.ensures)
+    let put = subst (λ (k : ℕ). Put a.out.now a.to (k ∷ []) c.put_byte-next.new.out c.put_byte-next.result) c.from.ensures c.put_byte-next.ensures in
+    fields_told a.n a.i c.in_ok-p.ensures c.requires.1 put (sym c.if-not-ends_at.false ∙ c.ends_at.ensures)

@@ -1,24 +1,20 @@
 -- `read_operand` meets its contract: an operand that keeps the postfix rule. Assumes nothing.
+use Rattle.std.proofs.Common.{sym, drop}
 use borrow.Author.Tests.{not-true, not-false}
-use Rattle.text_reader.proofs.Fields.{whole_by, whole-read, whole_unsound, whole-unread}
+use Rattle.rules.specs.Rules.Parts.{parts}
+use Rattle.rules.specs.Rules.TextReading.{whole_operand}
+use Rattle.text_reader.specs.Fields.{expression}
+use Rattle.text_reader.proofs.Fields.{told-by, whole-read, whole_unsound, whole-unread}
 use Rattle.text_reader.proofs.read_operand.Goals as goal
 
-pub returns-then-not-q : goal.returns-then-not-q
-returns-then-not-q c =
+pub returns-in_err-whole : goal.returns-in_err-whole
+returns-in_err-whole c =
     let a = c.args in
-    let r = c.read_whole in
-    whole_unsound (whole_by a.text.now a.at a.out.now a.to r.new.out c.in-Read.is r.ensures)
-    (not-true _ c.if-not-q.true)
+    told-by expression a.text.now (whole_operand (parts (drop a.at a.text.now))) a.out.now a.to c.read_whole.new.out (sym c.from_residual.ensures)
+    (whole-unread a.text.now a.at c.in_err-whole.ensures)
 
-pub returns-else-not-q : goal.returns-else-not-q
-returns-else-not-q c =
-    let a = c.args in
-    let r = c.read_whole in
-    whole-read (whole_by a.text.now a.at a.out.now a.to r.new.out c.in-Read.is r.ensures)
-    (not-false _ c.if-not-q.false)
+pub returns-then-not-whole : goal.returns-then-not-whole
+returns-then-not-whole c = whole_unsound c.in_ok-whole.ensures (not-true _ c.if-not-whole.true)
 
-pub returns-in-Refused : goal.returns-in-Refused
-returns-in-Refused c =
-    let a = c.args in
-    let r = c.read_whole in
-    whole-unread a.text.now a.at (whole_by a.text.now a.at a.out.now a.to r.new.out c.in-Refused.is r.ensures)
+pub returns : goal.returns
+returns c = whole-read c.in_ok-whole.ensures (not-false _ c.if-not-whole.false)
