@@ -174,6 +174,9 @@ pub length-line : (x : Instr) → length (instr_text x) ≡ length (word_text x)
 unfolding instr_text word_text
 length-line x = length_three (get_or instruction_words (kind x) []) (field_text x) (newline ∷ [])
 
+-- the lengths of what is made of parts, by which each part has room
+pub ruleset lengths = (length_three, length-line, length-append)
+
 word-length : (x : Instr) → length (word_text x) ≤ 6
 unfolding word_text instruction_words text
 word-length skip = omega arith

@@ -14,53 +14,54 @@ ghost use Rattle.rules.specs.Rules.Demands.{Exact};
 ghost use Rattle.rules.specs.Rules.TextPromises.{PrintPromise};
 ghost use Rattle.rules.specs.Theorems.Readers.{readable};
 ghost use Rattle.byte_writer.specs.Writing.{Put};
+ghost use Rattle.byte_writer.specs.Writers.{HasRoom, Writes};
 ghost use Rattle.token.specs.Meaning.{token_meaning, tokens_of};
 ghost use Rattle.instruction.specs.Meaning.{meaning};
 ghost use Rattle.job.specs.Answers.{Accepts};
 ghost use Rattle.text_printer.specs.Operands.{sign_part, operator_part, texts_at, below_after, IndexedAll, Operand, Printable};
 ghost use Rattle.text_printer.specs.Programs.{PrintableInstr, word_text, program_printed, printed};
 
+use byte_writer::Writer;
 use instruction::Instruction;
 use location::Label;
 use rules::limits::MAX_TOKENS;
 use rules::{PrintAnswer, Refusal, Trailer};
 use token::{Expression, Token};
 
-fn put_register(out: &mut [u8], at: usize, r: u8) -> usize
-    requires { at + length (register_text r) < 2 ^ 64 }
-    ensures { Put out.old at (register_text r) out.new result }
+#[tactic(auto, unfolding(rules::specs::Rules::TextPrinting::register_text))]
+fn put_register(writer: &mut Writer<'_>, r: u8)
+    requires { HasRoom writer.old (register_text r) }
+    ensures { Writes writer.old (register_text r) writer.new }
 {
-    let digits = byte_writer::put_byte(out, at, b'r');
-    byte_writer::put_decimal(out, digits, r as u64)
+    writer.put_byte(b'r');
+    writer.put_decimal(r as u64);
 }
 
-// A sign and a space, by the sign's place in the rules' table.
-fn put_sign(out: &mut [u8], at: usize, i: u8) -> usize
-    requires { at + length (sign_part (get_or unary i neg)) < 2 ^ 64 }
-    ensures { Put out.old at (sign_part (get_or unary i neg)) out.new result }
+// A sign and a space, by the sign's place in the rules' table, which is the byte that follows the sign's token in a program.
+fn sign_text(i: u8) -> &'static [u8]
+    ensures { result.now ≡ sign_part (get_or unary i neg) }
 {
     match i {
-        1 => byte_writer::put_text(out, at, b"not "),
-        _ => byte_writer::put_text(out, at, b"neg "),
+        1 => b"not ",
+        _ => b"neg ",
     }
 }
 
-// An operator's name between spaces, by the operator's place in the rules' table.
-fn put_operator(out: &mut [u8], at: usize, i: u8) -> usize
-    requires { at + length (operator_part (get_or binary i add)) < 2 ^ 64 }
-    ensures { Put out.old at (operator_part (get_or binary i add)) out.new result }
+// An operator's name between spaces, by the operator's place in the rules' table, as a sign's.
+fn operator_text(i: u8) -> &'static [u8]
+    ensures { result.now ≡ operator_part (get_or binary i add) }
 {
     match i {
-        1 => byte_writer::put_text(out, at, b" sub "),
-        2 => byte_writer::put_text(out, at, b" mul "),
-        3 => byte_writer::put_text(out, at, b" and "),
-        4 => byte_writer::put_text(out, at, b" or "),
-        5 => byte_writer::put_text(out, at, b" xor "),
-        6 => byte_writer::put_text(out, at, b" shl "),
-        7 => byte_writer::put_text(out, at, b" shr "),
-        8 => byte_writer::put_text(out, at, b" eq "),
-        9 => byte_writer::put_text(out, at, b" ult "),
-        _ => byte_writer::put_text(out, at, b" add "),
+        1 => b" sub ",
+        2 => b" mul ",
+        3 => b" and ",
+        4 => b" or ",
+        5 => b" xor ",
+        6 => b" shl ",
+        7 => b" shr ",
+        8 => b" eq ",
+        9 => b" ult ",
+        _ => b" add ",
     }
 }
 
@@ -82,170 +83,155 @@ fn below_after(below: &[usize], i: usize, t: Token) -> usize
 }
 
 // The offset of each token of an expression, and at j how many tokens stand before the operand that the first j tokens end with. So a printer
-// finds both operands of an operator, the right one ending just before it, and the left one just before the right.
+// finds both operands of an operator, the right one ending just before it, and the left one just before the right. The two arrays are no
+// pairs: one has a place for each token, the other for each number of tokens, 0 too.
 fn index_tokens(p: &[u8], e: Expression, offsets: &mut [usize], below: &mut [usize])
     requires { (readable (tokens e.count p.now e.at) ≡ true) × (e.count ≤ length offsets.old) × (e.count < length below.old) }
     ensures { IndexedAll p.now e offsets.new below.new }
 {
     below[0] = 0;
     let mut offset = e.at;
-    let count = e.count;
-    let mut i = 0;
-    while i < count {
+    for i in 0..e.count {
         let read = token::token_at(p, offset);
-        let t = read.token;
-        let first = below_after(&below[..], i, t);
+        let first = below_after(below, i, read.token);
         offsets[i] = offset;
-        i += 1;
-        below[i] = first;
+        below[i + 1] = first;
         offset = read.next;
     }
 }
 
 // The text of the operand that the first k tokens end with. The last of them is a register, a constant, or an operator after its operands;
 // k falls from call to call, so at most 16 calls are open.
-fn put_operand(
-    p: &[u8],
-    offsets: &[usize],
-    below: &[usize],
-    k: usize,
-    out: &mut [u8],
-    at: usize,
-) -> usize
-    requires { Operand p.now offsets.now below.now k at }
-    ensures { Put out.old at (top_text (texts_at p.now offsets.now k)) out.new result }
+fn put_operand(writer: &mut Writer<'_>, p: &[u8], offsets: &[usize], below: &[usize], k: usize)
+    requires { Operand p.now offsets.now below.now k writer.old.at }
+    ensures { Writes writer.old (top_text (texts_at p.now offsets.now k)) writer.new }
 {
     let last = k - 1;
-    let read = token::token_at(p, offsets[last]);
-    let t = read.token;
-    match t {
-        Token::Register(r) => put_register(out, at, r),
-        Token::Constant(c) => byte_writer::put_decimal(out, at, c),
+    match token::token_at(p, offsets[last]).token {
+        Token::Register(r) => put_register(writer, r),
+        Token::Constant(c) => writer.put_decimal(c),
         Token::Unary(i) => {
-            let operand = put_sign(out, at, i);
-            put_operand(p, offsets, below, last, out, operand)
+            writer.put_text(sign_text(i));
+            put_operand(writer, p, offsets, below, last);
         }
         Token::Binary(i) => {
             let left = below[last];
-            let inside = byte_writer::put_byte(out, at, b'(');
-            let after_left = put_operand(p, offsets, below, left, out, inside);
-            let right = put_operator(out, after_left, i);
-            let after_right = put_operand(p, offsets, below, last, out, right);
-            byte_writer::put_byte(out, after_right, b')')
+            writer.put_byte(b'(');
+            put_operand(writer, p, offsets, below, left);
+            writer.put_text(operator_text(i));
+            put_operand(writer, p, offsets, below, last);
+            writer.put_byte(b')');
         }
     }
 }
 
 // An expression of an accepted program.
-fn put_expression(p: &[u8], e: Expression, out: &mut [u8], at: usize) -> usize
-    requires { Printable (tokens_of p.now e) × (at + length (expr_text (tokens_of p.now e)) < 2 ^ 64) }
-    ensures { Put out.old at (expr_text (tokens_of p.now e)) out.new result }
+fn put_expression(writer: &mut Writer<'_>, p: &[u8], e: Expression)
+    requires { Printable (tokens_of p.now e) × HasRoom writer.old (expr_text (tokens_of p.now e)) }
+    ensures { Writes writer.old (expr_text (tokens_of p.now e)) writer.new }
 {
     let mut offsets = [0usize; MAX_TOKENS];
     let mut below = [0usize; MAX_TOKENS + 1];
     index_tokens(p, e, &mut offsets, &mut below);
-    put_operand(p, &offsets, &below, e.count, out, at)
+    put_operand(writer, p, &offsets, &below, e.count);
 }
 
 // ---- fields, each after its space
-fn put_register_field(out: &mut [u8], at: usize, r: u8) -> usize
-    requires { at + length (spaced (register_text r)) < 2 ^ 64 }
-    ensures { Put out.old at (spaced (register_text r)) out.new result }
+fn put_register_field(writer: &mut Writer<'_>, r: u8)
+    requires { HasRoom writer.old (spaced (register_text r)) }
+    ensures { Writes writer.old (spaced (register_text r)) writer.new }
 {
-    let field = byte_writer::put_byte(out, at, b' ');
-    put_register(out, field, r)
+    writer.put_byte(b' ');
+    put_register(writer, r);
 }
 
-fn put_label_field(out: &mut [u8], at: usize, l: Label) -> usize
-    requires { at + length (spaced (decimal l.0)) < 2 ^ 64 }
-    ensures { Put out.old at (spaced (decimal l.0)) out.new result }
+fn put_label_field(writer: &mut Writer<'_>, l: Label)
+    requires { HasRoom writer.old (spaced (decimal l.0)) }
+    ensures { Writes writer.old (spaced (decimal l.0)) writer.new }
 {
-    let field = byte_writer::put_byte(out, at, b' ');
-    byte_writer::put_decimal(out, field, l.index() as u64)
+    writer.put_byte(b' ');
+    writer.put_decimal(l.index() as u64);
 }
 
-fn put_expression_field(p: &[u8], e: Expression, out: &mut [u8], at: usize) -> usize
-    requires { Printable (tokens_of p.now e) × (at + length (spaced (expr_text (tokens_of p.now e))) < 2 ^ 64) }
-    ensures { Put out.old at (spaced (expr_text (tokens_of p.now e))) out.new result }
+fn put_expression_field(writer: &mut Writer<'_>, p: &[u8], e: Expression)
+    requires { Printable (tokens_of p.now e) × HasRoom writer.old (spaced (expr_text (tokens_of p.now e))) }
+    ensures { Writes writer.old (spaced (expr_text (tokens_of p.now e))) writer.new }
 {
-    let field = byte_writer::put_byte(out, at, b' ');
-    put_expression(p, e, out, field)
+    writer.put_byte(b' ');
+    put_expression(writer, p, e);
 }
 
-fn put_register_and_expression(p: &[u8], r: u8, e: Expression, out: &mut [u8], at: usize) -> usize
-    requires { Printable (tokens_of p.now e) × (at + length (field_text (assign r (tokens_of p.now e))) < 2 ^ 64) }
-    ensures { Put out.old at (field_text (assign r (tokens_of p.now e))) out.new result }
+#[tactic(auto, using(crate::proofs::Programs::lengths))]
+fn put_register_and_expression(writer: &mut Writer<'_>, p: &[u8], r: u8, e: Expression)
+    requires { Printable (tokens_of p.now e) × HasRoom writer.old (field_text (assign r (tokens_of p.now e))) }
+    ensures { Writes writer.old (field_text (assign r (tokens_of p.now e))) writer.new }
 {
-    let next = put_register_field(out, at, r);
-    put_expression_field(p, e, out, next)
+    put_register_field(writer, r);
+    put_expression_field(writer, p, e);
 }
 
-fn put_register_and_label(r: u8, l: Label, out: &mut [u8], at: usize) -> usize
-    requires { at + length (field_text (beqz r l.0)) < 2 ^ 64 }
-    ensures { Put out.old at (field_text (beqz r l.0)) out.new result }
+#[tactic(auto, using(crate::proofs::Programs::lengths))]
+fn put_register_and_label(writer: &mut Writer<'_>, r: u8, l: Label)
+    requires { HasRoom writer.old (field_text (beqz r l.0)) }
+    ensures { Writes writer.old (field_text (beqz r l.0)) writer.new }
 {
-    let next = put_register_field(out, at, r);
-    put_label_field(out, next, l)
+    put_register_field(writer, r);
+    put_label_field(writer, l);
 }
 
-fn put_register_and_two(
-    p: &[u8],
-    r: u8,
-    c: Expression,
-    e: Expression,
-    out: &mut [u8],
-    at: usize,
-) -> usize
+#[tactic(auto, using(crate::proofs::Programs::lengths))]
+fn put_register_and_two(writer: &mut Writer<'_>, p: &[u8], r: u8, c: Expression, e: Expression)
     requires { Printable (tokens_of p.now c) × Printable (tokens_of p.now e)
-        × (at + length (field_text (cassign r (tokens_of p.now c) (tokens_of p.now e))) < 2 ^ 64) }
-    ensures { Put out.old at (field_text (cassign r (tokens_of p.now c) (tokens_of p.now e))) out.new result }
+        × HasRoom writer.old (field_text (cassign r (tokens_of p.now c) (tokens_of p.now e))) }
+    ensures { Writes writer.old (field_text (cassign r (tokens_of p.now c) (tokens_of p.now e))) writer.new }
 {
-    let condition = put_register_field(out, at, r);
-    let next = put_expression_field(p, c, out, condition);
-    put_expression_field(p, e, out, next)
+    put_register_field(writer, r);
+    put_expression_field(writer, p, c);
+    put_expression_field(writer, p, e);
 }
 
-fn put_fields(p: &[u8], i: Instruction, out: &mut [u8], at: usize) -> usize
-    requires { PrintableInstr (meaning p.now i) × (at + length (field_text (meaning p.now i)) < 2 ^ 64) }
-    ensures { Put out.old at (field_text (meaning p.now i)) out.new result }
+fn put_fields(writer: &mut Writer<'_>, p: &[u8], i: Instruction)
+    requires { PrintableInstr (meaning p.now i) × HasRoom writer.old (field_text (meaning p.now i)) }
+    ensures { Writes writer.old (field_text (meaning p.now i)) writer.new }
 {
     match i {
-        Instruction::Skip => at,
-        Instruction::Assign(r, e) => put_register_and_expression(p, r, e, out, at),
-        Instruction::Load(r, e) => put_register_and_expression(p, r, e, out, at),
-        Instruction::Store(r, e) => put_register_and_expression(p, r, e, out, at),
-        Instruction::Jump(e) => put_expression_field(p, e, out, at),
-        Instruction::BranchZero(r, l) => put_register_and_label(r, l, out, at),
-        Instruction::AssignIf(r, c, e) => put_register_and_two(p, r, c, e, out, at),
-        Instruction::Barrier => at,
+        Instruction::Skip => {}
+        Instruction::Assign(r, e) => put_register_and_expression(writer, p, r, e),
+        Instruction::Load(r, e) => put_register_and_expression(writer, p, r, e),
+        Instruction::Store(r, e) => put_register_and_expression(writer, p, r, e),
+        Instruction::Jump(e) => put_expression_field(writer, p, e),
+        Instruction::BranchZero(r, l) => put_register_and_label(writer, r, l),
+        Instruction::AssignIf(r, c, e) => put_register_and_two(writer, p, r, c, e),
+        Instruction::Barrier => {}
     }
 }
 
 // The word of an instruction, whatever the bytes are that its expressions stand in.
-fn put_word(i: Instruction, out: &mut [u8], at: usize) -> usize
-    requires { at + 6 < 2 ^ 64 }
-    ensures { (p : List ℕ) → Put out.old at (word_text (meaning p i)) out.new result }
+#[tactic(auto, unfolding(crate::specs::Programs::word_text, rules::specs::Rules::TextReading::instruction_words, rules::specs::Rules::Answers::text))]
+fn instruction_word(i: Instruction) -> &'static [u8]
+    ensures { (p : List ℕ) → result.now ≡ word_text (meaning p i) }
 {
     match i {
-        Instruction::Skip => byte_writer::put_text(out, at, b"skip"),
-        Instruction::Assign(_, _) => byte_writer::put_text(out, at, b"set"),
-        Instruction::Load(_, _) => byte_writer::put_text(out, at, b"load"),
-        Instruction::Store(_, _) => byte_writer::put_text(out, at, b"store"),
-        Instruction::Jump(_) => byte_writer::put_text(out, at, b"jmp"),
-        Instruction::BranchZero(_, _) => byte_writer::put_text(out, at, b"beqz"),
-        Instruction::AssignIf(_, _, _) => byte_writer::put_text(out, at, b"cset"),
-        Instruction::Barrier => byte_writer::put_text(out, at, b"spbarr"),
+        Instruction::Skip => b"skip",
+        Instruction::Assign(_, _) => b"set",
+        Instruction::Load(_, _) => b"load",
+        Instruction::Store(_, _) => b"store",
+        Instruction::Jump(_) => b"jmp",
+        Instruction::BranchZero(_, _) => b"beqz",
+        Instruction::AssignIf(_, _, _) => b"cset",
+        Instruction::Barrier => b"spbarr",
     }
 }
 
 // A line: the word, the fields and a newline.
-fn put_instruction(p: &[u8], i: Instruction, out: &mut [u8], at: usize) -> usize
-    requires { PrintableInstr (meaning p.now i) × (at + 6 + length (instr_text (meaning p.now i)) < 2 ^ 64) }
-    ensures { Put out.old at (instr_text (meaning p.now i)) out.new result }
+#[tactic(auto, using(crate::proofs::Programs::lengths))]
+fn put_instruction(writer: &mut Writer<'_>, p: &[u8], i: Instruction)
+    requires { PrintableInstr (meaning p.now i) × HasRoom writer.old (instr_text (meaning p.now i)) }
+    ensures { Writes writer.old (instr_text (meaning p.now i)) writer.new }
 {
-    let after_word = put_word(i, out, at);
-    let after_fields = put_fields(p, i, out, after_word);
-    byte_writer::put_byte(out, after_fields, b'\n')
+    writer.put_text(instruction_word(i));
+    put_fields(writer, p, i);
+    writer.put_byte(b'\n');
 }
 
 // The lines of an accepted program of n instructions, from the front of the area as far as they fit. The result is their length.
@@ -253,14 +239,14 @@ fn put_program(p: &[u8], n: usize, out: &mut [u8]) -> usize
     requires { (readable (program n n 0 p.now 0) ≡ true) × (n ≤ max_instructions) }
     ensures { Put out.old 0 (program_printed p.now n) out.new result }
 {
-    let mut next = 0;
+    let mut writer = Writer::new(out);
     let mut offset = 0;
     for _ in 0..n {
         let d = instruction::decode(p, offset).unwrap();
-        next = put_instruction(p, d.instruction, &mut out[..], next);
+        put_instruction(&mut writer, p, d.instruction);
         offset = d.next;
     }
-    next
+    writer.at
 }
 
 // The text of an accepted program: its length by a pass into an area without length, then 12, then the text.

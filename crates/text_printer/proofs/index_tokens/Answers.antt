@@ -1,7 +1,7 @@
 -- `index_tokens` meets its contract. The invariant: the tokens left, over the texts of those indexed so far, leave the texts of all.
 -- Assumes nothing.
-use mathlib.Core.Path.{◌≡◌, refl, ◌∙◌}
-use Prim.Native.Nat.{suc, zero-le, ◌+◌, ◌-◌}
+use mathlib.Core.Path.{◌≡◌}
+use Prim.Native.Nat.{suc, ◌+◌, ◌-◌}
 use native.Mathlib.Nat.{sub-zero}
 use native.Mathlib.Omega.{arith}
 use lib.ListN.{length-set}
@@ -11,25 +11,21 @@ use Rattle.text_printer.proofs.index_tokens.Goals as goal
 
 pub loop-i-init : goal.loop-i-init
 loop-i-init c =
-    let a = c.args in (
-      zero-le,
-      refl,
-      refl,
-      rw sub-zero (left-start a.p.now a.e a.offsets.now a.below.now (omega arith) c.requires.0),
-    )
+    let a = c.args in
+    rw sub-zero (left-start a.p.now a.e a.offsets.now a.below.now (omega arith) c.requires.0)
 
 pub token_at-read-requires : goal.token_at-read-requires
 token_at-read-requires c =
     let a = c.args in
     let v = c.loop-i in
     let e : a.e.count - v.i ≡ suc (a.e.count - (v.i + 1)) = omega arith in
-    left-readable (rw e at v.invariant.3)
+    left-readable (rw e at v.invariant)
 
 pub below_after-first-requires : goal.below_after-first-requires
 below_after-first-requires c =
     let a = c.args in
     let v = c.loop-i in
-    (omega (arith, length-set a.below.now 0 0), v.invariant.3.indexed.first v.i (omega arith))
+    (omega (arith, length-set a.below.now 0 0), v.invariant.indexed.first v.i (omega arith))
 
 pub bounds-below-i : goal.bounds-below-i
 bounds-below-i c =
@@ -42,21 +38,9 @@ loop-i-preserved c =
     let v = c.loop-i in
     let r = c.token_at-read.result in
     let e : a.e.count - v.i ≡ suc (a.e.count - (v.i + 1)) = omega arith in
-    let f : v.i + 1 ≡ suc v.i = omega arith in (
-      omega arith,
-      length-set v.offsets v.i v.offset ∙ v.invariant.1,
-      length-set v.below (v.i + 1) c.below_after-first.result ∙ v.invariant.2,
-      left-next (rw e at v.invariant.3) (v.i + 1) f (token_meaning r.token) r.next c.below_after-first.result c.token_at-read.ensures
-          c.below_after-first.ensures (omega arith) (omega (arith, length-set a.below.now 0 0)),
-    )
-
-pub shape_of-offsets : goal.shape_of-offsets
-shape_of-offsets c = c.loop-i.invariant.1
-
-pub shape_of-below : goal.shape_of-below
-shape_of-below c =
-    let a = c.args in
-    c.loop-i.invariant.2 ∙ length-set a.below.now 0 0
+    let f : v.i + 1 ≡ suc v.i = omega arith in
+    left-next (rw e at v.invariant) (v.i + 1) f (token_meaning r.token) r.next c.below_after-first.result c.token_at-read.ensures
+    c.below_after-first.ensures (omega arith) (omega (arith, length-set a.below.now 0 0))
 
 pub returns : goal.returns
 returns c =
@@ -64,4 +48,4 @@ returns c =
     let v = c.loop-i in
     let none : a.e.count - v.i ≡ 0 = omega arith in
     let all : v.i ≡ a.e.count = omega arith in
-    left_done a.p.now a.e v.offset v.offsets v.below (rw (none, all) at v.invariant.3)
+    left_done a.p.now a.e v.offset v.offsets v.below (rw (none, all) at v.invariant)

@@ -13,7 +13,7 @@ pub put_operand-requires : goal.put_operand-requires
 put_operand-requires c =
     let a = c.args in
     let x = c.index_tokens in
-    whole-operand a.p.now a.e c.requires.0 x.ensures a.at (omega arith) (omega arith) c.requires.1
+    whole-operand a.p.now a.e c.requires.0 x.ensures a.writer.now.at (omega arith) (omega arith) c.requires.1
 
 pub returns : goal.returns
 returns c =

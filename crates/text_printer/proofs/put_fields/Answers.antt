@@ -1,5 +1,5 @@
 -- `put_fields` meets its contract, kind by kind. Assumes nothing.
-use Rattle.byte_writer.specs.Texts.{put-nothing}
+use Rattle.byte_writer.specs.Writers.{writes-nothing}
 use Rattle.text_printer.proofs.put_fields.Goals as goal
 
 pub put_register_and_expression-requires : goal.put_register_and_expression-requires
@@ -34,8 +34,7 @@ put_register_and_two-requires c =
 
 pub returns-in-Skip : goal.returns-in-Skip
 returns-in-Skip c =
-    let a = c.args in
-    rw c.in-Skip.is (put-nothing a.out.now a.at)
+    rw c.in-Skip.is (writes-nothing _)
 
 pub returns-in-Assign : goal.returns-in-Assign
 returns-in-Assign c =
@@ -63,5 +62,4 @@ returns-in-AssignIf c =
 
 pub returns-in-Barrier : goal.returns-in-Barrier
 returns-in-Barrier c =
-    let a = c.args in
-    rw c.in-Barrier.is (put-nothing a.out.now a.at)
+    rw c.in-Barrier.is (writes-nothing _)

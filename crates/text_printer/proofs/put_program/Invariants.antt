@@ -4,12 +4,12 @@ use mathlib.Core.Bool.{true}
 use Prim.Native.Nat.{◌-◌}
 use Rattle.rules.specs.Rules.JobFile.{program}
 use Rattle.rules.specs.Theorems.Readers.{readable}
-use Rattle.byte_writer.specs.Texts.{Left}
+use Rattle.byte_writer.specs.Writers.{Remains}
 use Rattle.text_printer.specs.Programs.{program_printed}
 use Rattle.text_printer.proofs.Programs.{text_left}
 use Rattle.text_printer.proofs.put_program.Given as goal
 
 abbrev pub invariant-loop : goal.invariant-loop
 invariant-loop l =
-    Left l.initial.out 0 (program_printed l.p l.n) l.out l.next (text_left l.n l.p l.offset l.counter)
+    Remains l.initial.writer (program_printed l.p l.n) l.writer (text_left l.n l.p l.offset l.counter)
     × (readable (program l.n (l.n - l.counter) l.counter l.p l.offset) ≡ true)
