@@ -21,24 +21,6 @@ pub fn put_byte(out: &mut [u8], at: usize, byte: u8) -> usize
     at + 1
 }
 
-pub fn put_text(out: &mut [u8], at: usize, bytes: &[u8]) -> usize
-    requires { at + length bytes.now < 2 ^ 64 }
-    ensures { Put out.old at bytes.now out.new result }
-{
-    let mut writer = Writer { out, at };
-    writer.put_text(bytes);
-    writer.at
-}
-
-pub fn put_decimal(out: &mut [u8], at: usize, n: u64) -> usize
-    requires { at + length (decimal n) < 2 ^ 64 }
-    ensures { Put out.old at (decimal n) out.new result }
-{
-    let mut writer = Writer { out, at };
-    writer.put_decimal(n);
-    writer.at
-}
-
 // A number in k bytes, the lowest first.
 pub fn put_number(out: &mut [u8], at: usize, n: u64, k: usize) -> usize
     requires { at + k < 2 ^ 64 }
