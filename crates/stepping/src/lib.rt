@@ -14,6 +14,8 @@ ghost use Rattle.stepping.specs.Progress.{standing, standing_before, standing_af
 ghost use Rattle.stepping.specs.Steps.{Unexpired, Steppable, Charged, Leaves, Lowers, RolledBackTo, OpenedTo, CarriedOut, TriedOut, StateKept};
 ghost use Rattle.stepping.specs.Steps.{word_effect, outside_effect};
 
+// The lent areas, the progress and the instruction are parameters of their own in each rule. A struct of them would hold both areas by reference, which
+// each rule takes apart again, as each writes one of them or none: it reads no plainer, and is one more thing that a step has to keep.
 use instruction::Instruction;
 use location::{Address, Label, Location, LocationSet};
 use rules::Tagged;
@@ -46,8 +48,8 @@ fn observe_branch(trace: &mut [u64], k: usize, kind: u64, id: usize, place: usiz
     requires { 2 * k + 4 ≤ length trace.old }
     ensures { trace.new ≡ sets trace.old (2 * k) (kind ∷ id ∷ pc_kind ∷ place ∷ []) }
 {
-    observe(&mut trace[..], k, kind, id as u64);
-    observe(&mut trace[..], k + 1, PC, place as u64);
+    observe(trace, k, kind, id as u64);
+    observe(trace, k + 1, PC, place as u64);
 }
 
 // The plain set gathers what is observed with nothing open.
@@ -65,15 +67,12 @@ fn count_step(c: Progress, control: Control, observations: usize, seen: Location
     requires { (c.observations + observations < 2 ^ 64) × (c.steps + 1 < 2 ^ 64) }
     ensures { result ≡ progress_after c control observations seen }
 {
-    let before = c.control;
-    let full = c.full;
-    let plain = c.plain;
     Progress {
         control,
         observations: c.observations + observations,
         steps: c.steps + 1,
-        full: full.union(seen),
-        plain: gather_plain(before.depth, plain, seen),
+        full: c.full.union(seen),
+        plain: gather_plain(c.control.depth, c.plain, seen),
     }
 }
 
@@ -82,15 +81,10 @@ fn count_step(c: Progress, control: Control, observations: usize, seen: Location
 pub fn gather_unmade(c: Progress, deps: LocationSet) -> Progress
     ensures { result ≡ progress_unmade c deps }
 {
-    let control = c.control;
-    let full = c.full;
-    let plain = c.plain;
     Progress {
-        control,
-        observations: c.observations,
-        steps: c.steps,
-        full: full.union(deps),
-        plain: gather_plain(control.depth, plain, deps),
+        full: c.full.union(deps),
+        plain: gather_plain(c.control.depth, c.plain, deps),
+        ..c
     }
 }
 
@@ -99,11 +93,9 @@ pub fn roll_back(work: &mut [u64], trace: &mut [u64], c: Progress) -> Progress
     requires { Fit work.old c.control × (0 < c.control.depth) × (c.steps + 1 < 2 ^ 64) × (2 * (c.observations + 2) ≤ length trace.old) }
     ensures { RolledBackTo (standing_before work trace c) (standing_after work trace result) }
 {
-    let control = c.control;
-    let r = work::machine::roll_back(&mut work[..], control);
-    observe_branch(&mut trace[..], c.observations, ROLLBACK, r.id, r.target);
-    let next = r.control;
-    count_step(c, next, 2, LocationSet::empty())
+    let r = work::machine::roll_back(work, c.control);
+    observe_branch(trace, c.observations, ROLLBACK, r.id, r.target);
+    count_step(c, r.control, 2, LocationSet::empty())
 }
 
 // What an instruction leaves of a window, by its kind's entry in the table of window costs.
@@ -155,15 +147,13 @@ pub fn open_branch(
         × (r < registers) × (t ≡ tagged_at work.old r) × (w ≤ max_window) }
     ensures { OpenedTo r l.0 w (standing_before work trace c) (standing_after work trace result) }
 {
-    let control = c.control;
-    let next = control.place + 1;
+    let next = c.control.place + 1;
     let target = evaluation::branch_to(t, l, next);
     let wrong = evaluation::branch_to(t, Label::new(next), l.index());
-    let remaining = remaining_window(&work[..], control, Instruction::BranchZero(r, l));
-    let opened = work::machine::open_branch(&mut work[..], control, wrong, target, w, remaining);
-    observe_branch(&mut trace[..], c.observations, START, control.opened, wrong);
-    let seen = t.deps;
-    count_step(c, opened, 2, seen)
+    let remaining = remaining_window(work, c.control, Instruction::BranchZero(r, l));
+    let opened = work::machine::open_branch(work, c.control, wrong, target, w, remaining);
+    observe_branch(trace, c.observations, START, c.control.opened, wrong);
+    count_step(c, opened, 2, t.deps)
 }
 
 // Rule 3 for an instruction that changes no location and shows nothing.
@@ -173,9 +163,8 @@ pub fn skip(work: &[u64], c: Progress, i: Instruction) -> Progress
     ensures carried { (t : List ℕ) (cells : ℕ) → Unexpired work.now c → registers + cells ≤ limit
         → CarriedOut cells i (λ code σ. silent σ c.control.place) (standing work.now t c) (standing work.now t result) }
 {
-    let control = c.control;
-    let remaining = lowered_window(work, control, i);
-    let next = work::machine::go(control, control.place + 1, remaining);
+    let remaining = lowered_window(work, c.control, i);
+    let next = work::machine::go(c.control, c.control.place + 1, remaining);
     count_step(c, next, 0, LocationSet::empty())
 }
 
@@ -185,11 +174,10 @@ pub fn assign(work: &mut [u64], c: Progress, i: Instruction, r: u8, v: Tagged) -
     ensures { (t : List ℕ) (cells : ℕ) → registers + cells ≤ limit
         → CarriedOut cells i (λ code σ. silent (put σ r v) c.control.place) (standing work.old t c) (standing work.new t result) }
 {
-    let control = c.control;
-    let remaining = remaining_window(&work[..], control, i);
+    let remaining = remaining_window(work, c.control, i);
     let l = Location::register(r);
-    let place = control.place + 1;
-    let next = work::machine::assign(&mut work[..], control, l, v, place, remaining);
+    let place = c.control.place + 1;
+    let next = work::machine::assign(work, c.control, l, v, place, remaining);
     count_step(c, next, 0, LocationSet::empty())
 }
 
@@ -207,14 +195,12 @@ fn load_word(
     ensures { (cells : ℕ) → registers + cells ≤ limit
         → CarriedOut cells i (λ code σ. word_effect σ c.control.place r a v) (standing_before work trace c) (standing_after work trace result) }
 {
-    let control = c.control;
-    let seen = a.deps;
-    let remaining = remaining_window(&work[..], control, i);
-    observe(&mut trace[..], c.observations, LOAD, a.value);
+    let remaining = remaining_window(work, c.control, i);
+    observe(trace, c.observations, LOAD, a.value);
     let to = Location::register(r);
-    let place = control.place + 1;
-    let next = work::machine::assign(&mut work[..], control, to, v, place, remaining);
-    count_step(c, next, 1, seen)
+    let place = c.control.place + 1;
+    let loaded = work::machine::assign(work, c.control, to, v, place, remaining);
+    count_step(c, loaded, 1, a.deps)
 }
 
 // Rule 3 for a load of register r from the address a. A cell and a word outside the image go their own ways to the end of the step, so
@@ -232,11 +218,11 @@ pub fn load(
     ensures { CarriedOut cells i (λ code σ. load_effect code σ c.control.place r a) (standing_before work trace c) (standing_after work trace result) }
 {
     if cells as u64 <= a.value {
-        let v = evaluation::loaded_outside(&work[..], a);
-        return load_word(&mut work[..], &mut trace[..], c, i, r, a, v);
+        let v = evaluation::loaded_outside(work, a);
+        return load_word(work, trace, c, i, r, a, v);
     }
-    let v = evaluation::loaded_cell(&work[..], a);
-    load_word(&mut work[..], &mut trace[..], c, i, r, a, v)
+    let v = evaluation::loaded_cell(work, a);
+    load_word(work, trace, c, i, r, a, v)
 }
 
 // Rule 3 for a store of v at the address a outside the image. Where it needs one address too many the step is not made.
@@ -274,19 +260,17 @@ pub fn store(
     requires { Steppable 1 (standing work.old trace.old c) × (r < registers) × (registers + cells ≤ limit) }
     ensures { TriedOut cells i (λ code σ. store_effect code σ c.control.place r a) (standing_before work trace c) (standing_after work trace result) }
 {
-    let control = c.control;
-    let value = a.value;
-    let deps = a.deps;
-    let v = evaluation::joined(work::load(&work[..], Location::register(r)), deps);
-    if cells as u64 <= value {
-        return store_outside(&mut work[..], &mut trace[..], c, i, a, v);
+    let address = a.value;
+    let v = evaluation::joined(work::load(work, Location::register(r)), a.deps);
+    if cells as u64 <= address {
+        return store_outside(work, trace, c, i, a, v);
     }
-    let remaining = remaining_window(&work[..], control, i);
-    observe(&mut trace[..], c.observations, STORE, value);
-    let cell = Location::cell(Address::new(value));
-    let place = control.place + 1;
-    let next = work::machine::assign(&mut work[..], control, cell, v, place, remaining);
-    count_step(c, next, 1, deps)
+    let remaining = remaining_window(work, c.control, i);
+    observe(trace, c.observations, STORE, address);
+    let cell = Location::cell(Address::new(address));
+    let place = c.control.place + 1;
+    let stored = work::machine::assign(work, c.control, cell, v, place, remaining);
+    count_step(c, stored, 1, a.deps)
 }
 
 // Rule 3 for a jump or a branch to a place, which rests on the set `seen`.
@@ -305,9 +289,8 @@ pub fn go_to(
         → CarriedOut cells i (λ code σ. go_effect σ place v)
         (standing work.now trace.old c) (standing work.now trace.new result) }
 {
-    let control = c.control;
-    let remaining = lowered_window(work, control, i);
-    let gone = work::machine::go(control, place, remaining);
-    observe(&mut trace[..], c.observations, PC, place as u64);
+    let remaining = lowered_window(work, c.control, i);
+    let gone = work::machine::go(c.control, place, remaining);
+    observe(trace, c.observations, PC, place as u64);
     count_step(c, gone, 1, seen)
 }

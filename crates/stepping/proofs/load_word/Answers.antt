@@ -7,8 +7,8 @@ use Rattle.rules.specs.Rules.Instructions.{loaded}
 use Rattle.stepping.proofs.Steps.{assigned_shown}
 use Rattle.stepping.proofs.load_word.Goals as goal
 
-pub assign-next-requires : goal.assign-next-requires
-assign-next-requires c =
+pub assign-loaded-requires : goal.assign-loaded-requires
+assign-loaded-requires c =
     let p = c.requires in
     let r = c.register-to.ensures in
     let h = p.1 in
@@ -19,6 +19,6 @@ returns c =
     let a = c.args in
     λ cells most. record {
       made = λ p code ec costs.
-          assigned_shown _ _ c.remaining_window-remaining.ensures c.assign-next.ensures (registers + cells) most p code costs
+          assigned_shown _ _ c.remaining_window-remaining.ensures c.assign-loaded.ensures (registers + cells) most p code costs
           (loaded a.a.value) a.r a.v c.register-to.ensures refl refl c.observe.ensures c.count_step.ensures;
     }
