@@ -4,7 +4,6 @@
 
 ghost use Rattle.std.specs.Prelude.{◌≡◌, ◌+◌, ◌^◌, ◌<◌, ◌≤◌, length, []};
 ghost use Rattle.location.specs.Sets.{limit};
-ghost use Rattle.rules.specs.Rules.Answers.{cause_number};
 ghost use Rattle.rules.specs.Rules.Limits.{max_instructions};
 ghost use Rattle.rules.specs.Rules.Calls.{working_words};
 ghost use Rattle.rules.specs.Rules.Firsts.{no_report, firsts_of};
@@ -23,17 +22,6 @@ const CAUSES: u64 = 4;
 // How many locations a word of a set has, by a short name.
 const BITS: usize = LocationSet::BITS;
 
-fn cause_number(cause: Cause) -> u64
-    ensures { result ≡ cause_number cause }
-{
-    match cause {
-        Cause::Branch => 0,
-        Cause::Jump => 1,
-        Cause::Load => 2,
-        Cause::Store => 3,
-    }
-}
-
 // A number, as it stands in two bits of a working word: each stands for some rule, so that nothing is refused as by `TryFrom`.
 fn cause_of(number: u64) -> Cause
     ensures { result ≡ cause_at number }
@@ -51,7 +39,7 @@ fn pack(index: usize, cause: Cause, label: usize) -> u64
     requires { (index < 2 ^ 32) × (label < max_instructions) }
     ensures { result ≡ packed (report index cause label) }
 {
-    index as u64 * INDEX + cause_number(cause) * CAUSE + label as u64
+    index as u64 * INDEX + u64::from(cause) * CAUSE + label as u64
 }
 
 // The report of a word, whatever it is.
