@@ -22,10 +22,9 @@ use token::Expression;
 pub fn joined(t: Tagged, s: LocationSet) -> Tagged
     ensures { result ≡ joined t s }
 {
-    let deps = t.deps;
     Tagged {
+        deps: s.union(t.deps),
         value: t.value,
-        deps: s.union(deps),
     }
 }
 
@@ -35,9 +34,10 @@ pub fn loaded_cell(work: &[u64], a: Tagged) -> Tagged
     ensures { (code : Code) (cells : ℕ) → code.cells ≡ cells → a.value < cells
         → result ≡ loaded_from code (state_in work.now (registers + cells)) a }
 {
-    let deps = a.deps;
-    let value = a.value;
-    joined(work::load(work, Location::cell(Address::new(value))), deps)
+    joined(
+        work::load(work, Location::cell(Address::new(a.value))),
+        a.deps,
+    )
 }
 
 // What a load at any other address gives: what is remembered there.
@@ -46,9 +46,7 @@ pub fn loaded_outside(work: &[u64], a: Tagged) -> Tagged
     ensures { (code : Code) (cells : ℕ) → code.cells ≡ cells → cells ≤ a.value
         → result ≡ loaded_from code (state_in work.now (registers + cells)) a }
 {
-    let deps = a.deps;
-    let value = a.value;
-    joined(outside::recall(work, Address::new(value)), deps)
+    joined(outside::recall(work, Address::new(a.value)), a.deps)
 }
 
 // The value of an expression of one token. It is a register or a constant, since an operator would lack an operand.
@@ -61,10 +59,9 @@ fn one_value(p: &[u8], work: &[u64], e: Expression) -> Tagged
     if byte < 16 {
         return work::load(work, Location::register(byte));
     }
-    let deps = LocationSet::empty();
     Tagged {
+        deps: LocationSet::empty(),
         value: token::word(p, at + 1),
-        deps,
     }
 }
 
@@ -76,14 +73,13 @@ pub fn chosen(p: &[u8], work: &[u64], r: u8, c: Tagged, e: Expression) -> Tagged
     requires r_lt_registers { r < registers }
     ensures { result ≡ chosen c (eval (tagged_at work.now) (tokens_of p.now e)) (tagged_at work.now r) }
 {
-    let deps = c.deps;
     if c.value == 0 {
-        return joined(work::load(work, Location::register(r)), deps);
+        return joined(work::load(work, Location::register(r)), c.deps);
     }
     if e.count == 1 {
-        return joined(one_value(p, work, e), deps);
+        return joined(one_value(p, work, e), c.deps);
     }
-    joined(expression::evaluate(&p[..], &work[..], e), deps)
+    joined(expression::evaluate(&p[..], &work[..], e), c.deps)
 }
 
 // The place that a jump goes to: END where there is no such label.
@@ -120,10 +116,9 @@ fn constant_value(p: &[u8], d: Descriptor) -> Tagged
     requires { d.at + constant_place d.shape + 8 ≤ length p.now }
     ensures { result ≡ tagged (little p.now (d.at + constant_place d.shape) 8) empty }
 {
-    let deps = LocationSet::empty();
     Tagged {
+        deps: LocationSet::empty(),
         value: descriptor::constant_of(p, d),
-        deps,
     }
 }
 
@@ -172,8 +167,7 @@ pub fn source_value(p: &[u8], work: &[u64], d: Descriptor) -> Tagged
     requires { Valid p.now d × (operand_base registers ≤ length work.now) }
     ensures { result ≡ eval (tagged_at work.now) (first_tokens (instruction_in p.now d)) }
 {
-    let shape = d.shape;
-    match shape {
+    match d.shape {
         descriptor::NOTHING => Tagged {
             value: 0,
             deps: LocationSet::empty(),

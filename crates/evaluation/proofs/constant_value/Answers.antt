@@ -3,4 +3,4 @@ use Rattle.rules.proofs.Theorems.SetsFirst.{tagged-equal}
 use Rattle.evaluation.proofs.constant_value.Goals as goal
 
 pub returns : goal.returns
-returns c = tagged-equal c.constant_of.ensures c.empty-deps.ensures
+returns c = tagged-equal c.constant_of.ensures c.empty.ensures

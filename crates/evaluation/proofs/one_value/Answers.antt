@@ -38,4 +38,4 @@ pub returns : goal.returns
 returns c =
     let a = c.args in
     value-constant _ (one-constant a.p.now a.e c.requires.0 c.requires.1 c.if-byte-lt16.false).1
-    (tagged-equal c.word.ensures c.empty-deps.ensures)
+    (tagged-equal c.word.ensures c.empty.ensures)
