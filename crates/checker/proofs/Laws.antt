@@ -26,6 +26,7 @@ use Rattle.rules.specs.Rules.Costs.{costs_fit, with_costs}
 use Rattle.rules.specs.Rules.Demands.{Exact}
 use Rattle.rules.proofs.Theorems.Costs.{tabled-rejected, plain_any_table}
 use Rattle.rules.proofs.Theorems.CallLaws.{call_runs}
+use Rattle.job.specs.declared.accepted.AcceptedJob.{AcceptedJob}
 use Rattle.job.specs.Answers.{Accepts}
 use Rattle.firsts.specs.Reports.{reports_in}
 use Rattle.execution.specs.declared.Mode.TheVariants as modes
@@ -61,16 +62,13 @@ module _ {bs : List ℕ} {t : Trailer} (k : Accepts bs t) (a e w : List ℕ) whe
         exact_of (plain_refused refusals.Areas) (lent a e w) (plain_short bs (lent a e w) k.job k.parsed (fitting h ∙ s)) p refl
 
   module _ {b : Bool} (h : b ≡ (leb working_words (length w) && leb (locations t + table_size) (length e))) (l : b ≡ true) where
-    pub areas-fit : {costs : List ℕ} → costs_fit costs ≡ true → AreasFit bs t costs e w
-    areas-fit c =
+    -- of the job that k is of
+    pub areas-fit : (x : AcceptedJob) → x.trailer ≡ t → AreasFit x e w
+    areas-fit x same =
         let q = leb working_words (length w) in
         let q' = leb (locations t + table_size) (length e) in
-        record {
-          accepts = k;
-          fits = c;
-          work = leb-true working_words (length w) (and_left q q' (sym h ∙ l));
-          end = leb-true (locations t + table_size) (length e) (and_right q q' (sym h ∙ l));
-        }
+        let m = leb-true (locations t + table_size) (length e) (and_right q q' (sym h ∙ l)) in
+        record { work = leb-true working_words (length w) (and_left q q' (sym h ∙ l)); end = rw same m }
 
     -- the areas after the run, and u the working words once they are cleared
     pub exact-ran : (after : Areas) {costs u : List ℕ} {r : Ran} {public : LocationSet} {x : RunAnswer} → costs_fit costs ≡ true

@@ -9,20 +9,18 @@
 
 ghost use Rattle.std.specs.Prelude.{◌≡◌, ◌≤◌, length};
 ghost use Rattle.location.specs.Sets.{limit};
-ghost use Rattle.rules.specs.Rules.JobFile.{public_of};
 ghost use Rattle.rules.specs.Rules.Calls.{working_words, run_refused, plain_refused, run_call, plain_call};
 ghost use Rattle.rules.specs.Rules.Demands.{Exact};
 ghost use Rattle.rules.specs.Rules.Promises.{RunPromise, PlainPromise, PairPromise, areas_at_entry, areas_at_exit, pair_at_entry, pair_at_exit};
 ghost use Rattle.rules.specs.Rules.TestLoadPromises.{TestLoadPromise, test_load_at_entry, test_load_at_exit};
-ghost use Rattle.job.specs.Answers.{Accepts};
 ghost use Rattle.firsts.specs.Reports.{reports_in};
 ghost use Rattle.checker.specs.Reports.{answer_of, plain_answer_of};
 
 use execution::{Mode, Ran};
+use job::accepted::AcceptedJob;
 use location::LocationSet;
-use rules::{
-    Judged, PairAnswer, PlainAnswer, PlainCounts, Refusal, RunAnswer, TestLoadAnswer, Trailer,
-};
+use rules::{Judged, PairAnswer, PlainAnswer, PlainCounts, Refusal, RunAnswer, TestLoadAnswer};
+use window_costs::table::WindowCosts;
 
 fn run_refused(n: Refusal) -> RunAnswer
     ensures { result ≡ run_refused n }
@@ -77,25 +75,23 @@ fn plain_report(r: Ran) -> PlainAnswer
 }
 
 fn run_accepted(
-    job: &[u8],
-    t: Trailer,
-    public: LocationSet,
+    job: &AcceptedJob,
     costs: &[u8],
     trace: &mut [u64],
     end: &mut [u64],
     work: &mut [u64],
 ) -> RunAnswer
-    requires { Accepts job.now t × (public ≡ public_of t job.now) }
-    ensures { Exact (run_call job.now costs.now (areas_at_entry trace end work)) result (areas_at_exit trace end work) }
+    ensures { Exact (run_call job.now.bytes.now costs.now (areas_at_entry trace end work)) result (areas_at_exit trace end work) }
 {
-    if !window_costs::costs_fit(costs) {
-        return run_refused(Refusal::Costs);
-    }
-    if !job_run::areas_fit(t.locations(), end, work) {
+    let costs = match WindowCosts::new(costs) {
+        Ok(costs) => costs,
+        Err(n) => return run_refused(n),
+    };
+    if !job_run::areas_fit(job.trailer.locations(), end, work) {
         return run_refused(Refusal::Areas);
     }
-    let r = job_run::run_in_areas(job, t, Mode::Mispredicting, costs, trace, end, work);
-    let answer = report(public, r, work);
+    let r = job_run::run_in_areas(job, Mode::Mispredicting, &costs, trace, end, work);
+    let answer = report(job.public, r, work);
     work::clear(work);
     answer
 }
@@ -110,27 +106,26 @@ pub fn run(
 ) -> RunAnswer
     ensures { RunPromise job.now costs.now (areas_at_entry trace end work) result (areas_at_exit trace end work) }
 {
-    match job::read_job(job) {
-        Ok(read) => run_accepted(job, read.trailer, read.public, costs, trace, end, work),
+    match AcceptedJob::read(job) {
+        Ok(accepted) => run_accepted(&accepted, costs, trace, end, work),
         Err(n) => run_refused(n),
     }
 }
 
 fn plain_accepted(
-    job: &[u8],
-    t: Trailer,
+    job: &AcceptedJob,
     trace: &mut [u64],
     end: &mut [u64],
     work: &mut [u64],
 ) -> PlainAnswer
-    requires { Accepts job.now t }
-    ensures { Exact (plain_call job.now (areas_at_entry trace end work)) result (areas_at_exit trace end work) }
+    ensures { Exact (plain_call job.now.bytes.now (areas_at_entry trace end work)) result (areas_at_exit trace end work) }
 {
-    if !job_run::areas_fit(t.locations(), end, work) {
+    if !job_run::areas_fit(job.trailer.locations(), end, work) {
         return plain_refused(Refusal::Areas);
     }
-    let costs = window_costs::fixed();
-    let r = job_run::run_in_areas(job, t, Mode::Plain, &costs, trace, end, work);
+    let ones = window_costs::fixed();
+    let costs = WindowCosts { entries: &ones };
+    let r = job_run::run_in_areas(job, Mode::Plain, &costs, trace, end, work);
     work::clear(work);
     plain_report(r)
 }
@@ -139,8 +134,8 @@ fn plain_accepted(
 pub fn plain_run(job: &[u8], trace: &mut [u64], end: &mut [u64], work: &mut [u64]) -> PlainAnswer
     ensures { PlainPromise job.now (areas_at_entry trace end work) result (areas_at_exit trace end work) }
 {
-    match job::read_job(job) {
-        Ok(read) => plain_accepted(job, read.trailer, trace, end, work),
+    match AcceptedJob::read(job) {
+        Ok(accepted) => plain_accepted(&accepted, trace, end, work),
         Err(n) => plain_refused(n),
     }
 }
@@ -157,17 +152,8 @@ pub fn compare(
     ensures { PairPromise job.now second.now costs.now (pair_at_entry first_trace second_trace work) result
         (pair_at_exit first_trace second_trace work) }
 {
-    let read = job::read_job(job)?;
-    pair::compare_accepted(
-        job,
-        read.trailer,
-        read.public,
-        second,
-        costs,
-        first_trace,
-        second_trace,
-        work,
-    )
+    let first = AcceptedJob::read(job)?;
+    pair::compare_accepted(&first, second, costs, first_trace, second_trace, work)
 }
 
 // A test load: where the job's own run finishes, a new state is made from the seed and the pair of the two is checked.
@@ -183,11 +169,9 @@ pub fn test_load(
     ensures { TestLoadPromise job.now seed costs.now (test_load_at_entry first_trace second_trace work state) result
         (test_load_at_exit first_trace second_trace work state) }
 {
-    let accepted = job::read_job(job)?;
+    let accepted = AcceptedJob::read(job)?;
     test_load::test_accepted(
-        job,
-        accepted.trailer,
-        accepted.public,
+        &accepted,
         seed,
         costs,
         first_trace,

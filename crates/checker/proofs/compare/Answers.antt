@@ -2,28 +2,20 @@
 use Rattle.std.proofs.lemmas.Result.{err_from_is_err_and}
 use Rattle.rules.specs.Rules.Pairs.{pair_lent}
 use Rattle.rules.proofs.Theorems.Promises.{pair-promise}
-use Rattle.job.specs.Answers.{read-accepted, read-public, read-refused}
 use Rattle.checker.proofs.Laws.{pair-rejected}
 use Rattle.checker.proofs.compare.Goals as goal
-
-pub compare_accepted-requires : goal.compare_accepted-requires
-compare_accepted-requires c =
-    let f = c.args.job.now in
-    let e = c.read_job.ensures in
-    (read-accepted f e c.in_ok-read.was, read-public f e c.in_ok-read.was)
 
 pub returns : goal.returns
 returns c =
     let a = c.args in
     let l = pair_lent a.first_trace.now a.second_trace.now a.work.now in
-    pair-promise a.job.now a.second.now a.costs.now l c.compare_accepted.ensures
+    pair-promise a.job.now a.second.now a.costs.now l (rw c.in_ok-first.ensures.ok at c.compare_accepted.ensures)
 
-pub returns-in_err-read : goal.returns-in_err-read
-returns-in_err-read c =
+pub returns-in_err-first : goal.returns-in_err-first
+returns-in_err-first c =
     let a = c.args in
     let f = a.job.now in
     let s = a.second.now in
     let l = pair_lent a.first_trace.now a.second_trace.now a.work.now in
-    let p = read-refused f c.read_job.ensures c.in_err-read.was in
     let r = err_from_is_err_and c.from_residual.result c.from_residual.ensures.1 in
-    rw (r.1, r.2) (pair-promise f s a.costs.now l (pair-rejected f s a.costs.now _ p l))
+    rw (r.1, r.2) (pair-promise f s a.costs.now l (pair-rejected f s a.costs.now _ c.in_err-first.ensures.err l))

@@ -1,25 +1,17 @@
 -- `run` meets its contract: the answer and the areas are the rules', and such a call keeps its promise. Assumes nothing.
 use Rattle.rules.specs.Rules.Calls.{lent}
 use Rattle.rules.proofs.Theorems.Promises.{run-promise}
-use Rattle.job.specs.Answers.{read-accepted, read-public, read-refused}
 use Rattle.checker.proofs.Laws.{exact-rejected}
 use Rattle.checker.proofs.run.Goals as goal
-
-pub run_accepted-requires : goal.run_accepted-requires
-run_accepted-requires c =
-    let f = c.args.job.now in
-    let e = c.read_job.ensures in
-    (read-accepted f e c.in-Ok.is, read-public f e c.in-Ok.is)
 
 pub returns-in-Ok : goal.returns-in-Ok
 returns-in-Ok c =
     let a = c.args in
-    run-promise a.job.now a.costs.now (lent a.trace.now a.end.now a.work.now) c.run_accepted.ensures
+    run-promise a.job.now a.costs.now (lent a.trace.now a.end.now a.work.now) (rw c.in-Ok.ensures.ok at c.run_accepted.ensures)
 
 pub returns-in-Err : goal.returns-in-Err
 returns-in-Err c =
     let a = c.args in
     let f = a.job.now in
     let l = lent a.trace.now a.end.now a.work.now in
-    let p = read-refused f c.read_job.ensures c.in-Err.is in
-    run-promise f a.costs.now l (exact-rejected f _ p l a.costs.now c.run_refused.ensures)
+    run-promise f a.costs.now l (exact-rejected f _ c.in-Err.ensures.err l a.costs.now c.run_refused.ensures)

@@ -3,32 +3,22 @@ use native.Mathlib.Omega.{arith}
 use Rattle.std.proofs.lemmas.Result.{err_from_is_err_and}
 use Rattle.rules.specs.Rules.TestLoads.{test_load_lent}
 use Rattle.rules.proofs.Theorems.TestLoads.{test_load_promise}
-use Rattle.job.specs.Answers.{read-accepted, read-public, read-refused}
 use Rattle.checker.proofs.Laws.{test_load_rejected}
 use Rattle.checker.proofs.test_load.Goals as goal
 
-pub test_accepted-requires : goal.test_accepted-requires
-test_accepted-requires c =
-    let f = c.args.job.now in
-    let e = c.read_job.ensures in
-    (read-accepted f e c.in_ok-accepted.was, read-public f e c.in_ok-accepted.was)
-
--- HAND: After-slice_known8..ranges
 pub returns : goal.returns
 returns c =
     let a = c.args in
     let l = test_load_lent a.first_trace.now a.second_trace.now a.work.now a.state.now in
-    test_load_promise a.job.now a.seed a.costs.now l (record { each = λ i. omega (arith, c.shared_slice_known-1.given i) })
-    (omega (arith, c.ranges)) c.test_accepted.ensures
+    test_load_promise a.job.now a.seed a.costs.now l (record { each = λ i. omega (arith, c.type_inv.job i) })
+    (omega (arith, c.ranges)) (rw c.in_ok-accepted.ensures.ok at c.test_accepted.ensures)
 
--- HAND: After-known_told2..ranges
 pub returns-in_err-accepted : goal.returns-in_err-accepted
 returns-in_err-accepted c =
     let a = c.args in
     let f = a.job.now in
     let l = test_load_lent a.first_trace.now a.second_trace.now a.work.now a.state.now in
-    let p = read-refused f c.read_job.ensures c.in_err-accepted.was in
     let r = err_from_is_err_and c.from_residual.result c.from_residual.ensures.1 in
     rw (r.1, r.2)
-    (test_load_promise f a.seed a.costs.now l (record { each = λ i. omega (arith, c.shared_slice_known-1.given i) })
-    (omega (arith, c.ranges)) (test_load_rejected f a.seed a.costs.now _ p l))
+    (test_load_promise f a.seed a.costs.now l (record { each = λ i. omega (arith, c.type_inv.job i) })
+    (omega (arith, c.ranges)) (test_load_rejected f a.seed a.costs.now _ c.in_err-accepted.ensures.err l))
