@@ -6,8 +6,11 @@ use mathlib.Core.List.{List, [], ◌∷◌, ◌++◌}
 use Prim.Native.Nat.{ℕ, zero, suc, ◌+◌, ◌-◌, ◌*◌, ◌%◌, ◌<◌, ◌≤◌}
 use native.Mathlib.Nat.{add-zero}
 use native.Mathlib.Omega.{arith}
-use lib.ListN.{length, get_or, set, replicate}
-use lib.Seq.{sets, length-sets, set-set, set_comm, ext_get_or}
+use borrow.Rule.Slice.PartMut.{put_mid}
+use lib.ListN.{length, get_or, set, take, drop, replicate, length-replicate, length-drop}
+use Rattle.std.proofs.Common.{append_assoc}
+use Rattle.std.proofs.lemmas.List.{length-take-le}
+use lib.Seq.{drop-drop, sets, sets-eq, length-sets, set-set, set_comm, ext_get_or}
 use Rattle.location.specs.declared.LocationSet.{LocationSet}
 use Rattle.location.specs.Sets.{limit, rest}
 use Rattle.location.proofs.Laws.{four}
@@ -16,37 +19,21 @@ use Rattle.rules.specs.declared.Verdict.{Verdict}
 use Rattle.rules.specs.declared.Counts.{Counts}
 use Rattle.rules.specs.declared.PlainCounts.{PlainCounts}
 use Rattle.rules.specs.declared.First.{First}
-use Rattle.rules.specs.declared.PairWord.{PairWord}
-use Rattle.rules.specs.declared.PairWord.TheVariants as words
-use Rattle.rules.specs.Rules.Answers.{stop_number, verdict_number, cause_number, pair_number}
+use Rattle.rules.specs.Rules.Answers.{stop_number, verdict_number}
 use Rattle.rules.specs.Rules.Firsts.{no_report}
 use Rattle.answer_words.specs.Words.{count_words, report_words, reports_words, MembersOnly, run_words, plain_words}
-use Rattle.answer_words.specs.Words.{pair_words, unfinished_words, test_load_words}
-
--- what a run counts, from a place on
-pub counts-written : (l : List ℕ) (at : ℕ) (c : Counts) {s : ℕ} → s ≡ stop_number c.stop
-    → set (set (set (set l at s) (at + 1) c.observations) (at + 2) c.steps) (at + 3) c.rollbacks ≡ sets l at (count_words c)
-counts-written l at c es =
-    let e₁ : at + 1 ≡ suc at = omega arith in
-    let e₂ : at + 2 ≡ suc (suc at) = omega arith in
-    let e₃ : at + 3 ≡ suc (suc (suc at)) = omega arith in
-    rw (es, e₁, e₂, e₃)
 
 -- ---- the reports of the locations, one after the other
-pub report-written : (l : List ℕ) (at : ℕ) (x : First) {k : ℕ} → k ≡ cause_number x.cause
-    → set (set (set l at x.index) (at + 1) k) (at + 2) x.label ≡ sets l at (report_words x)
-report-written l at x ek =
-    let e₁ : at + 1 ≡ suc at = omega arith in
-    let e₂ : at + 2 ≡ suc (suc at) = omega arith in
-    rw (ek, e₁, e₂)
+-- words that are copied into a part of the area stand there one after the other
+pub copied : (l : List ℕ) (at n : ℕ) (ws : List ℕ) → length ws ≡ n → at + n ≤ length l → put_mid at n l ws ≡ sets l at ws
+copied l at n ws e h = rw (← e, drop-drop (length ws) at l) (sym (rw append_assoc at (sets-eq ws l at (rw e h))))
 
--- one word more is 0
-pub cleared-next : (l : List ℕ) (at n : ℕ) → set (sets l at (replicate n 0)) (at + n) 0 ≡ sets l at (replicate (n + 1) 0)
-cleared-next l at zero = ap (λ (i : ℕ). set l i 0) (add-zero at)
-cleared-next l at (suc n) =
-    let e : at + suc n ≡ suc at + n = omega arith in
-    let m : suc n + 1 ≡ suc (n + 1) = omega arith in
-    rw (e, m) (cleared-next (set l at 0) (suc at) n)
+pub cleared : (l : List ℕ) (at m n : ℕ) (ws : List ℕ) → m ≡ n → at + n ≤ length l → ws ≡ replicate (length (take m (drop at l))) 0
+    → put_mid at m l ws ≡ sets l at (replicate n 0)
+cleared l at m n ws d h e =
+    let q : length (take m (drop at l)) ≡ n = length-take-le m (drop at l) (omega (arith, length-drop at l)) ∙ d in
+    let f : ws ≡ replicate n 0 = e ∙ ap (λ (k : ℕ). replicate k 0) q in
+    ap (λ (k : ℕ). put_mid at k l ws) d ∙ copied l at n ws (ap length f ∙ length-replicate n 0) h ∙ ap (sets l at) f
 
 -- the words of a list of locations of which nothing is reported
 none-words : (n : ℕ) → replicate (3 * n) 0 ≡ reports_words (replicate n no_report)
@@ -124,33 +111,29 @@ module _ {l₀ : List ℕ} {at : ℕ} {s : LocationSet} {xs : List First} {l₁ 
     }
 
 -- ---- the answers
--- a list of four words, as the code reads them
-abbrev words4 : List ℕ → List ℕ
-words4 l = get_or l 0 0 ∷ get_or l 1 0 ∷ get_or l 2 0 ∷ get_or l 3 0 ∷ []
+-- the words are l, then l₁ after the counts, then l₂ after the sets and l₃ after the reports
+pub run-written : (l : List ℕ) (c : Counts) (full plain : LocationSet) (v : Verdict) (firsts : List First) {k : ℕ} {l₁ l₂ l₃ fs ps : List ℕ}
+    → length l ≡ 781 → length full.words ≡ 4 → length plain.words ≡ 4 → l₁ ≡ sets l 0 (count_words c) → fs ≡ full.words → ps ≡ plain.words
+    → k ≡ verdict_number v → l₂ ≡ put_mid 8 4 (put_mid 4 4 l₁ fs) ps → l₃ ≡ sets (set l₂ 12 k) 13 (reports_words firsts)
+    → l₃ ≡ sets l 0 (run_words c full plain v firsts)
+run-written l c full plain v firsts {k} {l₁} {l₂} {l₃} {fs} {ps} hl hf hp e₁ ef ep ek e₂ e₃ =
+    let n₁ : length l₁ ≡ 781 = ap length e₁ ∙ length-sets l 0 (count_words c) ∙ hl in
+    let m₁ = copied l₁ 4 4 fs (ap length ef ∙ hf) (omega arith) in
+    let n₂ : length (sets l₁ 4 fs) ≡ 781 = length-sets l₁ 4 fs ∙ n₁ in
+    let m₂ = copied (sets l₁ 4 fs) 8 4 ps (ap length ep ∙ hp) (omega arith) in
+    e₃
+    ∙ ap (λ (m : List ℕ). sets (set m 12 k) 13 (reports_words firsts)) (e₂ ∙ ap (λ (m : List ℕ). put_mid 8 4 m ps) m₁ ∙ m₂)
+    ∙ (λ i. sets (set (sets (sets (e₁ i) 4 (ef i)) 8 (ep i)) 12 (ek i)) 13 (reports_words firsts))
+    ∙ (λ i. sets (set (sets (sets (sets l 0 (count_words c)) 4 (sym (four full.words hf) i)) 8 (sym (four plain.words hp) i)) 12 (verdict_number v)) 13 (reports_words firsts))
+    ∙ (λ i. sets l 0 (count_words c ++ four full.words hf i ++ four plain.words hp i ++ (verdict_number v ∷ []) ++ reports_words firsts))
 
--- the words are l, then l₁ after the counts, then l₂ after the reports
-pub run-written : (l : List ℕ) (c : Counts) (full plain : LocationSet) (v : Verdict) (firsts : List First) {k : ℕ} {l₁ l₂ : List ℕ}
-    → length full.words ≡ 4 → length plain.words ≡ 4 → l₁ ≡ sets l 0 (count_words c) → k ≡ verdict_number v
-    → l₂ ≡ sets (sets l₁ 4 (words4 full.words ++ words4 plain.words ++ (k ∷ []))) 13 (reports_words firsts)
-    → l₂ ≡ sets l 0 (run_words c full plain v firsts)
-run-written l c full plain v firsts hf hp e₁ ek e₂ =
-    e₂ ∙ (λ i. sets (e₁ i) 4 (four full.words hf i ++ four plain.words hp i ++ (ek i ∷ []) ++ reports_words firsts))
-
-pub plain-written : (l : List ℕ) (c : PlainCounts) (plain : LocationSet) {s : ℕ} → length plain.words ≡ 4
-    → s ≡ stop_number c.stop
-    → sets l 0 ((s ∷ c.observations ∷ c.steps ∷ []) ++ words4 plain.words) ≡ sets l 0 (plain_words c plain)
-plain-written l c plain {s} hp es =
-    ap (sets l 0) (λ i. (es i ∷ c.observations ∷ c.steps ∷ []) ++ four plain.words hp i)
-
--- a word on a pair, then what each of two runs counts: the words are l, then l₁, then l₂
-module _ (l : List ℕ) (w : PairWord) (c d : Counts) {k : ℕ} {l₁ l₂ : List ℕ} (ek : k ≡ pair_number w)
-    (e₁ : l₁ ≡ sets (set l 0 k) 1 (count_words c)) (e₂ : l₂ ≡ sets l₁ 5 (count_words d)) where
-  pub pair-written : l₂ ≡ sets l 0 (pair_words w c d)
-  pair-written = rw (e₂, e₁, ek)
-
-  pub test_load_written : set l₂ 9 1 ≡ sets l 0 (test_load_words w c d)
-  test_load_written = rw (e₂, e₁, ek)
-
-pub unfinished-written : (l : List ℕ) (c : Counts) {k : ℕ} {l₁ : List ℕ} → k ≡ pair_number words.Undecided
-    → l₁ ≡ sets (set l 0 k) 1 (count_words c) → sets l₁ 5 (0 ∷ 0 ∷ 0 ∷ 0 ∷ 0 ∷ []) ≡ sets l 0 (unfinished_words c)
-unfinished-written l c ek e₁ = rw (e₁, ek)
+pub plain-written : (l : List ℕ) (c : PlainCounts) (plain : LocationSet) {s : ℕ} {ps : List ℕ} → length l ≡ 7 → length plain.words ≡ 4
+    → s ≡ stop_number c.stop → ps ≡ plain.words
+    → put_mid 3 4 (set (set (set l 0 s) 1 c.observations) 2 c.steps) ps ≡ sets l 0 (plain_words c plain)
+plain-written l c plain {s} {ps} hl hp es ep =
+    let m = sets l 0 (s ∷ c.observations ∷ c.steps ∷ []) in
+    let n : length m ≡ 7 = length-sets l 0 (s ∷ c.observations ∷ c.steps ∷ []) ∙ hl in
+    copied m 3 4 ps (ap length ep ∙ hp) (omega arith)
+    ∙ (λ i. sets (sets l 0 (es i ∷ c.observations ∷ c.steps ∷ [])) 3 (ep i))
+    ∙ (λ i. sets (sets l 0 (stop_number c.stop ∷ c.observations ∷ c.steps ∷ [])) 3 (sym (four plain.words hp) i))
+    ∙ (λ i. sets l 0 ((stop_number c.stop ∷ c.observations ∷ c.steps ∷ []) ++ four plain.words hp i))

@@ -4,81 +4,21 @@
 
 ghost use Rattle.std.specs.Prelude.{◌≡◌, ◌+◌, ◌≤◌, length, replicate};
 ghost use Rattle.std.proofs.lemmas.List.Edits.{sets};
-ghost use Rattle.rules.specs.Rules.Answers.{stop_number, verdict_number, cause_number, pair_number, refusal_number};
+ghost use Rattle.rules.specs.Rules.Answers.{refusal_number};
 ghost use Rattle.answer_words.specs.Words.{count_words, report_words, reports_words, MembersOnly, run_words, plain_words, pair_words};
 ghost use Rattle.answer_words.specs.Words.{unfinished_words, test_load_words, read_words, print_words};
 
 use location::{Location, LocationSet};
-use rules::{Cause, Counts, First, PairWord, PlainCounts, Refusal, Stop, Verdict};
+use rules::{Counts, First, PairWord, PlainCounts, Refusal, Verdict};
 
 // How many words the reports of all locations have.
 const REPORT_WORDS: usize = 768;
-
-fn stop_number(s: Stop) -> u64
-    ensures { result ≡ stop_number s }
-{
-    match s {
-        Stop::Finished => 0,
-        Stop::Spent => 1,
-        Stop::TraceFull => 2,
-        Stop::OutsideFull => 3,
-    }
-}
-
-fn verdict_number(v: Verdict) -> u64
-    ensures { result ≡ verdict_number v }
-{
-    match v {
-        Verdict::Undecided => 0,
-        Verdict::Clean => 1,
-        Verdict::Speculative => 2,
-        Verdict::Plain => 3,
-    }
-}
-
-fn pair_number(w: PairWord) -> u64
-    ensures { result ≡ pair_number w }
-{
-    match w {
-        PairWord::NotComparable => 0,
-        PairWord::Undecided => 1,
-        PairWord::PlainDiffers => 2,
-        PairWord::LeakShown => 3,
-        PairWord::Equal => 4,
-    }
-}
-
-fn cause_number(cause: Cause) -> u64
-    ensures { result ≡ cause_number cause }
-{
-    match cause {
-        Cause::Branch => 0,
-        Cause::Jump => 1,
-        Cause::Load => 2,
-        Cause::Store => 3,
-    }
-}
 
 // The documents' number of a refusal.
 pub fn refusal_number(n: Refusal) -> u32
     ensures { result ≡ refusal_number n }
 {
-    match n {
-        Refusal::Length => 1,
-        Refusal::Trailer => 2,
-        Refusal::Offsets => 3,
-        Refusal::Encoding => 4,
-        Refusal::Postfix => 5,
-        Refusal::BranchLabel => 6,
-        Refusal::Surplus => 7,
-        Refusal::PublicList => 8,
-        Refusal::SecondState => 9,
-        Refusal::Areas => 10,
-        Refusal::Text => 11,
-        Refusal::Output => 12,
-        Refusal::Seed => 13,
-        Refusal::Costs => 14,
-    }
+    u32::from(n)
 }
 
 // Stop, observations, steps and rollbacks, from a place on.
@@ -86,8 +26,7 @@ fn write_counts(c: Counts, answer: &mut [u64], at: usize)
     requires { at + 4 ≤ length answer.old }
     ensures { answer.new ≡ sets answer.old at (count_words c) }
 {
-    let stop = c.stop;
-    answer[at] = stop_number(stop);
+    answer[at] = u64::from(c.stop);
     answer[at + 1] = c.observations as u64;
     answer[at + 2] = c.steps as u64;
     answer[at + 3] = c.rollbacks as u64;
@@ -98,9 +37,8 @@ fn write_report(x: First, answer: &mut [u64], at: usize)
     requires { at + 3 ≤ length answer.old }
     ensures { answer.new ≡ sets answer.old at (report_words x) }
 {
-    let cause = x.cause;
     answer[at] = x.index as u64;
-    answer[at + 1] = cause_number(cause);
+    answer[at + 1] = u64::from(x.cause);
     answer[at + 2] = x.label as u64;
 }
 
@@ -109,11 +47,7 @@ fn clear_reports(answer: &mut [u64], at: usize)
     requires { at + 768 ≤ length answer.old }
     ensures { answer.new ≡ sets answer.old at (replicate 768 0) }
 {
-    let mut i = 0;
-    while i < REPORT_WORDS {
-        answer[at + i] = 0;
-        i += 1;
-    }
+    answer[at..at + REPORT_WORDS].fill(0);
 }
 
 // The reports of all locations, from a place on: after the clearing those of D alone are written, as nothing is reported of the others.
@@ -126,14 +60,15 @@ fn write_reports(
     requires { (at + 768 ≤ length answer.old) × MembersOnly full firsts }
     ensures { answer.new ≡ sets answer.old at (reports_words firsts) }
 {
-    clear_reports(&mut answer[..], at);
+    clear_reports(answer, at);
+    // Words of D that are empty are passed at once, for the speed (docs/PERFORMANCE.md): a `for` would ask of each location.
     let mut l = 0;
     while l < LocationSet::LIMIT {
         let left = full.rest(Location::new(l));
         if left == 0 {
             l += LocationSet::BITS - l % LocationSet::BITS;
         } else if left % 2 == 1 {
-            write_report(firsts[l], &mut answer[..], at + 3 * l);
+            write_report(firsts[l], answer, at + 3 * l);
             l += 1;
         } else {
             l += 1;
@@ -153,18 +88,10 @@ pub fn write_run(
     requires { MembersOnly full firsts }
     ensures { answer.new ≡ sets answer.old 0 (run_words c full plain v firsts) }
 {
-    let d = full.words;
-    let p = plain.words;
     write_counts(c, &mut answer[..], 0);
-    answer[4] = d[0];
-    answer[5] = d[1];
-    answer[6] = d[2];
-    answer[7] = d[3];
-    answer[8] = p[0];
-    answer[9] = p[1];
-    answer[10] = p[2];
-    answer[11] = p[3];
-    answer[12] = verdict_number(v);
+    answer[4..8].copy_from_slice(&full.words);
+    answer[8..12].copy_from_slice(&plain.words);
+    answer[12] = u64::from(v);
     write_reports(full, firsts, &mut answer[..], 13);
 }
 
@@ -172,22 +99,17 @@ pub fn write_run(
 pub fn write_plain(c: PlainCounts, plain: LocationSet, answer: &mut [u64; 7])
     ensures { answer.new ≡ sets answer.old 0 (plain_words c plain) }
 {
-    let p = plain.words;
-    let stop = c.stop;
-    answer[0] = stop_number(stop);
+    answer[0] = u64::from(c.stop);
     answer[1] = c.observations as u64;
     answer[2] = c.steps as u64;
-    answer[3] = p[0];
-    answer[4] = p[1];
-    answer[5] = p[2];
-    answer[6] = p[3];
+    answer[3..].copy_from_slice(&plain.words);
 }
 
 // The word, then stop, observations, steps and rollbacks of each run.
 pub fn write_pair(w: PairWord, c: Counts, d: Counts, answer: &mut [u64; 9])
     ensures { answer.new ≡ sets answer.old 0 (pair_words w c d) }
 {
-    answer[0] = pair_number(w);
+    answer[0] = u64::from(w);
     write_counts(c, &mut answer[..], 1);
     write_counts(d, &mut answer[..], 5);
 }
@@ -196,20 +118,16 @@ pub fn write_pair(w: PairWord, c: Counts, d: Counts, answer: &mut [u64; 9])
 pub fn write_unfinished(own: Counts, answer: &mut [u64; 10])
     ensures { answer.new ≡ sets answer.old 0 (unfinished_words own) }
 {
-    answer[0] = pair_number(PairWord::Undecided);
+    answer[0] = u64::from(PairWord::Undecided);
     write_counts(own, &mut answer[..], 1);
-    answer[5] = 0;
-    answer[6] = 0;
-    answer[7] = 0;
-    answer[8] = 0;
-    answer[9] = 0;
+    answer[5..].fill(0);
 }
 
 // A test load whose new state was run: the word, what each run counts, and 1.
 pub fn write_test_load(w: PairWord, first: Counts, second: Counts, answer: &mut [u64; 10])
     ensures { answer.new ≡ sets answer.old 0 (test_load_words w first second) }
 {
-    answer[0] = pair_number(w);
+    answer[0] = u64::from(w);
     write_counts(first, &mut answer[..], 1);
     write_counts(second, &mut answer[..], 5);
     answer[9] = 1;

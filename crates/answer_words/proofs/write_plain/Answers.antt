@@ -6,4 +6,4 @@ use Rattle.answer_words.proofs.write_plain.Goals as goal
 pub returns : goal.returns
 returns c =
     let a = c.args in
-    plain-written a.answer.now a.c a.plain (search rules) c.stop_number.ensures
+    plain-written a.answer.now a.c a.plain c.told-answer (search rules) c.from.ensures c.copy_from_slice.ensures.after
