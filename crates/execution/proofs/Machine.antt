@@ -21,7 +21,7 @@ use Rattle.work.specs.Machines.{state_in, branches_of, branches-length, machine_
 use Rattle.execution.specs.declared.Mode.{Mode}
 use Rattle.execution.specs.declared.Mode.TheVariants as modes
 use Rattle.execution.specs.declared.rule.Rule.TheVariants as rule
-use Rattle.execution.specs.declared.step.Opening.TheVariants as openings
+use Rattle.std.specs.Prelude.{None}
 use Rattle.execution.specs.Next.{step_by, forward_by, over_at, expired_on, rule_by, rule_at, Opens}
 
 -- ---- END with nothing open
@@ -223,10 +223,10 @@ plain_closed code w w' c c' n d e =
     ∙ ap (λ (M : Machine). length M.branches) (rw d at e)
 
 -- ---- what an instruction opens: one that is no branch is rule 3's
-pub never_opens : (mode : Mode) (i : Instr) → ((r l : ℕ) → i ≡ beqz r l → ⊥) → Opens mode i openings.Nothing
+pub never_opens : (mode : Mode) (i : Instr) → ((r l : ℕ) → i ≡ beqz r l → ⊥) → Opens mode i None
 never_opens modes.Plain i n = λ code M. refl
 never_opens modes.Mispredicting i n =
-    branch-or_other (λ (j : Instr). ((r l : ℕ) → j ≡ beqz r l → ⊥) → Opens modes.Mispredicting j openings.Nothing)
+    branch-or_other (λ (j : Instr). ((r l : ℕ) → j ≡ beqz r l → ⊥) → Opens modes.Mispredicting j None)
     (λ r l n. absurd (n r l refl)) (λ j e n code M. forward-other code M j e) i n
 
 -- ---- how many observations an instruction makes: by rule 3

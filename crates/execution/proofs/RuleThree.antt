@@ -13,7 +13,7 @@ use Rattle.descriptor.specs.Descriptors.{shape_branch, instruction_in, Valid}
 use Rattle.descriptor.specs.Reading.{other-shaped}
 use Rattle.stepping.specs.Progress.{Standing, machine_at}
 use Rattle.execution.specs.declared.Mode.{Mode}
-use Rattle.execution.specs.declared.step.Opening.TheVariants as openings
+use Rattle.std.specs.Prelude.{None}
 use Rattle.execution.specs.Next.{Opens}
 use Rattle.execution.specs.Running.{descriptor_at, code_at, Performed, Advancing, NextTried}
 use Rattle.execution.proofs.Machine.{still_going, never_opens}
@@ -25,7 +25,7 @@ module _ {p : List ℕ} {t : Trailer} {mode : Mode} {x : Standing} (a : Advancin
   described-valid = fetched_valid p t mode x.work x.progress.control a.ready.steady a.inside refl told
 
   module _ (other : d.shape ≡ shape_branch → ⊥) where
-    pub opens_none : Opens mode (instruction_in p d) openings.Nothing
+    pub opens_none : Opens mode (instruction_in p d) None
     opens_none = never_opens mode (instruction_in p d) (other-shaped described-valid other)
 
     pub tried-by : {y : Standing} {i : Instruction} → meaning p i ≡ instruction_in p d → Performed p t i x y → NextTried p t mode x y

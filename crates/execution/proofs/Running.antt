@@ -47,7 +47,7 @@ use Rattle.execution.specs.declared.Ran.{Ran}
 use Rattle.execution.specs.declared.halt.Halt.{Halt}
 use Rattle.execution.specs.declared.rule.Rule.{Rule}
 use Rattle.execution.specs.declared.rule.Rule.TheVariants as rule
-use Rattle.execution.specs.declared.step.Opening.TheVariants as openings
+use Rattle.std.specs.Prelude.{Some, None}
 use Rattle.execution.specs.Next.{step_by, forward_by, over_at, rule_at, Opens}
 use Rattle.execution.specs.Running.{code_in, Loaded, CodeOf, Steady, Ready, code_at, step_in, next_step, observed_by}
 use Rattle.execution.specs.Running.{Fitting, Permitted, Overfull, Halts, HaltOf, next_set, Quiet, Unhindered, Tried}
@@ -310,23 +310,23 @@ module _ (p : List ℕ) (t : Trailer) where
         step-cause = sym (forward-cause mode described now_machine i) ∙ ap (λ (z : Step). z.cause) step_same
 
         -- rule 2 or rule 3
-        pub branch-step : {r : ℕ} {l : Label} → Opens mode i (openings.Branch r l)
+        pub branch-step : {r : ℕ} {l : Label} → Opens mode i (Some (r, l))
             → opening described now_machine r l.0 ≡ step_by mode described now_machine
         unfolding forward
         branch-step {r} {l} o =
             let f : forward_by mode described now_machine i ≡ opening described now_machine r l.0 = rw (o.0, o.1) in
             sym f ∙ step_same
 
-        pub other_step : Opens mode i openings.Nothing → ordinary described now_machine i ≡ step_by mode described now_machine
+        pub other_step : Opens mode i None → ordinary described now_machine i ≡ step_by mode described now_machine
         other_step o = sym (o described now_machine) ∙ step_same
 
         -- and room for what they show, after k observations in an area of so many words
         module _ (k size : ℕ) (h : 2 * (k + observed_by p t mode w c) ≤ size) where
-          pub branch-room : {r : ℕ} {l : Label} → Opens mode i (openings.Branch r l) → 2 * (k + 2) ≤ size
+          pub branch-room : {r : ℕ} {l : Label} → Opens mode i (Some (r, l)) → 2 * (k + 2) ≤ size
           unfolding opening
           branch-room o = subst (λ (m : ℕ). 2 * (k + m) ≤ size) (sym (ap (λ (z : Step). length z.obs) (branch-step o))) h
 
-          pub other-room : Opens mode i openings.Nothing → (code : Code) → 2 * (k + length (ordinary code now_machine i).obs) ≤ size
+          pub other-room : Opens mode i None → (code : Code) → 2 * (k + length (ordinary code now_machine i).obs) ≤ size
           other-room o code =
               let e = ap (λ (z : Step). length z.obs) (other_step o) in
               subst (λ (m : ℕ). 2 * (k + m) ≤ size) (sym (same-shown code described now_machine i ∙ e)) h

@@ -1,6 +1,6 @@
 -- What is next in a run: the rules' step in each of the two runs, and which of the rules it is.
 -- Assumes nothing.
-use Rattle.std.specs.Prelude.{◌≡◌, Bool, true, false, ◌||◌, List, [], ◌∷◌, ℕ, zero, suc, eqb, leb}
+use Rattle.std.specs.Prelude.{◌≡◌, Bool, true, false, ◌||◌, List, [], ◌∷◌, ℕ, zero, suc, eqb, leb, Option, Some, None}
 use Rattle.rules.specs.Rules.Instructions.{Instr, beqz}
 use Rattle.rules.specs.Rules.Plain.{Code}
 use Rattle.rules.specs.Rules.Mispredicting.{Branch, Machine, Step, ordinary, forward, step, plain_step}
@@ -8,8 +8,7 @@ use Rattle.execution.specs.declared.Mode.{Mode}
 use Rattle.execution.specs.declared.Mode.TheVariants as modes
 use Rattle.execution.specs.declared.rule.Rule.{Rule}
 use Rattle.execution.specs.declared.rule.Rule.TheVariants as rule
-use Rattle.execution.specs.declared.step.Opening.{Opening}
-use Rattle.execution.specs.declared.step.Opening.TheVariants as openings
+use Rattle.location.specs.declared.Label.{Label}
 
 -- the rules' step of each of the two runs
 abbrev pub step_by : Mode → Code → Machine → Step
@@ -42,6 +41,6 @@ abbrev pub rule_at : ℕ → ℕ → Machine → Rule
 rule_at last d M = rule_by (over_at d last M.place) (expired_on last M.place M.branches)
 
 -- What an instruction opens: a branch is rule 2's, in the mispredicting run, and nothing leaves it to rule 3.
-abbrev pub Opens : Mode → Instr → Opening → Type 0
-Opens mode i (openings.Branch r l) = (mode ≡ modes.Mispredicting) × (i ≡ beqz r l.0)
-Opens mode i openings.Nothing = (code : Code) (M : Machine) → forward_by mode code M i ≡ ordinary code M i
+abbrev pub Opens : Mode → Instr → Option (ℕ × Label) → Type 0
+Opens mode i (Some x) = (mode ≡ modes.Mispredicting) × (i ≡ beqz x.0 x.1.0)
+Opens mode i None = (code : Code) (M : Machine) → forward_by mode code M i ≡ ordinary code M i

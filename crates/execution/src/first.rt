@@ -72,27 +72,23 @@ pub fn record_next(p: &[u8], t: Trailer, work: &mut [u64], c: Progress) -> Progr
     ensures { (mode : Mode) (trace : List ℕ) → Steady p.now t mode work.old c.control
         → Foreseen p.now t mode (standing work.old trace c) (standing work.new trace result) }
 {
-    let control = c.control;
-    match super::rule::rule_of(control, t.count) {
+    match super::rule::rule_of(c.control, t.count) {
         Rule::Over => c,
         Rule::RollBack => c,
         Rule::Advance => {
-            let place = Label::new(control.place);
-            let d = program::fetch(&work[..], work::LABELS, place);
+            let place = Label::new(c.control.place);
+            let d = program::fetch(work, work::LABELS, place);
             let i = descriptor::instruction_of(p, d);
-            let next = sight_of(p, &work[..], i);
-            let full = c.full;
-            let seen = next.seen;
-            let cause = next.cause;
+            let next = sight_of(p, work, i);
             firsts::record(
-                &mut work[..],
-                full,
-                seen,
+                work,
+                c.full,
+                next.seen,
                 c.observations,
-                cause,
-                control.place,
+                next.cause,
+                c.control.place,
             );
-            stepping::gather_unmade(c, seen)
+            stepping::gather_unmade(c, next.seen)
         }
     }
 }

@@ -79,11 +79,10 @@ fn store_needs(p: &[u8], work: &[u64], cells: usize, i: Instruction) -> bool
         Instruction::Load(_, _) => false,
         Instruction::Store(_, e) => {
             let a = expression::evaluate(p, work, e);
-            let value = a.value;
-            if value < cells as u64 {
+            if a.value < cells as u64 {
                 return false;
             }
-            outside::is_overfull(work, Address::new(value))
+            outside::is_overfull(work, Address::new(a.value))
         }
         Instruction::Jump(_) => false,
         Instruction::BranchZero(_, _) => false,
@@ -118,17 +117,16 @@ pub fn halt_of(p: &[u8], t: Trailer, mode: Mode, work: &[u64], trace: &[u64], c:
     requires { Ready p.now t mode (standing work.now trace.now c) }
     ensures { HaltOf p.now t mode (standing work.now trace.now c) result }
 {
-    let control = c.control;
-    if super::rule::is_over(control, t.count) {
+    if super::rule::is_over(c.control, t.count) {
         return Halt::Halted(Stop::Finished);
     }
     if t.budget <= c.steps {
         return Halt::Halted(Stop::Spent);
     }
-    if trace.len() / 2 < c.observations + next_observations(p, t, mode, work, control) {
+    if trace.len() / 2 < c.observations + next_observations(p, t, mode, work, c.control) {
         return Halt::Halted(Stop::TraceFull);
     }
-    if next_needs(p, t, work, control) {
+    if next_needs(p, t, work, c.control) {
         return Halt::OutsideFull;
     }
     Halt::Proceed

@@ -56,19 +56,15 @@ fn report(stop: Stop, c: Progress) -> Ran
     requires { c.control.depth ≤ c.control.opened }
     ensures { result ≡ report_of stop c }
 {
-    let control = c.control;
-    let full = c.full;
-    let plain = c.plain;
-    let counts = Counts {
-        stop,
-        observations: c.observations,
-        steps: c.steps,
-        rollbacks: control.opened - control.depth,
-    };
     Ran {
-        counts,
-        full,
-        plain,
+        counts: Counts {
+            stop,
+            observations: c.observations,
+            steps: c.steps,
+            rollbacks: c.control.opened - c.control.depth,
+        },
+        full: c.full,
+        plain: c.plain,
     }
 }
 
@@ -80,20 +76,17 @@ pub fn run(p: &[u8], t: Trailer, mode: Mode, work: &mut [u64], trace: &mut [u64]
 {
     let mut c = beginning();
     loop {
-        match halt::halt_of(p, t, mode, &work[..], &trace[..], c) {
+        match halt::halt_of(p, t, mode, work, trace, c) {
             Halt::Proceed => {
-                let until = halt::free_until(&trace[..], c, t.budget);
-                let next = first::record_next(p, t, &mut work[..], c);
-                c = step::make_steps(p, t, mode, &mut work[..], &mut trace[..], next, until);
+                let until = halt::free_until(trace, c, t.budget);
+                let next = first::record_next(p, t, work, c);
+                c = step::make_steps(p, t, mode, work, trace, next, until);
             }
             Halt::Halted(stop) => {
                 return report(stop, c);
             }
             Halt::OutsideFull => {
-                return report(
-                    Stop::OutsideFull,
-                    first::record_next(p, t, &mut work[..], c),
-                );
+                return report(Stop::OutsideFull, first::record_next(p, t, work, c));
             }
         }
     }

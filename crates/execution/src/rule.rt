@@ -17,10 +17,7 @@ pub enum Rule {
 pub fn is_over(c: Control, end: usize) -> bool
     ensures { result ≡ over_at c.depth end c.place }
 {
-    if c.depth == 0 {
-        return end <= c.place;
-    }
-    false
+    c.depth == 0 && end <= c.place
 }
 
 // A window of 0 is always rule 1's, as with nothing open it is not 0.

@@ -28,65 +28,55 @@ fn carry_out(
     requires { Executing p.now t i a (standing work.old trace.old c) }
     ensures { Performed p.now t i (standing_before work trace c) (standing_after work trace result) }
 {
-    let control = c.control;
-    let next = control.place + 1;
-    let cells = t.cells;
-    let full = c.full;
-    let seen = a.deps;
+    let next = c.control.place + 1;
     match i {
-        Instruction::Skip => stepping::skip(&work[..], c, i),
-        Instruction::Assign(r, _) => stepping::assign(&mut work[..], c, i, r, a),
+        Instruction::Skip => stepping::skip(work, c, i),
+        Instruction::Assign(r, _) => stepping::assign(work, c, i, r, a),
         Instruction::Load(r, _) => {
-            if !seen.subset(full) {
+            if !a.deps.subset(c.full) {
                 return c;
             }
-            stepping::load(&mut work[..], &mut trace[..], c, i, cells, r, a)
+            stepping::load(work, trace, c, i, t.cells, r, a)
         }
         Instruction::Store(r, _) => {
-            if !seen.subset(full) {
+            if !a.deps.subset(c.full) {
                 return c;
             }
-            stepping::store(&mut work[..], &mut trace[..], c, i, cells, r, a)
+            stepping::store(work, trace, c, i, t.cells, r, a)
         }
         Instruction::Jump(_) => {
-            if !seen.subset(full) {
+            if !a.deps.subset(c.full) {
                 return c;
             }
             let place = evaluation::jump_to(a.value, t.count);
-            stepping::go_to(&work[..], &mut trace[..], c, i, place, seen)
+            stepping::go_to(work, trace, c, i, place, a.deps)
         }
         Instruction::BranchZero(_, l) => {
-            if !seen.subset(full) {
+            if !a.deps.subset(c.full) {
                 return c;
             }
             let place = evaluation::branch_to(a, l, next);
-            stepping::go_to(&work[..], &mut trace[..], c, i, place, seen)
+            stepping::go_to(work, trace, c, i, place, a.deps)
         }
         Instruction::AssignIf(r, _, e) => {
-            let v = evaluation::chosen(p, &work[..], r, a, e);
-            stepping::assign(&mut work[..], c, i, r, v)
+            let v = evaluation::chosen(p, work, r, a, e);
+            stepping::assign(work, c, i, r, v)
         }
-        Instruction::Barrier => stepping::skip(&work[..], c, i),
+        Instruction::Barrier => stepping::skip(work, c, i),
     }
 }
 
-// The branch that rule 2 opens, or nothing: the instruction is rule 3's.
-#[derive(Drop)]
-pub enum Opening {
-    Branch(u8, Label),
-    Nothing,
-}
-
-// What the instruction of a descriptor opens in one of the two runs: a branch, in the mispredicting one.
-fn opening_of(mode: Mode, d: Descriptor) -> Opening
+// The branch that rule 2 opens, by its register and its label, of the instruction of a descriptor in one of the two runs; with none the
+// instruction is rule 3's.
+fn opening_of(mode: Mode, d: Descriptor) -> Option<(u8, Label)>
     ensures { (p : List ℕ) → Valid p d → Opens mode (instruction_in p d) result }
 {
     if d.shape != descriptor::BRANCH {
-        return Opening::Nothing;
+        return None;
     }
     match mode {
-        Mode::Plain => Opening::Nothing,
-        Mode::Mispredicting => Opening::Branch(d.first, Label::new(d.extra)),
+        Mode::Plain => None,
+        Mode::Mispredicting => Some((d.first, Label::new(d.extra))),
     }
 }
 
@@ -104,19 +94,17 @@ fn advance_by(
     requires { Advancing p.now t mode (standing work.old trace.old c) × (d ≡ descriptor_at work.old c.control) }
     ensures { NextTried p.now t mode (standing_before work trace c) (standing_after work trace result) }
 {
-    let a = evaluation::source_value(p, &work[..], d);
+    let a = evaluation::source_value(p, work, d);
     match opening_of(mode, d) {
-        Opening::Branch(r, l) => {
-            let full = c.full;
-            let seen = a.deps;
-            if !seen.subset(full) {
+        Some((r, l)) => {
+            if !a.deps.subset(c.full) {
                 return c;
             }
-            stepping::open_branch(&mut work[..], &mut trace[..], c, r, l, a, t.window)
+            stepping::open_branch(work, trace, c, r, l, a, t.window)
         }
-        Opening::Nothing => {
+        None => {
             let i = descriptor::instruction_of(p, d);
-            carry_out(p, t, &mut work[..], &mut trace[..], c, i, a)
+            carry_out(p, t, work, trace, c, i, a)
         }
     }
 }
@@ -135,23 +123,22 @@ fn advance(
     requires { Advancing p.now t mode (standing work.old trace.old c) }
     ensures { NextTried p.now t mode (standing_before work trace c) (standing_after work trace result) }
 {
-    let control = c.control;
-    let label = Label::new(control.place);
-    let word = program::word_of(&work[..], work::LABELS, label);
+    let label = Label::new(c.control.place);
+    let word = program::word_of(work, work::LABELS, label);
     if descriptor::is_skip(word) {
-        return stepping::skip(&work[..], c, Instruction::Skip);
+        return stepping::skip(work, c, Instruction::Skip);
     }
     if descriptor::is_bare(word) {
-        return stepping::skip(&work[..], c, Instruction::Barrier);
+        return stepping::skip(work, c, Instruction::Barrier);
     }
     let d = descriptor::descriptor_in(word);
     if d.shape == descriptor::JUMP_CONSTANT {
         let i = descriptor::instruction_of(p, d);
         let place = evaluation::jump_to(d.extra as u64, t.count);
         let nothing = LocationSet::empty();
-        return stepping::go_to(&work[..], &mut trace[..], c, i, place, nothing);
+        return stepping::go_to(work, trace, c, i, place, nothing);
     }
-    advance_by(p, t, mode, &mut work[..], &mut trace[..], c, d)
+    advance_by(p, t, mode, work, trace, c, d)
 }
 
 // Steps up to a step count, to the end of the run, or to a step that brings a location in or a store that cannot be made: neither the budget nor
@@ -175,10 +162,10 @@ pub fn make_steps(
                 return c;
             }
             Rule::RollBack => {
-                c = stepping::roll_back(&mut work[..], &mut trace[..], c);
+                c = stepping::roll_back(work, trace, c);
             }
             Rule::Advance => {
-                let next = advance(p, t, mode, &mut work[..], &mut trace[..], c);
+                let next = advance(p, t, mode, work, trace, c);
                 if next.steps == c.steps {
                     return c;
                 }

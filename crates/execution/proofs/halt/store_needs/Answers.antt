@@ -8,16 +8,16 @@ evaluate-a-requires c =
     (rw c.in-Store.is at c.requires.0, omega arith)
 
 -- a store to a cell
-pub returns-then-value-cells : goal.returns-then-value-cells
-returns-then-value-cells c code k ec =
+pub returns-then-a-cells : goal.returns-then-a-cells
+returns-then-a-cells c code k ec =
     let a = c.args in
-    store-inside_needs a.p.now a.work.now a.cells code k ec c.in-Store.is c.evaluate-a.ensures c.if-value-cells.true
+    store-inside_needs a.p.now a.work.now a.cells code k ec c.in-Store.is c.evaluate-a.ensures c.if-a-cells.true
 
 -- and one outside
-pub returns-else-value-cells : goal.returns-else-value-cells
-returns-else-value-cells c code k ec =
+pub returns-else-a-cells : goal.returns-else-a-cells
+returns-else-a-cells c code k ec =
     let a = c.args in
-    store-outside_needs a.p.now a.work.now a.cells code k ec c.in-Store.is c.evaluate-a.ensures c.if-value-cells.false
+    store-outside_needs a.p.now a.work.now a.cells code k ec c.in-Store.is c.evaluate-a.ensures c.if-a-cells.false
     c.new.ensures c.is_overfull.ensures
 
 pub returns-in-Skip : goal.returns-in-Skip

@@ -31,7 +31,7 @@ open_branch-requires c =
     let k = a.c.control in
     let v = fetched_valid a.p.now a.t a.mode a.work.now a.c.control c.requires.0.ready.steady c.requires.0.inside
     refl c.requires.1 in
-    let o = rw c.in-Branch.is at (c.opening_of.ensures a.p.now v) in
+    let o = rw c.in-Some.is at (c.opening_of.ensures a.p.now v) in
     let same = fetched_same a.p.now a.t a.mode a.work.now a.c.control c.requires.0.ready.steady c.requires.0.inside
     refl c.requires.1 in
     let g = still_going c.requires.0.inside c.requires.0.window in
@@ -71,7 +71,7 @@ carry_out-requires c =
     let M = machine_of w k (locations a.t) in
     let v = fetched_valid a.p.now a.t a.mode a.work.now a.c.control c.requires.0.ready.steady c.requires.0.inside
     refl c.requires.1 in
-    let o = rw c.in-Nothing.is at (c.opening_of.ensures a.p.now v) in
+    let o = rw c.in-None.is at (c.opening_of.ensures a.p.now v) in
     let same = fetched_same a.p.now a.t a.mode a.work.now a.c.control c.requires.0.ready.steady c.requires.0.inside
     refl c.requires.1 in
     let e = c.instruction_of-i.ensures in
@@ -102,7 +102,7 @@ returns-then-not-subset c =
     let n = locations a.t in
     let v = fetched_valid a.p.now a.t a.mode a.work.now a.c.control c.requires.0.ready.steady c.requires.0.inside
     refl c.requires.1 in
-    let o = rw c.in-Branch.is at (c.opening_of.ensures a.p.now v) in
+    let o = rw c.in-Some.is at (c.opening_of.ensures a.p.now v) in
     let same = fetched_same a.p.now a.t a.mode a.work.now a.c.control c.requires.0.ready.steady c.requires.0.inside
     refl c.requires.1 in
     let step = branch-step a.p.now a.t a.mode w k (still_going c.requires.0.inside c.requires.0.window) same o in
@@ -118,7 +118,7 @@ returns-else-not-subset c =
     let n = locations a.t in
     let v = fetched_valid a.p.now a.t a.mode a.work.now a.c.control c.requires.0.ready.steady c.requires.0.inside
     refl c.requires.1 in
-    let o = rw c.in-Branch.is at (c.opening_of.ensures a.p.now v) in
+    let o = rw c.in-Some.is at (c.opening_of.ensures a.p.now v) in
     let same = fetched_same a.p.now a.t a.mode a.work.now a.c.control c.requires.0.ready.steady c.requires.0.inside
     refl c.requires.1 in
     let limits = c.requires.0.ready.steady.loaded.limits in
@@ -130,15 +130,15 @@ returns-else-not-subset c =
     (sym c.subset.ensures ∙ c.if-not-subset.false)
     (c.open_branch.ensures.made n _ (omega arith) most s.window s.costs))
 
-pub returns-in-Nothing : goal.returns-in-Nothing
-returns-in-Nothing c =
+pub returns-in-None : goal.returns-in-None
+returns-in-None c =
     let a = c.args in
     let k = a.c.control in
     let w = a.work.now in
     let n = locations a.t in
     let v = fetched_valid a.p.now a.t a.mode a.work.now a.c.control c.requires.0.ready.steady c.requires.0.inside
     refl c.requires.1 in
-    let o = rw c.in-Nothing.is at (c.opening_of.ensures a.p.now v) in
+    let o = rw c.in-None.is at (c.opening_of.ensures a.p.now v) in
     let same = fetched_same a.p.now a.t a.mode a.work.now a.c.control c.requires.0.ready.steady c.requires.0.inside
     refl c.requires.1 in
     let code = code_in a.p.now a.t (drop labels w) in
