@@ -142,7 +142,7 @@ pub fn decode(p: &[u8], at: usize) -> Result<Decoded, Refusal>
     }
 }
 
-// The kind's number, as in the kind byte.
+// The kind's number, as in the kind byte: a number, for it is the place of the kind's entry in a table of window costs.
 pub fn kind(i: Instruction) -> usize
     ensures below { result < 8 }
     ensures same { (p : List ℕ) → result ≡ kind (meaning p i) }

@@ -32,7 +32,8 @@ fn public_list(job: &[u8], t: Trailer) -> LocationSet
     }
 }
 
-// Whether no cell from a first one on is in the set. What is left of a word that is 0 is passed at once.
+// Whether no cell from a first one on is in the set. What is left of a word that is 0 is passed at once, so that the steps are of no one length
+// and no range gives them.
 fn no_cell_from(set: LocationSet, first: usize) -> bool
     requires { first ≤ max_cells }
     ensures { result ≡ none_from set (registers + first) (limit - (registers + first)) }

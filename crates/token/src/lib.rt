@@ -116,7 +116,8 @@ fn taken(t: Token) -> usize
     }
 }
 
-// The values held after a token that takes k, where `held` are held before it. 9 marks the postfix rule as broken, for good.
+// The values held after a token that takes k, where `held` are held before it. 9 marks the postfix rule as broken, for good: the number is
+// that of the rules' `after`, which the contract names.
 pub fn held_after(held: usize, k: usize) -> usize
     ensures { result ≡ after held k }
 {
