@@ -17,7 +17,7 @@ use rules::limits::MAX_INSTRUCTIONS;
 use rules::{Kind, ReadAnswer, ReadProgram, Refusal};
 
 // How far a reading has come: the offset in the text, and the place in the area. A field that is not there, or that breaks a rule, gives none.
-#[derive(Drop)]
+#[derive(Clone, Copy)]
 struct Progress {
     at: usize,
     to: usize,
@@ -30,24 +30,24 @@ fn ends_at(text: &[u8], at: usize) -> bool
     matches!(lexer::part_at(text, at), Part::End)
 }
 
-fn read_register(text: &[u8], at: usize, out: &mut [u8], to: usize) -> Option<Progress>
-    requires { to + 1 < 2 ^ 64 }
-    ensures { RegisterTold text.now at out.old to out.new result }
+fn read_register(text: &[u8], p: Progress, out: &mut [u8]) -> Option<Progress>
+    requires { p.to + 1 < 2 ^ 64 }
+    ensures { RegisterTold text.now p.at out.old p.to out.new result }
 {
-    let Part::Name(start, end) = lexer::part_at(text, at) else {
+    let Part::Name(start, end) = lexer::part_at(text, p.at) else {
         return None;
     };
     let register = names::register_named(&text[start..end])?;
-    let next = byte_writer::put_byte(out, to, register);
+    let next = byte_writer::put_byte(out, p.to, register);
     Some(Progress { at: end, to: next })
 }
 
 // An expression that keeps the postfix rule.
-fn read_operand(text: &[u8], at: usize, out: &mut [u8], to: usize) -> Option<Progress>
-    requires { to + 145 < 2 ^ 64 }
-    ensures { OperandTold text.now at out.old to out.new result }
+fn read_operand(text: &[u8], p: Progress, out: &mut [u8]) -> Option<Progress>
+    requires { p.to + 145 < 2 ^ 64 }
+    ensures { OperandTold text.now p.at out.old p.to out.new result }
 {
-    let whole = operand::read_whole(text, at, out, to)?;
+    let whole = operand::read_whole(text, p.at, out, p.to)?;
     if !whole.sound {
         return None;
     }
@@ -58,18 +58,11 @@ fn read_operand(text: &[u8], at: usize, out: &mut [u8], to: usize) -> Option<Pro
 }
 
 // The label of a branch that has label i itself, in a program of n instructions.
-fn read_label(
-    text: &[u8],
-    at: usize,
-    n: usize,
-    i: usize,
-    out: &mut [u8],
-    to: usize,
-) -> Option<Progress>
-    requires { (to + 2 < 2 ^ 64) × (i + 1 < 2 ^ 64) }
-    ensures { LabelTold text.now at n i out.old to out.new result }
+fn read_label(text: &[u8], p: Progress, n: usize, i: usize, out: &mut [u8]) -> Option<Progress>
+    requires { (p.to + 2 < 2 ^ 64) × (i + 1 < 2 ^ 64) }
+    ensures { LabelTold text.now p.at n i out.old p.to out.new result }
 {
-    let Part::Name(start, end) = lexer::part_at(text, at) else {
+    let Part::Name(start, end) = lexer::part_at(text, p.at) else {
         return None;
     };
     let label = names::constant_named(&text[start..end])?;
@@ -79,63 +72,55 @@ fn read_label(
     if label == (i + 1) as u64 {
         return None;
     }
-    let next = byte_writer::put_number(out, to, label, 2);
+    let next = byte_writer::put_number(out, p.to, label, 2);
     Some(Progress { at: end, to: next })
 }
 
 // A register, then an operand.
-fn read_assignment(text: &[u8], at: usize, out: &mut [u8], to: usize) -> Option<Progress>
-    requires { to + 146 < 2 ^ 64 }
-    ensures { AssignmentTold text.now at out.old to out.new result }
+fn read_assignment(text: &[u8], p: Progress, out: &mut [u8]) -> Option<Progress>
+    requires { p.to + 146 < 2 ^ 64 }
+    ensures { AssignmentTold text.now p.at out.old p.to out.new result }
 {
-    let p = read_register(text, at, out, to)?;
-    read_operand(text, p.at, out, p.to)
+    let p = read_register(text, p, out)?;
+    read_operand(text, p, out)
 }
 
 // A register, then a label.
-fn read_branch(
-    text: &[u8],
-    at: usize,
-    n: usize,
-    i: usize,
-    out: &mut [u8],
-    to: usize,
-) -> Option<Progress>
-    requires { (to + 3 < 2 ^ 64) × (i + 1 < 2 ^ 64) }
-    ensures { BranchTold text.now at n i out.old to out.new result }
+fn read_branch(text: &[u8], p: Progress, n: usize, i: usize, out: &mut [u8]) -> Option<Progress>
+    requires { (p.to + 3 < 2 ^ 64) × (i + 1 < 2 ^ 64) }
+    ensures { BranchTold text.now p.at n i out.old p.to out.new result }
 {
-    let p = read_register(text, at, out, to)?;
-    read_label(text, p.at, n, i, out, p.to)
+    let p = read_register(text, p, out)?;
+    read_label(text, p, n, i, out)
 }
 
 // A register, then two operands.
-fn read_conditional(text: &[u8], at: usize, out: &mut [u8], to: usize) -> Option<Progress>
-    requires { to + 291 < 2 ^ 64 }
-    ensures { ConditionalTold text.now at out.old to out.new result }
+fn read_conditional(text: &[u8], p: Progress, out: &mut [u8]) -> Option<Progress>
+    requires { p.to + 291 < 2 ^ 64 }
+    ensures { ConditionalTold text.now p.at out.old p.to out.new result }
 {
-    let p = read_assignment(text, at, out, to)?;
-    read_operand(text, p.at, out, p.to)
+    let p = read_assignment(text, p, out)?;
+    read_operand(text, p, out)
 }
 
 // What follows an instruction word, by kind. The instruction has label i, of n.
 fn read_fields(
     text: &[u8],
-    at: usize,
+    p: Progress,
     kind: Kind,
     n: usize,
     i: usize,
     out: &mut [u8],
-    to: usize,
 ) -> Option<Progress>
-    requires { (to + 291 < 2 ^ 64) × (i + 1 < 2 ^ 64) }
-    ensures { FieldsTold text.now at (kind_number kind) n i out.old to out.new result }
+    requires { (p.to + 291 < 2 ^ 64) × (i + 1 < 2 ^ 64) }
+    ensures { FieldsTold text.now p.at (kind_number kind) n i out.old p.to out.new result }
 {
     match kind {
-        Kind::Skip | Kind::Barrier => Some(Progress { at, to }),
-        Kind::Assign | Kind::Load | Kind::Store => read_assignment(text, at, out, to),
-        Kind::Jump => read_operand(text, at, out, to),
-        Kind::BranchZero => read_branch(text, at, n, i, out, to),
-        Kind::AssignIf => read_conditional(text, at, out, to),
+        Kind::Skip | Kind::Barrier => Some(p),
+        Kind::Assign | Kind::Load | Kind::Store => read_assignment(text, p, out),
+        Kind::Jump => read_operand(text, p, out),
+        Kind::BranchZero => read_branch(text, p, n, i, out),
+        Kind::AssignIf => read_conditional(text, p, out),
     }
 }
 
@@ -149,18 +134,17 @@ struct LineRead {
 // The instruction whose word is known, which has to be the whole line.
 fn read_instruction(
     text: &[u8],
-    at: usize,
+    p: Progress,
     kind: Kind,
     n: usize,
     i: usize,
     out: &mut [u8],
-    to: usize,
 ) -> Option<LineRead>
-    requires { (to + largest < 2 ^ 64) × (i < max_instructions) }
-    ensures { LineTold (instruction_line text.now at (kind_number kind)) n i out.old to out.new result }
+    requires { (p.to + largest < 2 ^ 64) × (i < max_instructions) }
+    ensures { LineTold (instruction_line text.now p.at (kind_number kind)) n i out.old p.to out.new result }
 {
-    let next = byte_writer::put_byte(out, to, u8::from(kind));
-    let p = read_fields(text, at, kind, n, i, out, next)?;
+    let to = byte_writer::put_byte(out, p.to, u8::from(kind));
+    let p = read_fields(text, Progress { to, ..p }, kind, n, i, out)?;
     if !ends_at(text, p.at) {
         return None;
     }
@@ -170,26 +154,19 @@ fn read_instruction(
     })
 }
 
-// The line whose first part may stand at an offset. Its instruction has label i, of n.
-fn read_line(
-    text: &[u8],
-    at: usize,
-    n: usize,
-    i: usize,
-    out: &mut [u8],
-    to: usize,
-) -> Option<LineRead>
-    requires { to + largest < 2 ^ 64 }
-    ensures { LineTold (line_of (parts (drop at text.now))) n i out.old to out.new result }
+// The line whose first part may stand there. Its instruction has label i, of n.
+fn read_line(text: &[u8], p: Progress, n: usize, i: usize, out: &mut [u8]) -> Option<LineRead>
+    requires { p.to + largest < 2 ^ 64 }
+    ensures { LineTold (line_of (parts (drop p.at text.now))) n i out.old p.to out.new result }
 {
-    match lexer::part_at(text, at) {
-        Part::End => Some(LineRead { to, count: i }),
+    match lexer::part_at(text, p.at) {
+        Part::End => Some(LineRead { to: p.to, count: i }),
         Part::Name(start, end) => {
             if MAX_INSTRUCTIONS <= i {
                 return None;
             }
             let kind = names::kind_named(&text[start..end])?;
-            read_instruction(text, end, kind, n, i, out, to)
+            read_instruction(text, Progress { at: end, ..p }, kind, n, i, out)
         }
         _ => None,
     }
@@ -213,7 +190,8 @@ fn read_lines(text: &[u8], n: usize, out: &mut [u8]) -> Scanned
     while place.at <= text.len() {
         let line = lexer::line_at(text, place);
         place = line.next;
-        let Some(read) = read_line(text, line.start, n, count, out, to) else {
+        let from = Progress { at: line.start, to };
+        let Some(read) = read_line(text, from, n, count, out) else {
             return Scanned {
                 to,
                 count,

@@ -9,8 +9,8 @@ use Rattle.text_reader.proofs.read_instruction.Goals as goal
 pub returns-in_err-p : goal.returns-in_err-p
 returns-in_err-p c =
     let a = c.args in
-    line_by a.n a.i (instruction_line a.text.now a.at (kind_number a.kind)) a.out.now a.to c.read_fields.new.out c.from_residual.ensures
-    (refused-told a.n a.i a.text.now a.at (kind_number a.kind) c.in_err-p.ensures)
+    line_by a.n a.i (instruction_line a.text.now a.p.at (kind_number a.kind)) a.out.now a.p.to c.read_fields.new.out c.from_residual.ensures
+    (refused-told a.n a.i a.text.now a.p.at (kind_number a.kind) c.in_err-p.ensures)
 
 pub returns-then-not-ends_at : goal.returns-then-not-ends_at
 returns-then-not-ends_at c =
@@ -19,5 +19,5 @@ returns-then-not-ends_at c =
 pub returns : goal.returns
 returns c =
     let a = c.args in
-    let put = subst (λ (k : ℕ). Put a.out.now a.to (k ∷ []) c.put_byte-next.new.out c.put_byte-next.result) c.from.ensures c.put_byte-next.ensures in
+    let put = subst (λ (k : ℕ). Put a.out.now a.p.to (k ∷ []) c.put_byte-to.new.out c.put_byte-to.result) c.from.ensures c.put_byte-to.ensures in
     fields_told a.n a.i c.in_ok-p.ensures c.requires.1 put (sym c.if-not-ends_at.false ∙ c.ends_at.ensures)

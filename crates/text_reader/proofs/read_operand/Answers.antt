@@ -10,8 +10,8 @@ use Rattle.text_reader.proofs.read_operand.Goals as goal
 pub returns-in_err-whole : goal.returns-in_err-whole
 returns-in_err-whole c =
     let a = c.args in
-    told-by expression a.text.now (whole_operand (parts (drop a.at a.text.now))) a.out.now a.to c.read_whole.new.out (sym c.from_residual.ensures)
-    (whole-unread a.text.now a.at c.in_err-whole.ensures)
+    told-by expression a.text.now (whole_operand (parts (drop a.p.at a.text.now))) a.out.now a.p.to c.read_whole.new.out (sym c.from_residual.ensures)
+    (whole-unread a.text.now a.p.at c.in_err-whole.ensures)
 
 pub returns-then-not-whole : goal.returns-then-not-whole
 returns-then-not-whole c = whole_unsound c.in_ok-whole.ensures (not-true _ c.if-not-whole.true)

@@ -10,13 +10,13 @@ use Rattle.text_reader.proofs.read_register.Goals as goal
 pub returns-in_default : goal.returns-in_default
 returns-in_default c =
     let a = c.args in
-    other-unread a.text.now a.at register register_named c.part_at.result c.part_at.ensures c.in_default.not-Name
+    other-unread a.text.now a.p.at register register_named c.part_at.result c.part_at.ensures c.in_default.not-Name
 
 pub returns-in_err-register : goal.returns-in_err-register
 returns-in_err-register c =
     let a = c.args in
-    told-by register a.text.now (by_name register_named (parts (drop a.at a.text.now))) a.out.now a.to a.out.now (sym c.from_residual.ensures)
-    (name-unread a.text.now a.at register register_named c.in-Name.ensures (number-none _ c.in_err-register.ensures))
+    told-by register a.text.now (by_name register_named (parts (drop a.p.at a.text.now))) a.out.now a.p.to a.out.now (sym c.from_residual.ensures)
+    (name-unread a.text.now a.p.at register register_named c.in-Name.ensures (number-none _ c.in_err-register.ensures))
 
 pub returns : goal.returns
 returns c =
@@ -24,7 +24,7 @@ returns c =
     let p = c.put_byte-next.ensures in
     record {
       value = c.in_ok-register.register;
-      read = name-read a.text.now a.at register register_named c.in-Name.ensures (number-some _ c.in_ok-register.ensures);
+      read = name-read a.text.now a.p.at register register_named c.in-Name.ensures (number-some _ c.in_ok-register.ensures);
       kept = refl;
       put = p;
       size = omega (arith, p.place);
