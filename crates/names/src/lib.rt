@@ -54,7 +54,7 @@ fn word_named<T: Copy>(name: &[u8], words: &[(&[u8], T)]) -> Option<T>
     words.iter().find(|word| name == word.0).map(|word| word.1)
 }
 
-// The signs and the operators, and their tokens.
+// The signs and the operators, with the bytes of their tokens as a program has them.
 const SIGNS: [(&[u8], u8); 2] = [(b"neg", 17), (b"not", 18)];
 
 const OPERATORS: [(&[u8], u8); 10] = [

@@ -17,7 +17,8 @@ use rules::limits::MAX_TOKENS;
 const CONSTANT: u8 = 16;
 
 // How far a reading has come: the offset in the text, the place in the area, the tokens of the expression so far, and the values that
-// they hold (9 marks the postfix rule as broken, for good).
+// they hold (a number as the rules count it: 9 marks the postfix rule as broken, for good). That there is room (`Roomy`) stands in clauses:
+// a ghost field for it would forbid `..p`, and each progress at another offset would need a call with a contract of its own.
 #[derive(Clone, Copy)]
 struct Progress {
     at: usize,

@@ -180,7 +180,7 @@ struct Scanned {
     fault: Option<usize>,
 }
 
-// All lines of a text, of which n are not blank.
+// All lines of a text, of which n are not blank. The lexer moves a small struct of offset and line on, as document 01 has it: no iterator does.
 fn read_lines(text: &[u8], n: usize, out: &mut [u8]) -> Scanned
     ensures { ScanTold text.now n out.old out.new result }
 {
@@ -262,7 +262,8 @@ pub fn read_text(text: &[u8], out: &mut [u8]) -> ReadAnswer
     })
 }
 
-// Where a text is refused, for people: the line of the first fault, counted from 1; 0 where there is none.
+// Where a text is refused, for people: the line of the first fault, counted from 1. A number, 0 where there is none, since programs
+// print it.
 pub fn fault_line(text: &[u8]) -> usize
     ensures { result ≡ fault_line text.now }
 {
