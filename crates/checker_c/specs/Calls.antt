@@ -4,10 +4,7 @@ use Rattle.std.specs.Prelude.{◌≡◌, List, ℕ, ◌<◌}
 use Rattle.std.proofs.lemmas.List.Edits.{sets}
 use Rattle.rules.specs.declared.RunAnswer.{RunAnswer}
 use Rattle.rules.specs.declared.PlainAnswer.{PlainAnswer}
-use Rattle.rules.specs.declared.PairAnswer.{PairAnswer}
-use Rattle.rules.specs.declared.TestLoadAnswer.{TestLoadAnswer}
-use Rattle.rules.specs.declared.ReadAnswer.{ReadAnswer}
-use Rattle.rules.specs.declared.PrintAnswer.{PrintAnswer}
+use Rattle.rules.specs.Rules.Outcomes.{PairAnswer, TestLoadAnswer, ReadAnswer, PrintAnswer}
 use Rattle.rules.specs.Rules.Answers.{run_refusal, plain_refusal, pair_refusal, test_load_refusal, read_refusal, print_refusal}
 use Rattle.rules.specs.Rules.Promises.{LentArea}
 use Rattle.answer_words.specs.Words.{run_answer_words, plain_answer_words, pair_answer_words, test_load_answer_words, read_answer_words, print_answer_words}

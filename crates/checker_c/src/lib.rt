@@ -10,7 +10,7 @@ ghost use Rattle.rules.specs.Rules.TextPromises.{ReadPromise, PrintPromise};
 ghost use Rattle.rules.specs.Rules.TestLoadPromises.{TestLoadPromise, test_load_at_entry, test_load_at_exit};
 ghost use Rattle.checker_c.specs.Calls.{RunReturns, PlainReturns, PairReturns, TestLoadReturns, ReadReturns, PrintReturns};
 
-use rules::{PairAnswer, PlainOutcome, PrintAnswer, ReadAnswer, RunOutcome, TestLoadAnswer};
+use rules::TestLoad;
 
 #[unsafe(no_mangle)]
 pub extern "C" fn checker_run(
@@ -24,15 +24,11 @@ pub extern "C" fn checker_run(
     ensures { RunReturns answer result
         (λ x. RunPromise job.now costs.now (areas_at_entry trace end work) x (areas_at_exit trace end work)) }
 {
-    let r = checker::run(job, costs, &mut trace[..], &mut end[..], &mut work[..]);
-    let outcome = r.outcome;
-    let full = r.full;
-    let plain = r.plain;
-    let firsts = r.firsts;
-    match outcome {
-        RunOutcome::Refused(n) => answer_words::refusal_number(n),
-        RunOutcome::Ran(c, v) => {
-            answer_words::write_run(c, full, plain, v, firsts, answer);
+    let r = checker::run(job, costs, trace, end, work);
+    match r.outcome {
+        Err(refusal) => u32::from(refusal),
+        Ok(ran) => {
+            answer_words::write_run(ran.counts, r.full, r.plain, ran.verdict, r.firsts, answer);
             0
         }
     }
@@ -49,13 +45,11 @@ pub extern "C" fn checker_plain_run(
     ensures { PlainReturns answer result
         (λ x. PlainPromise job.now (areas_at_entry trace end work) x (areas_at_exit trace end work)) }
 {
-    let r = checker::plain_run(job, &mut trace[..], &mut end[..], &mut work[..]);
-    let outcome = r.outcome;
-    let plain = r.plain;
-    match outcome {
-        PlainOutcome::Refused(n) => answer_words::refusal_number(n),
-        PlainOutcome::Ran(c) => {
-            answer_words::write_plain(c, plain, answer);
+    let r = checker::plain_run(job, trace, end, work);
+    match r.outcome {
+        Err(refusal) => u32::from(refusal),
+        Ok(counts) => {
+            answer_words::write_plain(counts, r.plain, answer);
             0
         }
     }
@@ -75,17 +69,10 @@ pub extern "C" fn checker_compare(
         (λ x. PairPromise job.now second.now costs.now (pair_at_entry first_trace second_trace work) x
         (pair_at_exit first_trace second_trace work)) }
 {
-    match checker::compare(
-        job,
-        second,
-        costs,
-        &mut first_trace[..],
-        &mut second_trace[..],
-        &mut work[..],
-    ) {
-        PairAnswer::Refused(n) => answer_words::refusal_number(n),
-        PairAnswer::Compared(w, c, d) => {
-            answer_words::write_pair(w, c, d, answer);
+    match checker::compare(job, second, costs, first_trace, second_trace, work) {
+        Err(refusal) => u32::from(refusal),
+        Ok(pair) => {
+            answer_words::write_pair(pair.word, pair.first, pair.second, answer);
             0
         }
     }
@@ -106,22 +93,14 @@ pub extern "C" fn checker_test_load(
         (λ x. TestLoadPromise job.now seed costs.now (test_load_at_entry first_trace second_trace work state) x
         (test_load_at_exit first_trace second_trace work state)) }
 {
-    match checker::test_load(
-        job,
-        seed,
-        costs,
-        &mut first_trace[..],
-        &mut second_trace[..],
-        &mut work[..],
-        &mut state[..],
-    ) {
-        TestLoadAnswer::Refused(n) => answer_words::refusal_number(n),
-        TestLoadAnswer::Undecided(c) => {
-            answer_words::write_unfinished(c, answer);
+    match checker::test_load(job, seed, costs, first_trace, second_trace, work, state) {
+        Err(refusal) => u32::from(refusal),
+        Ok(TestLoad::Undecided(own)) => {
+            answer_words::write_unfinished(own, answer);
             0
         }
-        TestLoadAnswer::Compared(w, c, d) => {
-            answer_words::write_test_load(w, c, d, answer);
+        Ok(TestLoad::Compared(pair)) => {
+            answer_words::write_test_load(pair.word, pair.first, pair.second, answer);
             0
         }
     }
@@ -131,10 +110,10 @@ pub extern "C" fn checker_test_load(
 pub extern "C" fn checker_read_text(text: &[u8], out: &mut [u8], answer: &mut [u64; 2]) -> u32
     ensures { ReadReturns answer result (λ x. ReadPromise text.now out.old x out.new) }
 {
-    match text_reader::read_text(text, &mut out[..]) {
-        ReadAnswer::Refused(n) => answer_words::refusal_number(n),
-        ReadAnswer::Read(bytes, instructions) => {
-            answer_words::write_read(bytes, instructions, answer);
+    match text_reader::read_text(text, out) {
+        Err(refusal) => u32::from(refusal),
+        Ok(read) => {
+            answer_words::write_read(read.bytes, read.instructions, answer);
             0
         }
     }
@@ -144,9 +123,9 @@ pub extern "C" fn checker_read_text(text: &[u8], out: &mut [u8], answer: &mut [u
 pub extern "C" fn checker_print_text(job: &[u8], out: &mut [u8], answer: &mut [u64; 1]) -> u32
     ensures { PrintReturns answer result (λ x. PrintPromise job.now out.old x out.new) }
 {
-    match text_printer::print_text(job, &mut out[..]) {
-        PrintAnswer::Refused(n) => answer_words::refusal_number(n),
-        PrintAnswer::Printed(bytes) => {
+    match text_printer::print_text(job, out) {
+        Err(refusal) => u32::from(refusal),
+        Ok(bytes) => {
             answer_words::write_print(bytes, answer);
             0
         }

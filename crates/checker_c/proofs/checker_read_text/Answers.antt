@@ -2,10 +2,10 @@
 use Rattle.checker_c.proofs.Laws.{read-refused, read_returned}
 use Rattle.checker_c.proofs.checker_read_text.Goals as goal
 
-pub returns-in-Refused : goal.returns-in-Refused
-returns-in-Refused c =
-    read-refused c.read_text.ensures c.in-Refused.is c.refusal_number.ensures
+pub returns-in-Err : goal.returns-in-Err
+returns-in-Err c =
+    read-refused c.read_text.ensures c.in-Err.is c.from.ensures
 
-pub returns-in-Read : goal.returns-in-Read
-returns-in-Read c =
-    read_returned c.read_text.ensures c.in-Read.is c.write_read.ensures
+pub returns-in-Ok : goal.returns-in-Ok
+returns-in-Ok c =
+    read_returned c.read_text.ensures c.in-Ok.is c.write_read.ensures

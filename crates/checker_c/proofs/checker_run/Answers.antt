@@ -6,10 +6,10 @@ pub write_run-requires : goal.write_run-requires
 write_run-requires c =
     run-members c.run-r.ensures
 
-pub returns-in-Refused : goal.returns-in-Refused
-returns-in-Refused c =
-    run-refused c.run-r.ensures c.in-Refused.is c.refusal_number.ensures
+pub returns-in-Err : goal.returns-in-Err
+returns-in-Err c =
+    run-refused c.run-r.ensures c.in-Err.is c.from.ensures
 
-pub returns-in-Ran : goal.returns-in-Ran
-returns-in-Ran c =
-    run_returned c.run-r.ensures c.in-Ran.is c.write_run.ensures
+pub returns-in-Ok : goal.returns-in-Ok
+returns-in-Ok c =
+    run_returned c.run-r.ensures c.in-Ok.is c.write_run.ensures
