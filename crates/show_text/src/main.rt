@@ -4,15 +4,15 @@
 #![tactic(auto)]
 
 use file_reader::Reading;
+use rules::Refusal;
 use rules::limits::MAX_BYTES;
-use rules::{PrintAnswer, Refusal};
 use std::process::ExitCode;
 
 // Enough for the text of every job: no byte of a program is printed as more than seven.
 const TEXT: usize = 7 * MAX_BYTES;
 
 fn tell_refusal(rt: &impl Eprint, cause: Refusal) {
-    let number = answer_words::refusal_number(cause);
+    let number = u32::from(cause);
     let _ = eprintln!(rt; "refused {number}");
 }
 
@@ -20,11 +20,11 @@ fn tell_refusal(rt: &impl Eprint, cause: Refusal) {
 fn show(rt: &(impl Print + Eprint), job: &[u8]) -> ExitCode {
     let mut text = [0u8; TEXT];
     match text_printer::print_text(job, &mut text) {
-        PrintAnswer::Refused(cause) => {
+        Err(cause) => {
             tell_refusal(rt, cause);
             ExitCode::SUCCESS
         }
-        PrintAnswer::Printed(n) => match rt.write_all(&text[..n]) {
+        Ok(n) => match rt.write_all(&text[..n]) {
             Ok(()) => ExitCode::SUCCESS,
             Err(error) => file_reader::tell_failure(rt, "standard output", error),
         },

@@ -10,12 +10,12 @@ use Rattle.show_text.proofs.show.Goals as goal
 pub slice_bounds-text-end : goal.slice_bounds-text-end
 slice_bounds-text-end g c =
     let a = c.args in
-    let within = printed-within a.job.now c.print_text.ensures c.in-Printed.is in
+    let within = printed-within a.job.now c.print_text.ensures c.in-Ok.is in
     omega (arith, within, length-replicate {A = ℕ} 114688 0)
 
 pub slice_bounds-write_all-end : goal.slice_bounds-write_all-end
 slice_bounds-write_all-end g c =
     let a = c.args in
-    let within = printed-within a.job.now c.print_text.ensures c.in-Printed.is in
-    let h : c.in-Printed.n ≤ length c.print_text.new.out = omega (arith, within, length-replicate {A = ℕ} 114688 0) in
+    let within = printed-within a.job.now c.print_text.ensures c.in-Ok.is in
+    let h : c.in-Ok.n ≤ length c.print_text.new.out = omega (arith, within, length-replicate {A = ℕ} 114688 0) in
     sym (length-take-le _ _ h)
