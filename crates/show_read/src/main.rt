@@ -5,7 +5,6 @@
 #![tactic(auto)]
 
 use file_reader::Reading;
-use rules::ReadAnswer;
 use std::process::ExitCode;
 
 // One byte more than the longest text that is read: a longer file is seen to be too long, and is read no further.
@@ -29,13 +28,9 @@ fn tell_fault(rt: &impl Eprint, line: usize, number: u32) {
 fn show(rt: &(impl Print + Eprint), text: &[u8]) -> ExitCode {
     let mut program = [0u8; PROGRAM];
     match text_reader::read_text(text, &mut program) {
-        ReadAnswer::Read(bytes, instructions) => tell_counts(rt, bytes, instructions),
-        ReadAnswer::Refused(cause) => {
-            tell_fault(
-                rt,
-                text_reader::fault_line(text),
-                answer_words::refusal_number(cause),
-            );
+        Ok(read) => tell_counts(rt, read.bytes, read.instructions),
+        Err(cause) => {
+            tell_fault(rt, text_reader::fault_line(text), u32::from(cause));
             ExitCode::SUCCESS
         }
     }
