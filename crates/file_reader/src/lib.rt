@@ -15,13 +15,6 @@ use std::{io, str};
 // One byte more than a job may have: a longer file is seen to be too long, and is read no further.
 pub const JOB_BUFFER: usize = MAX_BYTES + 1;
 
-// How many bytes of a file stand at the front of the buffer, or that it could not be read.
-#[derive(Drop)]
-pub enum Reading {
-    Bytes(usize),
-    Failed,
-}
-
 // The system's words for a failure: the text of an error up to the error's number, or up to the zeros that follow it in a buffer.
 fn cause_of(text: &str) -> &str {
     match text.split_once(" (os error ") {
@@ -46,60 +39,60 @@ pub fn tell_failure(rt: &impl Eprint, what: &str, error: io::Error) -> ExitCode
     ExitCode::FAILURE
 }
 
-// Reads until the buffer is full or the file ends. A failure is told.
-fn read_all<F: Read>(rt: &impl Eprint, file: &mut F, path: &str, buffer: &mut [u8]) -> Reading
+// Reads until the buffer is full or the file ends: how many bytes of the file stand at the front of the buffer, or none where it could not
+// be read. A failure is told. A read says how much it moved, so the loop counts by that.
+fn read_all<F: Read>(rt: &impl Eprint, file: &mut F, path: &str, buffer: &mut [u8]) -> Option<usize>
     ensures { InBuffer result (length buffer.new) }
 {
     let mut done = 0;
     while done < buffer.len() {
-        let count = match file.read(&mut buffer[done..]) {
-            Ok(count) => count,
+        match file.read(&mut buffer[done..]) {
+            Ok(0) => return Some(done),
+            Ok(count) => done += count,
             Err(error) => {
                 tell_failure(rt, path, error);
-                return Reading::Failed;
+                return None;
             }
-        };
-        if count == 0 {
-            return Reading::Bytes(done);
         }
-        done += count;
     }
-    Reading::Bytes(done)
+    Some(done)
 }
 
 // Reads the file of that name, as `read_file` does.
-fn read_named(rt: &(impl Files + Eprint), path: &str, buffer: &mut [u8]) -> Reading
+fn read_named(rt: &(impl Files + Eprint), path: &str, buffer: &mut [u8]) -> Option<usize>
     ensures { InBuffer result (length buffer.new) }
 {
-    let mut file = match File::open(rt, path) {
-        Ok(file) => file,
+    match File::open(rt, path) {
+        Ok(mut file) => read_all(rt, &mut file, path, buffer),
+        Err(error) if error.kind() == ErrorKind::NotFound => Some(0),
         Err(error) => {
-            if error.kind() == ErrorKind::NotFound {
-                return Reading::Bytes(0);
-            }
             tell_failure(rt, path, error);
-            return Reading::Failed;
+            None
         }
-    };
-    read_all(rt, &mut file, path, buffer)
+    }
 }
 
-// A name that no file has is read as no bytes; any other failure is told on standard error, as that of a name that is no text, which std cannot
-// open. A file that is longer than the buffer fills it.
-pub fn read_file(rt: &(impl Files + Eprint), path: &[u8], buffer: &mut [u8]) -> Reading
+// How many bytes of a file stand at the front of the buffer, or none where it could not be read. A name that no file has is read as no bytes;
+// any other failure is told on standard error, as that of a name that is no text, which std cannot open. A file that is longer than the buffer
+// fills it.
+pub fn read_file(rt: &(impl Files + Eprint), path: &[u8], buffer: &mut [u8]) -> Option<usize>
     ensures { InBuffer result (length buffer.new) }
 {
     match str::from_utf8(path) {
         Ok(name) => read_named(rt, name, buffer),
         Err(_) => {
             let _ = eprintln!(rt; "a file's name is not UTF-8");
-            Reading::Failed
+            None
         }
     }
 }
 
 // The bytes of a job's file. One that fills the buffer is refused as a job, whatever follows.
-pub fn read_job(rt: &(impl Files + Eprint), path: &[u8], buffer: &mut [u8; JOB_BUFFER]) -> Reading
+pub fn read_job(
+    rt: &(impl Files + Eprint),
+    path: &[u8],
+    buffer: &mut [u8; JOB_BUFFER],
+) -> Option<usize>
     ensures within { InBuffer result (length buffer.new) }
     ensures whole { FullRefused result buffer.new }
 {
