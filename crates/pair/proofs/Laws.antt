@@ -4,14 +4,13 @@ use mathlib.Core.Path.{◌≡◌, refl, sym, ap, ◌∙◌}
 use mathlib.Core.Bool.{Bool, true, false}
 use mathlib.Core.List.{List}
 use Prim.{⊥}
-use Prim.Native.Nat.{ℕ, ◌-◌, ◌*◌, ◌/◌, ◌<◌, ◌≤◌}
+use Prim.Native.Nat.{ℕ, ◌*◌, ◌/◌, ◌<◌, ◌≤◌}
 use native.Mathlib.Omega.{arith}
 use borrow.Author.Tests.{eq-eqb, ne_eqb, eqb-true, le-leb, lt-leb, leb-true}
 use lib.Dec.{eqb, leb}
-use lib.ListN.{length, take, drop, replicate}
+use lib.ListN.{length, take, replicate}
 use lib.Seq.{take_at}
 use Rattle.std.specs.Prelude.{Ok, Err}
-use Rattle.location.specs.declared.LocationSet.{LocationSet}
 use Rattle.location.specs.SetLaws.{and_left, and_right}
 use Rattle.rules.specs.declared.Trailer.{Trailer}
 use Rattle.rules.specs.declared.Counts.{Counts}
@@ -21,7 +20,7 @@ use Rattle.rules.specs.declared.PairWord.{PairWord}
 use Rattle.rules.specs.Rules.Outcomes.{paired}
 use Rattle.rules.specs.Rules.Instructions.{Observation}
 use Rattle.rules.specs.Rules.Runs.{Job, mispredicting_run}
-use Rattle.rules.specs.Rules.JobFile.{accepted, parse, locations, public_of, words_at}
+use Rattle.rules.specs.Rules.JobFile.{accepted, parse, locations, words_at}
 use Rattle.rules.specs.Rules.Calls.{trace_words, written, working_words, room, counts}
 use Rattle.rules.specs.Rules.Pairs.{with_state, alike_from, pair_word, PairAreas, pair_lent, pair_after, pair_refused, second_state_fits, pair_fits, pair_accepted}
 use Rattle.rules.specs.Rules.Pairs.{pair_tabled, pair_parsed, pair_call}

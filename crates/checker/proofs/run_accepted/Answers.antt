@@ -1,8 +1,8 @@
 -- `run_accepted` meets its contract: a table that is none and too short an area are refused before anything is written, else the run is
 -- made. Assumes nothing.
-use mathlib.Core.Path.{refl, sym, ◌∙◌, ap}
+use mathlib.Core.Path.{refl, ◌∙◌, ap}
 use native.Mathlib.Omega.{arith}
-use Rattle.rules.specs.Rules.Calls.{lent, run_refused}
+use Rattle.rules.specs.Rules.Calls.{run_refused}
 use Rattle.job.specs.Answers.{accepts}
 use Rattle.job_run.specs.Accepted.{accepted-limits}
 use Rattle.checker.proofs.Laws.{exact_untabled, exact_short, areas-fit, exact-ran}
