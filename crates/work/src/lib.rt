@@ -1,6 +1,8 @@
 // The state of a run in the working words that the caller lends: an operand for each location, the table of stores outside the image, the
 // log of changes, the open branches, the words of the reports, the table of labels and the window costs. specs/Layout.antt has the layout of
 // the constants below for the proofs.
+// The words go as the slice that the caller lends (C interface), and each function asks for just the words that it names. A struct with the length as its
+// invariant would ask for all of them everywhere, and reach them by one reference more.
 #![tactic(auto)]
 
 pub mod machine;
@@ -22,6 +24,7 @@ use rules::limits::{MAX_ENTRIES, MAX_INSTRUCTIONS};
 
 // Operand k stands from OPERAND * k on: the words of the set, then the value. With the set first a load reads the same pairs of words as the
 // store before it wrote. Location l has operand l, entry i of the table outside the image operand LocationSet::LIMIT + i.
+// A number, and no enum of the three: one function logs and undoes them all without a test, in each change (docs/DECISIONS.md, "The code").
 pub const OPERAND: usize = VALUE + 1;
 // How many words the set has, so the place of the value in an operand.
 pub const VALUE: usize = 4;
@@ -76,7 +79,7 @@ fn load_at(work: &[u64], at: usize) -> Tagged
     }
 }
 
-// Word by word: `copy_from_slice` of so few words is a call, in each step that writes.
+// Word by word: the value follows the set's words in one row, and `copy_from_slice` for four of the five reads no plainer.
 fn store_at(work: &mut [u64], at: usize, value: u64, deps: LocationSet)
     requires { at + 5 ≤ length work.old }
     ensures { work.new ≡ stored_in work.old at (tagged value deps) }
