@@ -1,13 +1,13 @@
 -- The bytes at the front of a text that meet a test: how they are counted from one byte to the next, and what stands after them;
 -- and the parts of a text by its first byte, and past its first spaces.
 -- Assumes nothing.
-use Rattle.std.specs.Prelude.{◌≡◌, Bool, true, false, List, [], ◌∷◌, ℕ, suc, ◌<◌, ◌≤◌, length, get_or, drop}
-use Rattle.std.specs.List.{prefix_len}
+use Rattle.std.specs.Prelude.{◌≡◌, Bool, true, false, List, [], ◌∷◌, ℕ, suc, ◌+◌, ◌<◌, ◌≤◌, length, get_or, drop}
 use Rattle.std.proofs.Math.Path.{refl}
-use Rattle.std.proofs.Common.{ap, ◌∙◌, arith, eqb-true}
+use Rattle.std.proofs.Common.{ap, ◌∙◌, add-one, arith, eqb-true, drop_of_length-le, drop-cons}
 use Rattle.rules.specs.Rules.Parts.{newline, space, in_name, byte_parts, parts}
 use Rattle.rules.proofs.Theorems.TextParts.{space-parts}
 use Rattle.lexer.specs.Places.{front_length, is_space, blanks}
+use Rattle.std.specs.List.{prefix_len}
 
 module _ (test : ℕ → Bool) where
   -- ---- one byte more
@@ -40,6 +40,21 @@ module _ (test : ℕ → Bool) where
           → test (get_or (b ∷ bs) (front_length test (b ∷ bs)) 0) ≡ false
       by true h f = let e = front_met b bs h in rw e (f (omega arith))
       by false h f = rw (front_not_met b bs h) h
+
+  -- ---- from an offset to the next
+  pub front-on : (text : List ℕ) (i : ℕ) → i < length text → test (get_or text i 0) ≡ true
+      → i + front_length test (drop i text) ≡ i + 1 + front_length test (drop (i + 1) text)
+  front-on text i k h =
+      let e : front_length test (drop i text) ≡ suc (front_length test (drop (i + 1) text)) =
+      rw (add-one, drop-cons text i 0 k) (front_met (get_or text i 0) (drop (suc i) text) h) in omega arith
+
+  pub front-over : (text : List ℕ) (i : ℕ) → i < length text → test (get_or text i 0) ≡ false → i ≡ i + front_length test (drop i text)
+  front-over text i k h =
+      let e : front_length test (drop i text) ≡ 0 = rw (drop-cons text i 0 k) (front_not_met (get_or text i 0) (drop (suc i) text) h) in omega arith
+
+  pub front_out : (text : List ℕ) (i : ℕ) → length text ≤ i → i ≡ i + front_length test (drop i text)
+  front_out text i k =
+      let e : front_length test (drop i text) ≡ 0 = rw (drop_of_length-le text {i = i} k) front-nil in omega arith
 
 -- ---- parts, by the first byte
 pub parts-nil : parts [] ≡ []
