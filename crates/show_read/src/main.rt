@@ -4,7 +4,6 @@
 // Assumed of the system: what std's contracts say of its calls.
 #![tactic(auto)]
 
-use file_reader::Reading;
 use std::process::ExitCode;
 
 // One byte more than the longest text that is read: a longer file is seen to be too long, and is read no further.
@@ -39,13 +38,13 @@ fn show(rt: &(impl Print + Eprint), text: &[u8]) -> ExitCode {
 fn main(rt: HostRuntime) -> ExitCode {
     let mut buffer = [0u8; MOST];
     match file_reader::read_file(&rt, b"routine.txt", &mut buffer) {
-        Reading::Bytes(n) => {
+        Some(n) => {
             if n == MOST {
                 let _ = eprintln!(rt; "longer than 262144 bytes");
                 return ExitCode::SUCCESS;
             }
             show(&rt, &buffer[..n])
         }
-        Reading::Failed => ExitCode::FAILURE,
+        None => ExitCode::FAILURE,
     }
 }

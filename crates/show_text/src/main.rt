@@ -3,7 +3,6 @@
 // Assumed of the system: what std's contracts say of its calls.
 #![tactic(auto)]
 
-use file_reader::Reading;
 use rules::Refusal;
 use rules::limits::MAX_BYTES;
 use std::process::ExitCode;
@@ -34,7 +33,7 @@ fn show(rt: &(impl Print + Eprint), job: &[u8]) -> ExitCode {
 fn main(rt: HostRuntime) -> ExitCode {
     let mut buffer = [0u8; file_reader::JOB_BUFFER];
     match file_reader::read_job(&rt, b"job.mua", &mut buffer) {
-        Reading::Bytes(n) => show(&rt, &buffer[..n]),
-        Reading::Failed => ExitCode::FAILURE,
+        Some(n) => show(&rt, &buffer[..n]),
+        None => ExitCode::FAILURE,
     }
 }

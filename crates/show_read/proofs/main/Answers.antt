@@ -5,5 +5,5 @@ use Rattle.show_read.proofs.main.Goals as goal
 pub slice_bounds-buffer-end : goal.slice_bounds-buffer-end
 slice_bounds-buffer-end c =
     let r = c.read_file in
-    let within = rw c.in-Bytes.is at r.ensures in
+    let within = rw c.in-Some.is at r.ensures in
     omega (arith, within, r.auto.buffer)

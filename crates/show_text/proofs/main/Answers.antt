@@ -2,4 +2,4 @@
 use Rattle.show_text.proofs.main.Goals as goal
 
 pub slice_bounds-buffer-end : goal.slice_bounds-buffer-end
-slice_bounds-buffer-end c = rw c.in-Bytes.is at c.read_job.ensures.within
+slice_bounds-buffer-end c = rw c.in-Some.is at c.read_job.ensures.within
