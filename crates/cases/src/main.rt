@@ -11,7 +11,7 @@ ghost use Rattle.rules.specs.Cases.Document01.{barrier_program, public, state};
 ghost use Rattle.rules.specs.Cases.Document01.{job as printedJob};
 ghost use Rattle.cases.specs.Jobs.{laid_out, nested_with, many_cells};
 
-use rules::{PairAnswer, PairWord};
+use rules::PairWord;
 use std::io;
 use std::process::ExitCode;
 
@@ -136,8 +136,8 @@ fn show_pair(rt: &impl Print, name: &str, job: &[u8], second: &[u8]) -> io::Resu
         &mut second_trace,
         &mut work,
     ) {
-        PairAnswer::Refused(_) => println!(rt; "refused"),
-        PairAnswer::Compared(word, _, _) => write_word(rt, word),
+        Err(_) => println!(rt; "refused"),
+        Ok(pair) => write_word(rt, pair.word),
     }
 }
 
