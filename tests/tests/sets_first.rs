@@ -80,5 +80,6 @@ fn a_set_is_gathered_in_one_pass_and_from_sets_alone() {
         assert_eq!(first_of(body, &VALUES), None, "{name} has a value");
         assert!(!body.contains("work::load(") && !body.contains("work["), "{name} reads words");
     }
-    assert_eq!(gathering[0].1.matches("while ").count(), 1, "one pass");
+    let loops = ["for ", "while ", "loop "].map(|word| gathering[0].1.matches(word).count());
+    assert_eq!(loops.iter().sum::<usize>(), 1, "one pass");
 }
