@@ -100,8 +100,9 @@ fn public_functions(source: &Path) -> Vec<String> {
     let mut owner = String::new();
     let mut functions = Vec::new();
     for line in text.lines() {
-        if let Some(rest) = line.strip_prefix("impl ") {
-            owner = format!("{}::", rest.trim_end_matches(" {"));
+        if line.starts_with("impl") {
+            let name = line.trim_end_matches(" {").rsplit(' ').next().expect("a type");
+            owner = format!("{}::", name.split('<').next().expect("a name"));
         } else if line == "}" {
             owner.clear();
         }
