@@ -1,5 +1,4 @@
-// An answer as numbers and words, for callers that have no enums: a number for each case (of a refusal the documents'), and the words
-// in their order.
+// An answer as words, for callers that have no enums: the numbers of its cases, by the `From`s of `rules`, and its words in their order.
 #![tactic(auto)]
 
 ghost use Rattle.std.specs.Prelude.{◌≡◌, ◌+◌, ◌≤◌, length, replicate};

@@ -11,6 +11,8 @@ ghost use Rattle.byte_writer.specs.Writers.{Starts, HasRoom, Writes};
 // A number of 64 bits has at most 20 decimal digits; this is the place of the last.
 const LAST: usize = 19;
 
+// On an area and a place, as `put_number`: who calls them stores a byte at an earlier place too, or has a place from elsewhere, so that a writer would be
+// made anew for each call.
 pub fn put_byte(out: &mut [u8], at: usize, byte: u8) -> usize
     requires { at + 1 < 2 ^ 64 }
     ensures { Put out.old at (byte ∷ []) out.new result }

@@ -11,7 +11,7 @@ ghost use Rattle.token.specs.Meaning.{tokens_of};
 ghost use Rattle.instruction.specs.Meaning.{register_read_meaning, label_read_meaning, meaning, instruction_read_meaning, InstructionTested, Makes};
 
 use location::{Label, Location};
-use rules::Refusal;
+use rules::{Kind, Refusal};
 use token::Expression;
 
 const REGISTERS: u8 = Location::REGISTERS as u8;
@@ -50,7 +50,8 @@ pub enum Instruction {
     Barrier,
 }
 
-// An instruction with the offset of the next; `sound` says whether its expressions keep the postfix rule.
+// An instruction with the offset of the next; `sound` says whether its expressions keep the postfix rule: refusal 4 is tried on the whole
+// instruction before 5, so that what was read stands either way.
 #[derive(Clone, Copy)]
 pub struct Decoded {
     pub instruction: Instruction,
@@ -121,24 +122,23 @@ pub fn decode(p: &[u8], at: usize) -> Result<Decoded, Refusal>
         return Err(Refusal::Encoding);
     }
     let next = at + 1;
-    match p[at] {
-        0 => Ok(Decoded {
+    match Kind::try_from(p[at])? {
+        Kind::Skip => Ok(Decoded {
             instruction: Instruction::Skip,
             next,
             sound: true,
         }),
-        1 => read_with_register(p, next, |r, e| Instruction::Assign(r, e)),
-        2 => read_with_register(p, next, |r, e| Instruction::Load(r, e)),
-        3 => read_with_register(p, next, |r, e| Instruction::Store(r, e)),
-        4 => read_jump(p, next),
-        5 => read_branch(p, next),
-        6 => read_conditional(p, next),
-        7 => Ok(Decoded {
+        Kind::Assign => read_with_register(p, next, |r, e| Instruction::Assign(r, e)),
+        Kind::Load => read_with_register(p, next, |r, e| Instruction::Load(r, e)),
+        Kind::Store => read_with_register(p, next, |r, e| Instruction::Store(r, e)),
+        Kind::Jump => read_jump(p, next),
+        Kind::BranchZero => read_branch(p, next),
+        Kind::AssignIf => read_conditional(p, next),
+        Kind::Barrier => Ok(Decoded {
             instruction: Instruction::Barrier,
             next,
             sound: true,
         }),
-        _ => Err(Refusal::Encoding),
     }
 }
 

@@ -45,6 +45,11 @@ module _ (bs : List ℕ) {x : Result JobRead Refusal} (read : x ≡ job_read_of 
           rw t ((let u : j.public ≡ k.public = cc in u) ∙ job-public (passed bs k p))
       go (rejected r) p = let o = sym e ∙ answer_of p in absurd (cc)
 
+  -- an accepted job was read, with its list
+  pub read-there : {t : Trailer} → Accepts bs t → (j : JobRead) × ((x ≡ Ok j) × (j.trailer ≡ t) × (j.public ≡ public_of t bs))
+  read-there a =
+      (record { trailer = trailer bs; public = a.job.public }, (answer_of a.parsed, sym a.trailer, rw a.trailer (job-public (passed bs a.job a.parsed))))
+
   pub read-refused : {r : Refusal} → x ≡ Err r → parse bs ≡ rejected r
   read-refused {r} e = go (parse bs) refl
     where

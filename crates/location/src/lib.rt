@@ -29,7 +29,8 @@ impl Label {
     pub fn index(self) -> usize
         ensures { result ≡ self.0 }
     {
-        self.0
+        let Label(index) = self;
+        index
     }
 }
 
@@ -44,7 +45,8 @@ impl Address {
     pub fn value(self) -> u64
         ensures { result ≡ self.0 }
     {
-        self.0
+        let Address(address) = self;
+        address
     }
 }
 
@@ -76,7 +78,8 @@ impl Location {
     pub fn index(self) -> usize
         ensures { result ≡ self.0 }
     {
-        self.0
+        let Location(location) = self;
+        location
     }
 }
 

@@ -36,8 +36,8 @@ pub fn print_run(job: &[u8], trace: &mut [u64], out: &mut [u8]) -> usize
     let mut work = [0u64; work::WORDS];
     let n = instruction_count(job);
     let costs = window_costs::fixed();
-    let answer = checker::run(job, &costs, &mut trace[..], &mut end, &mut work);
-    listing::write_answer(n, answer, &trace[..], &mut out[..])
+    let answer = checker::run(job, &costs, trace, &mut end, &mut work);
+    listing::write_answer(n, answer, trace, out)
 }
 
 // The listing of a job, with 512 observations lent: the whole of it always fits.

@@ -146,7 +146,8 @@ pub struct First {
 }
 
 // The answer of a run: the two sets, D and the plain set, stand beside the outcome, and are empty where the job is refused; then there is
-// nothing to report of any location.
+// nothing to report of any location. They stay beside it since the rules speak of the sets of a refused answer too (Calls: `run_refused`;
+// Demands: `Brought`).
 #[derive(Drop)]
 pub struct RunAnswer {
     pub outcome: RunOutcome,
@@ -157,7 +158,7 @@ pub struct RunAnswer {
 
 pub type PlainOutcome = Result<PlainCounts, Refusal>;
 
-// The answer of a plain run: the plain set is empty where the job is refused.
+// The answer of a plain run: the plain set is empty where the job is refused, which is why it stands beside the outcome (Calls: `plain_refused`).
 #[derive(Drop)]
 pub struct PlainAnswer {
     pub outcome: PlainOutcome,

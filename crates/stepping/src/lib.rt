@@ -1,5 +1,8 @@
 // The three rules of a step, carried out over the lent areas: the machine in the working words, the observations in the trace
 // area, and the progress by value.
+//
+// The lent areas, the progress and the instruction are parameters of their own in each rule: a struct of them would hold both areas by reference, and
+// two of its fields cannot be lent to one call.
 #![tactic(auto)]
 
 ghost use Rattle.std.specs.Prelude.{◌≡◌, List, [], ◌∷◌, ℕ, ◌+◌, ◌*◌, ◌^◌, ◌<◌, ◌≤◌, length};
@@ -14,8 +17,6 @@ ghost use Rattle.stepping.specs.Progress.{standing, standing_before, standing_af
 ghost use Rattle.stepping.specs.Steps.{Unexpired, Steppable, Charged, Leaves, Lowers, RolledBackTo, OpenedTo, CarriedOut, TriedOut, StateKept};
 ghost use Rattle.stepping.specs.Steps.{word_effect, outside_effect};
 
-// The lent areas, the progress and the instruction are parameters of their own in each rule. A struct of them would hold both areas by reference, which
-// each rule takes apart again, as each writes one of them or none: it reads no plainer, and is one more thing that a step has to keep.
 use instruction::Instruction;
 use location::{Address, Label, Location, LocationSet};
 use rules::Tagged;

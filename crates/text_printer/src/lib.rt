@@ -17,15 +17,15 @@ ghost use Rattle.byte_writer.specs.Writing.{Put};
 ghost use Rattle.byte_writer.specs.Writers.{HasRoom, Writes};
 ghost use Rattle.token.specs.Meaning.{token_meaning, tokens_of};
 ghost use Rattle.instruction.specs.Meaning.{meaning};
-ghost use Rattle.job.specs.Answers.{Accepts};
 ghost use Rattle.text_printer.specs.Operands.{sign_part, operator_part, texts_at, below_after, IndexedAll, Operand, Printable};
 ghost use Rattle.text_printer.specs.Programs.{PrintableInstr, word_text, program_printed, printed};
 
 use byte_writer::Writer;
 use instruction::Instruction;
+use job::accepted::AcceptedJob;
 use location::Label;
 use rules::limits::MAX_TOKENS;
-use rules::{PrintAnswer, Refusal, Trailer};
+use rules::{PrintAnswer, Refusal};
 use token::{Expression, Token};
 
 #[tactic(auto, unfolding(rules::specs::Rules::TextPrinting::register_text))]
@@ -37,7 +37,7 @@ fn put_register(writer: &mut Writer<'_>, r: u8)
     writer.put_decimal(r as u64);
 }
 
-// A sign and a space, by the sign's place in the rules' table, which is the byte that follows the sign's token in a program.
+// A sign and a space, by the sign's place in the rules' table: the token's byte less 17, as it is read.
 fn sign_text(i: u8) -> &'static [u8]
     ensures { result.now ≡ sign_part (get_or unary i neg) }
 {
@@ -47,7 +47,7 @@ fn sign_text(i: u8) -> &'static [u8]
     }
 }
 
-// An operator's name between spaces, by the operator's place in the rules' table, as a sign's.
+// An operator's name between spaces, by the operator's place in the rules' table: the token's byte less 19, as it is read.
 fn operator_text(i: u8) -> &'static [u8]
     ensures { result.now ≡ operator_part (get_or binary i add) }
 {
@@ -264,11 +264,11 @@ fn print_program(p: &[u8], n: usize, out: &mut [u8]) -> PrintAnswer
 }
 
 // The program of an accepted job stands before its state.
-fn print_accepted(job: &[u8], t: Trailer, out: &mut [u8]) -> PrintAnswer
-    requires { Accepts job.now t }
-    ensures { Exact (print_call job.now out.old) result out.new }
+fn print_accepted(job: &AcceptedJob, out: &mut [u8]) -> PrintAnswer
+    ensures { Exact (print_call job.now.bytes.now out.old) result out.new }
 {
-    print_program(&job[..t.state], t.count, out)
+    let t = job.trailer;
+    print_program(&job.bytes[..t.state], t.count, out)
 }
 
 // The program of a job as text, from the front of the area, or a refusal: 1 to 8 of the job, then 12. Any bytes and any area will do.
@@ -276,6 +276,6 @@ fn print_accepted(job: &[u8], t: Trailer, out: &mut [u8]) -> PrintAnswer
 pub fn print_text(job: &[u8], out: &mut [u8]) -> PrintAnswer
     ensures { PrintPromise job.now out.old result out.new }
 {
-    let read = job::read_job(job)?;
-    print_accepted(job, read.trailer, out)
+    let accepted = AcceptedJob::read(job)?;
+    print_accepted(&accepted, out)
 }

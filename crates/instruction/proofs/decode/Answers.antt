@@ -1,8 +1,9 @@
--- `instruction::decode` meets its contract, by the kind byte. Assumes nothing.
-use mathlib.Core.Path.{refl, sym, ◌∙◌}
+-- `instruction::decode` meets its contract, by the kind. Assumes nothing.
+use mathlib.Core.Path.{refl, sym, ap, ◌∙◌}
 use Rattle.instruction.specs.Fields.{instr-kind, instr_unknown}
-use Rattle.std.proofs.Common.{rules, arith}
-use Rattle.rules.specs.Rules.Instructions.{assign, load, store}
+use Rattle.std.proofs.Common.{rules}
+use Rattle.std.proofs.lemmas.Result.{err_from_is_err_and}
+use Rattle.rules.specs.Rules.Instructions.{assign, load, store, kind_number}
 use Rattle.rules.specs.Rules.JobFile.{instr, fields}
 use Rattle.token.specs.Bytes.{byte_past}
 use Rattle.instruction.proofs.decode.Goals as goal
@@ -11,59 +12,63 @@ pub returns-then-p-at : goal.returns-then-p-at
 unfolding instr
 returns-then-p-at c = let a = c.args in (simp (byte_past a.p.now a.at c.if-p-at.true), tt)
 
-pub returns-in-0 : goal.returns-in-0
-unfolding fields
-returns-in-0 c =
+pub returns-in_err-try_from : goal.returns-in_err-try_from
+returns-in_err-try_from c =
     let a = c.args in
-    (sym (instr-kind a.p.now a.at 0 c.if-p-at.false c.in-0.is), refl)
+    let told = c.in_err-try_from.ensures in
+    let r = err_from_is_err_and c.from_residual.result c.from_residual.ensures.1 in
+    rw (r.1, r.2, told.0) (sym (instr_unknown a.p.now a.at c.if-p-at.false told.1), tt)
 
-pub returns-in-1 : goal.returns-in-1
+pub returns-in-Skip : goal.returns-in-Skip
 unfolding fields
-returns-in-1 c =
+returns-in-Skip c =
+    let a = c.args in
+    (sym (instr-kind a.p.now a.at 0 c.if-p-at.false (sym c.in_ok-try_from.ensures ∙ ap kind_number c.in-Skip.is)), refl)
+
+pub returns-in-Assign : goal.returns-in-Assign
+unfolding fields
+returns-in-Assign c =
     let a = c.args in
     let r = c.read_with_register.ensures assign (record { means = λ r e i m. search rules; tested = λ r e. refl }) in
-    (r.0 ∙ sym (instr-kind a.p.now a.at 1 c.if-p-at.false c.in-1.is), r.1)
+    (r.0 ∙ sym (instr-kind a.p.now a.at 1 c.if-p-at.false (sym c.in_ok-try_from.ensures ∙ ap kind_number c.in-Assign.is)), r.1)
 
-pub returns-in-2 : goal.returns-in-2
+pub returns-in-Load : goal.returns-in-Load
 unfolding fields
-returns-in-2 c =
+returns-in-Load c =
     let a = c.args in
-    let r = c.read_with_register-in-2.ensures load (record { means = λ r e i m. search rules; tested = λ r e. refl }) in
-    (r.0 ∙ sym (instr-kind a.p.now a.at 2 c.if-p-at.false c.in-2.is), r.1)
+    let r = c.read_with_register-in-Load.ensures load (record { means = λ r e i m. search rules; tested = λ r e. refl }) in
+    (r.0 ∙ sym (instr-kind a.p.now a.at 2 c.if-p-at.false (sym c.in_ok-try_from.ensures ∙ ap kind_number c.in-Load.is)), r.1)
 
-pub returns-in-3 : goal.returns-in-3
+pub returns-in-Store : goal.returns-in-Store
 unfolding fields
-returns-in-3 c =
+returns-in-Store c =
     let a = c.args in
-    let r = c.read_with_register-in-3.ensures store (record { means = λ r e i m. search rules; tested = λ r e. refl }) in
-    (r.0 ∙ sym (instr-kind a.p.now a.at 3 c.if-p-at.false c.in-3.is), r.1)
+    let r = c.read_with_register-in-Store.ensures store (record { means = λ r e i m. search rules; tested = λ r e. refl }) in
+    (r.0 ∙ sym (instr-kind a.p.now a.at 3 c.if-p-at.false (sym c.in_ok-try_from.ensures ∙ ap kind_number c.in-Store.is)), r.1)
 
-pub returns-in-4 : goal.returns-in-4
+pub returns-in-Jump : goal.returns-in-Jump
 unfolding fields
-returns-in-4 c =
+returns-in-Jump c =
     let a = c.args in
-    (c.read_jump.ensures.0 ∙ sym (instr-kind a.p.now a.at 4 c.if-p-at.false c.in-4.is), c.read_jump.ensures.1)
+    let r = c.read_jump.ensures in
+    (r.0 ∙ sym (instr-kind a.p.now a.at 4 c.if-p-at.false (sym c.in_ok-try_from.ensures ∙ ap kind_number c.in-Jump.is)), r.1)
 
-pub returns-in-5 : goal.returns-in-5
+pub returns-in-BranchZero : goal.returns-in-BranchZero
 unfolding fields
-returns-in-5 c =
+returns-in-BranchZero c =
     let a = c.args in
-    (c.read_branch.ensures.0 ∙ sym (instr-kind a.p.now a.at 5 c.if-p-at.false c.in-5.is), c.read_branch.ensures.1)
+    let r = c.read_branch.ensures in
+    (r.0 ∙ sym (instr-kind a.p.now a.at 5 c.if-p-at.false (sym c.in_ok-try_from.ensures ∙ ap kind_number c.in-BranchZero.is)), r.1)
 
-pub returns-in-6 : goal.returns-in-6
+pub returns-in-AssignIf : goal.returns-in-AssignIf
 unfolding fields
-returns-in-6 c =
-    let a = c.args in (
-      c.read_conditional.ensures.0 ∙ sym
-          (instr-kind a.p.now a.at 6 c.if-p-at.false c.in-6.is),
-      c.read_conditional.ensures.1,
-    )
-
-pub returns-in-7 : goal.returns-in-7
-unfolding fields
-returns-in-7 c =
+returns-in-AssignIf c =
     let a = c.args in
-    (sym (instr-kind a.p.now a.at 7 c.if-p-at.false c.in-7.is), refl)
+    let r = c.read_conditional.ensures in
+    (r.0 ∙ sym (instr-kind a.p.now a.at 6 c.if-p-at.false (sym c.in_ok-try_from.ensures ∙ ap kind_number c.in-AssignIf.is)), r.1)
 
-pub returns-in_default : goal.returns-in_default
-returns-in_default c = let a = c.args in (sym (instr_unknown a.p.now a.at c.if-p-at.false (omega arith)), tt)
+pub returns-in-Barrier : goal.returns-in-Barrier
+unfolding fields
+returns-in-Barrier c =
+    let a = c.args in
+    (sym (instr-kind a.p.now a.at 7 c.if-p-at.false (sym c.in_ok-try_from.ensures ∙ ap kind_number c.in-Barrier.is)), refl)
