@@ -44,10 +44,9 @@ use Rattle.firsts.proofs.Told.{told-start, told-frame, told-within, told-joined,
 use Rattle.execution.specs.declared.Mode.{Mode}
 use Rattle.execution.specs.declared.Mode.TheVariants as modes
 use Rattle.execution.specs.declared.Ran.{Ran}
-use Rattle.execution.specs.declared.halt.Halt.{Halt}
 use Rattle.execution.specs.declared.rule.Rule.{Rule}
 use Rattle.execution.specs.declared.rule.Rule.TheVariants as rule
-use Rattle.std.specs.Prelude.{Some, None}
+use Rattle.std.specs.Prelude.{Option, Some, None}
 use Rattle.execution.specs.Next.{step_by, forward_by, over_at, rule_at, Opens}
 use Rattle.execution.specs.Running.{code_in, Loaded, CodeOf, Steady, Ready, code_at, step_in, next_step, observed_by}
 use Rattle.execution.specs.Running.{Fitting, Permitted, Overfull, Halts, HaltOf, next_set, Quiet, Unhindered, Tried}
@@ -220,8 +219,15 @@ module _ (p : List ℕ) (t : Trailer) where
           }
 
     -- what the code has found
-    pub found : (x : Standing) {h k : Halt} → h ≡ k → HaltOf p t mode x h → HaltOf p t mode x k
+    pub found : (x : Standing) {h k : Option Stop} → h ≡ k → HaltOf p t mode x h → HaltOf p t mode x k
     found x e o = subst (HaltOf p t mode x) e o
+
+    -- every stop but outside full leaves what was gathered as it is
+    pub halts_plainly : (x : Standing) (s : Stop) → (s ≡ OutsideFull → ⊥) → HaltOf p t mode x (Some s) → Halts p t mode x s x.progress (λ xs. xs)
+    halts_plainly x Finished n h = h
+    halts_plainly x Spent n h = h
+    halts_plainly x TraceFull n h = h
+    halts_plainly x OutsideFull n h = absurd (n refl)
 
     -- ---- rule 1 where the top branch has expired
     pub rolled : (x y : Standing) → Ready p t mode x → Going x.progress.control t.count x.work (locations t) true → RolledBackTo x y

@@ -1,10 +1,11 @@
 -- A run in the lent areas: where it can go on, what halts it, and what is left of it.
 -- Assumes nothing.
-use Rattle.std.specs.Prelude.{◌≡◌, true, false, List, [], ◌∷◌, ◌++◌, ℕ, ◌+◌, ◌-◌, ◌*◌, ◌/◌, ◌<◌, ◌≤◌, length, get_or, drop}
+use Rattle.std.specs.Prelude.{◌≡◌, true, false, List, [], ◌∷◌, ◌++◌, ℕ, ◌+◌, ◌-◌, ◌*◌, ◌/◌, ◌<◌, ◌≤◌, length, get_or, drop, Option, Some, None}
 use Rattle.location.specs.Sets.{registers, limit, subset}
 use Rattle.location.specs.declared.LocationSet.{LocationSet}
 use Rattle.rules.specs.declared.Cause.{Cause}
 use Rattle.rules.specs.declared.Stop.{Stop}
+use Rattle.rules.specs.declared.Stop.TheVariants as stops
 use Rattle.rules.specs.declared.Tagged.{Tagged}
 use Rattle.rules.specs.declared.Trailer.{Trailer}
 use Rattle.rules.specs.Rules.Limits.{max_instructions}
@@ -35,8 +36,6 @@ use Rattle.stepping.specs.Steps.{Counted, Made, Unexpired}
 use Rattle.execution.specs.declared.Mode.{Mode}
 use Rattle.execution.specs.declared.Mode.TheVariants as modes
 use Rattle.execution.specs.declared.Ran.{Ran}
-use Rattle.execution.specs.declared.halt.Halt.{Halt}
-use Rattle.execution.specs.declared.halt.Halt.TheVariants as halt
 use Rattle.execution.specs.Next.{step_by}
 use Rattle.rules.specs.Theorems.Bounds.{Limits, PositiveCosts}
 
@@ -113,10 +112,10 @@ pub record Halts (p : List ℕ) (t : Trailer) (mode : Mode) (x : Standing) (s : 
   pub counted : c.observations ≡ x.progress.observations
 
 -- what halts it, if anything does
-abbrev pub HaltOf : List ℕ → Trailer → Mode → Standing → Halt → Type 0
-HaltOf p t mode x halt.Proceed = Permitted p t mode x
-HaltOf p t mode x (halt.Halted s) = Halts p t mode x s x.progress (λ xs. xs)
-HaltOf p t mode x halt.OutsideFull = Overfull p t mode x
+abbrev pub HaltOf : List ℕ → Trailer → Mode → Standing → Option Stop → Type 0
+HaltOf p t mode x None = Permitted p t mode x
+HaltOf p t mode x (Some stops.OutsideFull) = Overfull p t mode x
+HaltOf p t mode x (Some s) = Halts p t mode x s x.progress (λ xs. xs)
 
 -- Up to so many steps in all the budget suffices; and the trace area too, unless it is one step more, which has been tested.
 pub record FreeUntil (budget until : ℕ) (x : Standing) : Type 0 where

@@ -21,15 +21,6 @@ use rules::{Stop, Trailer};
 use stepping::Progress;
 use work::machine::Control;
 
-// Nothing halts the run before its next step, or a stop does. `OutsideFull` stands by itself, as what the run has gathered changes with it;
-// `Halted` is never of that stop.
-#[derive(Drop)]
-pub enum Halt {
-    Proceed,
-    Halted(Stop),
-    OutsideFull,
-}
-
 // How many observations an instruction makes, by rule 2 or 3.
 fn observations_of(mode: Mode, i: Instruction) -> usize
     ensures { (p : List ℕ) (code : Code) (M : Machine) → result ≡ length (forward_by mode code M (meaning p i)).obs }
@@ -112,24 +103,32 @@ fn next_needs(p: &[u8], t: Trailer, work: &[u64], c: Control) -> bool
     }
 }
 
-// What halts a run before its next step, if anything does: finished, spent, trace full, outside full.
-pub fn halt_of(p: &[u8], t: Trailer, mode: Mode, work: &[u64], trace: &[u64], c: Progress) -> Halt
+// What halts a run before its next step, if anything does: finished, spent, trace full, outside full. With outside full alone what the run has
+// gathered changes: the step that is not made adds the set of its address.
+pub fn halt_of(
+    p: &[u8],
+    t: Trailer,
+    mode: Mode,
+    work: &[u64],
+    trace: &[u64],
+    c: Progress,
+) -> Option<Stop>
     requires { Ready p.now t mode (standing work.now trace.now c) }
     ensures { HaltOf p.now t mode (standing work.now trace.now c) result }
 {
     if super::rule::is_over(c.control, t.count) {
-        return Halt::Halted(Stop::Finished);
+        return Some(Stop::Finished);
     }
     if t.budget <= c.steps {
-        return Halt::Halted(Stop::Spent);
+        return Some(Stop::Spent);
     }
     if trace.len() / 2 < c.observations + next_observations(p, t, mode, work, c.control) {
-        return Halt::Halted(Stop::TraceFull);
+        return Some(Stop::TraceFull);
     }
     if next_needs(p, t, work, c.control) {
-        return Halt::OutsideFull;
+        return Some(Stop::OutsideFull);
     }
-    Halt::Proceed
+    None
 }
 
 // The step count up to which neither a budget nor the trace area runs out, whatever the steps are, as none makes more than two

@@ -11,7 +11,6 @@ ghost use Rattle.rules.specs.Rules.Calls.{working_words};
 ghost use Rattle.execution.specs.Running.{Loaded, RanTo, report_of};
 ghost use Rattle.execution.specs.Starts.{beginning, whole};
 
-use halt::Halt;
 use location::LocationSet;
 use rules::{Counts, Stop, Trailer};
 use stepping::Progress;
@@ -77,16 +76,16 @@ pub fn run(p: &[u8], t: Trailer, mode: Mode, work: &mut [u64], trace: &mut [u64]
     let mut c = beginning();
     loop {
         match halt::halt_of(p, t, mode, work, trace, c) {
-            Halt::Proceed => {
+            None => {
                 let until = halt::free_until(trace, c, t.budget);
                 let next = first::record_next(p, t, work, c);
                 c = step::make_steps(p, t, mode, work, trace, next, until);
             }
-            Halt::Halted(stop) => {
-                return report(stop, c);
-            }
-            Halt::OutsideFull => {
-                return report(Stop::OutsideFull, first::record_next(p, t, work, c));
+            Some(stop) => {
+                return match stop {
+                    Stop::OutsideFull => report(stop, first::record_next(p, t, work, c)),
+                    _ => report(stop, c),
+                };
             }
         }
     }

@@ -1,9 +1,12 @@
 -- `run` meets its contract: what is left of the run is kept until a stop is found. Assumes nothing.
-use mathlib.Core.Path.{◌≡◌, refl, ◌∙◌}
+use mathlib.Core.Path.{◌≡◌, refl, ap, ◌∙◌}
 use Prim.Native.Nat.{◌<◌}
 use native.Mathlib.Omega.{arith}
 use Rattle.stepping.specs.Progress.{standing}
-use Rattle.execution.proofs.Running.{found, not_over, ready-start, settled_start, run_ends}
+use Rattle.std.specs.Prelude.{Some}
+use Rattle.rules.specs.declared.Stop.{Stop}
+use Rattle.execution.specs.Running.{report_of}
+use Rattle.execution.proofs.Running.{found, halts_plainly, not_over, ready-start, settled_start, run_ends}
 use Rattle.execution.proofs.Foreseen.{few-observed, same-steps, foreseen_unhindered, foreseen_ahead, foreseen_ends}
 use Rattle.execution.proofs.run.Goals as goal
 
@@ -23,7 +26,7 @@ halt_of-requires c =
 
 pub free_until-until-requires : goal.free_until-until-requires
 free_until-until-requires c =
-    let o = found _ _ _ _ c.in-Proceed.is c.halt_of.ensures in
+    let o = found _ _ _ _ c.in-None.is c.halt_of.ensures in
     (c.loop-trace.invariant.2.counted.room, o.fitting.left)
 
 pub record_next-next-requires : goal.record_next-next-requires
@@ -32,13 +35,13 @@ record_next-next-requires c =
     let a = c.args in
     let x = standing v.work v.trace v.c in
     let r = v.invariant.2 in
-    let o = found _ _ _ _ c.in-Proceed.is c.halt_of.ensures in
+    let o = found _ _ _ _ c.in-None.is c.halt_of.ensures in
     (r.steady.loaded, r.steady.fits, not_over _ _ a.mode x o.fitting.on, few-observed r)
 
 pub make_steps-c-requires : goal.make_steps-c-requires
 make_steps-c-requires c =
     let r = c.loop-trace.invariant.2 in
-    let o = found _ _ _ _ c.in-Proceed.is c.halt_of.ensures in
+    let o = found _ _ _ _ c.in-None.is c.halt_of.ensures in
     let f = c.record_next-next.ensures _ _ r.steady in
     foreseen_unhindered _ _ _ r f o (c.free_until-until.ensures _)
 
@@ -55,7 +58,7 @@ loop-trace-smaller c =
 pub loop-trace-preserved : goal.loop-trace-preserved
 loop-trace-preserved c =
     let r = c.loop-trace.invariant.2 in
-    let o = found _ _ _ _ c.in-Proceed.is c.halt_of.ensures in
+    let o = found _ _ _ _ c.in-None.is c.halt_of.ensures in
     let f = c.record_next-next.ensures _ _ r.steady in (
       c.make_steps-c.auto.work ∙ c.record_next-next.auto.work ∙ c.loop-trace.invariant.0,
       c.make_steps-c.auto.trace ∙ c.loop-trace.invariant.1,
@@ -63,26 +66,17 @@ loop-trace-preserved c =
       c.make_steps-c.ensures.kept _ _ _ (foreseen_ahead _ _ _ r f o c.loop-trace.invariant.3),
     )
 
-pub report-requires : goal.report-requires
-report-requires c =
-    c.loop-trace.invariant.2.steady.fits.opened
-
-pub returns-in-Halted : goal.returns-in-Halted
-returns-in-Halted c =
-    run_ends _ _ _ c.report.ensures c.loop-trace.invariant.2 c.loop-trace.invariant.3
-    (found _ _ _ _ c.in-Halted.is c.halt_of.ensures)
-
 pub record_next-requires : goal.record_next-requires
 record_next-requires c =
     let v = c.loop-trace in
     let a = c.args in
     let x = standing v.work v.trace v.c in
     let r = v.invariant.2 in
-    let o = found _ _ _ _ c.in-OutsideFull.is c.halt_of.ensures in
+    let o = found _ _ _ _ (c.in-Some.is ∙ ap Some c.in-OutsideFull.is) c.halt_of.ensures in
     (r.steady.loaded, r.steady.fits, not_over _ _ a.mode x o.fitting.on, few-observed r)
 
-pub report-requires-in-OutsideFull : goal.report-requires-in-OutsideFull
-report-requires-in-OutsideFull c =
+pub report-requires : goal.report-requires
+report-requires c =
     let r = c.loop-trace.invariant.2 in
     let f = c.record_next.ensures _ c.loop-trace.trace r.steady in
     rw f.progress r.steady.fits.opened
@@ -90,6 +84,13 @@ report-requires-in-OutsideFull c =
 pub returns-in-OutsideFull : goal.returns-in-OutsideFull
 returns-in-OutsideFull c =
     let r = c.loop-trace.invariant.2 in
-    let o = found _ _ _ _ c.in-OutsideFull.is c.halt_of.ensures in
+    let o = found _ _ _ _ (c.in-Some.is ∙ ap Some c.in-OutsideFull.is) c.halt_of.ensures in
     let f = c.record_next.ensures _ c.loop-trace.trace r.steady in
-    foreseen_ends _ _ _ r f o c.loop-trace.invariant.3 c.report-in-OutsideFull.ensures
+    let e = c.report.ensures ∙ ap (λ (s : Stop). report_of s c.record_next.result) c.in-OutsideFull.is in
+    foreseen_ends _ _ _ r f o c.loop-trace.invariant.3 e
+
+pub returns-in_default : goal.returns-in_default
+returns-in_default c =
+    let o = found _ _ _ _ c.in-Some.is c.halt_of.ensures in
+    run_ends _ _ _ c.report-in_default.ensures c.loop-trace.invariant.2 c.loop-trace.invariant.3
+    (halts_plainly _ _ _ _ c.in-Some.stop c.in_default.not-OutsideFull o)
