@@ -1,6 +1,6 @@
 -- What each kind of instruction observes, by what the code has found.
 -- Assumes nothing.
-use mathlib.Core.Path.{◌≡◌, refl, ap, ◌∙◌}
+use mathlib.Core.Path.{◌≡◌, refl, ap, ◌∙◌, subst}
 use mathlib.Core.Bool.{true}
 use mathlib.Core.List.{List}
 use Prim.Native.Nat.{ℕ, ◌+◌, ◌<◌}
@@ -8,7 +8,6 @@ use lib.ListN.{length}
 use Rattle.location.specs.declared.Label.{Label}
 use Rattle.location.specs.declared.LocationSet.{LocationSet}
 use Rattle.location.specs.Sets.{registers, none, empty}
-use Rattle.rules.specs.declared.Cause.{Cause}
 use Rattle.rules.specs.declared.Cause.TheVariants as causes
 use Rattle.rules.specs.declared.Tagged.{Tagged}
 use Rattle.rules.specs.Rules.Expressions.{sound, eval, SetFirst}
@@ -21,29 +20,23 @@ use Rattle.instruction.specs.declared.Instruction.TheVariants.{Skip, Assign, Loa
 use Rattle.work.specs.Words.{set_at, tagged_at}
 use Rattle.work.specs.Machines.{state_in}
 use Rattle.evaluation.proofs.Laws.{register-at, value_in}
-use Rattle.execution.specs.Running.{Observes}
+use Rattle.std.specs.Prelude.{Option, Some, None}
+use Rattle.execution.specs.declared.first.Sight.{Sight}
+use Rattle.execution.specs.Running.{Observes, SightOf}
 
--- any kind that observes nothing
-abbrev Silent : Instruction → Type 0
-Silent Skip = Unit
-Silent (Assign r e) = Unit
-Silent (Load r e) = ⊥
-Silent (Store r e) = ⊥
-Silent (Jump e) = ⊥
-Silent (BranchZero r l) = ⊥
-Silent (AssignIf r b e) = Unit
-Silent Barrier = Unit
-
-silent_observes : (p w : List ℕ) (j : Instruction) → Silent j → Observes p w j causes.Branch empty
+-- any kind but these four observes nothing
+pub observes_nothing : (p w : List ℕ) (i : Instruction) → ((r : ℕ) (e : Expression) → i ≡ Load r e → ⊥)
+    → ((r : ℕ) (e : Expression) → i ≡ Store r e → ⊥) → ((e : Expression) → i ≡ Jump e → ⊥)
+    → ((r : ℕ) (l : Label) → i ≡ BranchZero r l → ⊥) → Observes p w i causes.Branch empty
 unfolding ordinary exec empty none
-silent_observes p w Skip n = record { rule = refl; set = λ code c cells. refl; size = refl }
-silent_observes p w (Assign r e) n = record { rule = refl; set = λ code c cells. refl; size = refl }
-silent_observes p w (Load r e) n = absurd n
-silent_observes p w (Store r e) n = absurd n
-silent_observes p w (Jump e) n = absurd n
-silent_observes p w (BranchZero r l) n = absurd n
-silent_observes p w (AssignIf r b e) n = record { rule = refl; set = λ code c cells. refl; size = refl }
-silent_observes p w Barrier n = record { rule = refl; set = λ code c cells. refl; size = refl }
+observes_nothing p w Skip a b c d = record { rule = refl; set = λ code c cells. refl; size = refl }
+observes_nothing p w (Assign r e) a b c d = record { rule = refl; set = λ code c cells. refl; size = refl }
+observes_nothing p w (Load r e) a b c d = absurd (a r e refl)
+observes_nothing p w (Store r e) a b c d = absurd (b r e refl)
+observes_nothing p w (Jump e) a b c d = absurd (c e refl)
+observes_nothing p w (BranchZero r l) a b c d = absurd (d r l refl)
+observes_nothing p w (AssignIf r k e) a b c d = record { rule = refl; set = λ code c cells. refl; size = refl }
+observes_nothing p w Barrier a b c d = record { rule = refl; set = λ code c cells. refl; size = refl }
 
 -- the set that was gathered from the registers' sets is that of the value, whatever they hold
 in_state : (p w : List ℕ) (e : Expression) {s : LocationSet} → SetFirst (set_at w) (tokens_of p e) s → sound (tokens_of p e) ≡ true → (cells : ℕ)
@@ -51,10 +44,6 @@ in_state : (p w : List ℕ) (e : Expression) {s : LocationSet} → SetFirst (set
 in_state p w e f h cells = f.whatever h (λ r. (tagged_at w r).value) ∙ ap (λ (t : Tagged). t.deps) (value_in p w cells e refl)
 
 module _ (p w : List ℕ) {i : Instruction} where
-  pub observes_nothing : {j : Instruction} {cause : Cause} {s : LocationSet} → i ≡ j → Silent j → cause ≡ causes.Branch → s ≡ empty
-      → Observes p w i cause s
-  observes_nothing {j} e n q z = rw (e, q, z) (silent_observes p w j n)
-
   pub observes_load : {r : ℕ} (e : Expression) {s : LocationSet} → i ≡ Load r e → SetFirst (set_at w) (tokens_of p e) s → sound (tokens_of p e) ≡ true
       → length s.words ≡ 4 → Observes p w i causes.Load s
   unfolding ordinary exec
@@ -80,3 +69,12 @@ module _ (p w : List ℕ) {i : Instruction} where
         set = λ code c cells. es ∙ ap (set_at w) ek ∙ ap (λ (t : Tagged). t.deps) (register-at w cells {r = r} h refl refl);
         size = n;
       })
+
+-- what the code has found, and what it has not
+pub found : {p w : List ℕ} {i : Instruction} {o : Option Sight} {s : Sight} → o ≡ Some s → SightOf p w i o → Observes p w i s.cause s.seen
+found {p} {w} {i} e h = subst (SightOf p w i) e h
+
+pub found_none : {p w : List ℕ} {i : Instruction} (o : Option Sight) → ((s : Sight) → o ≡ Some s → ⊥) → SightOf p w i o
+    → Observes p w i causes.Branch empty
+found_none None n h = h
+found_none (Some s) n h = absurd (n s refl)

@@ -1,9 +1,10 @@
 -- A run in the lent areas: where it can go on, what halts it, and what is left of it.
 -- Assumes nothing.
 use Rattle.std.specs.Prelude.{◌≡◌, true, false, List, [], ◌∷◌, ◌++◌, ℕ, ◌+◌, ◌-◌, ◌*◌, ◌/◌, ◌<◌, ◌≤◌, length, get_or, drop, Option, Some, None}
-use Rattle.location.specs.Sets.{registers, limit, subset}
+use Rattle.location.specs.Sets.{registers, limit, empty, subset}
 use Rattle.location.specs.declared.LocationSet.{LocationSet}
 use Rattle.rules.specs.declared.Cause.{Cause}
+use Rattle.rules.specs.declared.Cause.TheVariants as causes
 use Rattle.rules.specs.declared.Stop.{Stop}
 use Rattle.rules.specs.declared.Stop.TheVariants as stops
 use Rattle.rules.specs.declared.Tagged.{Tagged}
@@ -36,6 +37,7 @@ use Rattle.stepping.specs.Steps.{Counted, Made, Unexpired}
 use Rattle.execution.specs.declared.Mode.{Mode}
 use Rattle.execution.specs.declared.Mode.TheVariants as modes
 use Rattle.execution.specs.declared.Ran.{Ran}
+use Rattle.execution.specs.declared.first.Sight.{Sight}
 use Rattle.execution.specs.Next.{step_by}
 use Rattle.rules.specs.Theorems.Bounds.{Limits, PositiveCosts}
 
@@ -140,6 +142,11 @@ pub record Observes (p w : List ℕ) (i : Instruction) (cause : Cause) (seen : L
   pub rule : cause ≡ cause_of (meaning p i)
   pub set : (code : Code) (c : Control) (cells : ℕ) → seen ≡ (ordinary code (machine_of w c (registers + cells)) (meaning p i)).seen
   pub size : length seen.words ≡ 4
+
+-- as the code has found it: with none it observes the empty set
+abbrev pub SightOf : List ℕ → List ℕ → Instruction → Option Sight → Type 0
+SightOf p w i None = Observes p w i causes.Branch empty
+SightOf p w i (Some s) = Observes p w i s.cause s.seen
 
 -- It is recorded and gathered ahead of the step, which is not made: x has become y.
 pub record Foreseen (p : List ℕ) (t : Trailer) (mode : Mode) (x y : Standing) : Type 0 where

@@ -1,8 +1,7 @@
 // What the next step observes joins D ahead of the step, and is recorded. The steps that are then made bring in nothing; they end before one
 // that does.
 ghost use Rattle.std.specs.Prelude.{◌≡◌, true, false, List, ℕ, ◌^◌, ◌<◌, ◌≤◌, length};
-ghost use Rattle.location.specs.Sets.{registers, empty};
-ghost use Rattle.rules.specs.declared.Cause.TheVariants.{Branch};
+ghost use Rattle.location.specs.Sets.{registers};
 ghost use Rattle.rules.specs.Rules.JobFile.{postfix};
 ghost use Rattle.instruction.specs.Meaning.{meaning};
 ghost use Rattle.instruction.specs.Registers.{RegistersBelow};
@@ -11,7 +10,7 @@ ghost use Rattle.work.specs.Machines.{Fit};
 ghost use Rattle.stepping.specs.Progress.{standing};
 ghost use Rattle.execution.specs.declared.Mode.{Mode};
 ghost use Rattle.execution.specs.Next.{over_at};
-ghost use Rattle.execution.specs.Running.{Loaded, Steady, Observes, Foreseen};
+ghost use Rattle.execution.specs.Running.{Loaded, Steady, SightOf, Foreseen};
 
 use super::rule::Rule;
 use instruction::Instruction;
@@ -26,42 +25,29 @@ struct Sight {
     seen: LocationSet,
 }
 
-// It observes nothing.
-fn no_sight() -> Sight
-    ensures { (result.cause ≡ Branch) × (result.seen ≡ empty) }
-{
-    Sight {
-        cause: Cause::Branch,
-        seen: LocationSet::empty(),
-    }
-}
-
-// What an instruction observes in the state of the working words. No value is read for it.
-fn sight_of(p: &[u8], work: &[u64], i: Instruction) -> Sight
+// What an instruction observes in the state of the working words, if it is of a kind that does. No value is read for it.
+fn sight_of(p: &[u8], work: &[u64], i: Instruction) -> Option<Sight>
     requires { (postfix (meaning p.now i) ≡ true) × RegistersBelow registers (meaning p.now i) × (log_base ≤ length work.now) }
-    ensures { Observes p.now work.now i result.cause result.seen }
+    ensures { SightOf p.now work.now i result }
 {
     match i {
-        Instruction::Skip => no_sight(),
-        Instruction::Assign(_, _) => no_sight(),
-        Instruction::Load(_, e) => Sight {
+        Instruction::Load(_, e) => Some(Sight {
             cause: Cause::Load,
             seen: expression::sets::set_of(p, work, e),
-        },
-        Instruction::Store(_, e) => Sight {
+        }),
+        Instruction::Store(_, e) => Some(Sight {
             cause: Cause::Store,
             seen: expression::sets::set_of(p, work, e),
-        },
-        Instruction::Jump(e) => Sight {
+        }),
+        Instruction::Jump(e) => Some(Sight {
             cause: Cause::Jump,
             seen: expression::sets::set_of(p, work, e),
-        },
-        Instruction::BranchZero(r, _) => Sight {
+        }),
+        Instruction::BranchZero(r, _) => Some(Sight {
             cause: Cause::Branch,
             seen: work::load_set(work, Location::register(r)),
-        },
-        Instruction::AssignIf(_, _, _) => no_sight(),
-        Instruction::Barrier => no_sight(),
+        }),
+        _ => None,
     }
 }
 
@@ -79,7 +65,9 @@ pub fn record_next(p: &[u8], t: Trailer, work: &mut [u64], c: Progress) -> Progr
             let place = Label::new(c.control.place);
             let d = program::fetch(work, work::LABELS, place);
             let i = descriptor::instruction_of(p, d);
-            let next = sight_of(p, work, i);
+            let Some(next) = sight_of(p, work, i) else {
+                return c;
+            };
             firsts::record(
                 work,
                 c.full,

@@ -6,6 +6,7 @@ use Rattle.rules.specs.Rules.JobFile.{locations}
 use Rattle.execution.specs.declared.Mode.TheVariants as modes
 use Rattle.execution.proofs.Machine.{closed-window, over-named, back-named, advance_named, place_inside}
 use Rattle.execution.proofs.Running.{steady_any, rolls_quiet, fetched_valid, fetched_same, step-seen, step-cause}
+use Rattle.execution.proofs.Sights.{found, found_none}
 use Rattle.execution.proofs.Foreseen.{foresees_nothing, foresees}
 use borrow.Author.Rules.{rules}
 use Rattle.execution.proofs.first.record_next.Goals as goal
@@ -36,8 +37,8 @@ instruction_of-i-requires c =
     let s = steady_any a.p.now a.t c.requires.0 c.requires.1 in
     fetched_valid a.p.now a.t modes.Mispredicting w k s (place_inside g) c.new-place.ensures c.fetch-d.ensures
 
-pub sight_of-next-requires : goal.sight_of-next-requires
-sight_of-next-requires c =
+pub sight_of-requires : goal.sight_of-requires
+sight_of-requires c =
     let a = c.args in
     let k = a.c.control in
     let w = a.work.now in
@@ -78,8 +79,23 @@ returns-in-RollBack c mode trace s =
     foresees_nothing a.p.now a.t mode a.work.now trace a.c (search (rules, sets.0)) (search (rules, sets.1.0))
     (rolls_quiet a.p.now a.t mode a.work.now k s g)
 
-pub returns-in-Advance : goal.returns-in-Advance
-returns-in-Advance c mode trace s =
+pub returns-in_default : goal.returns-in_default
+returns-in_default c mode trace s =
+    let a = c.args in
+    let k = a.c.control in
+    let w = a.work.now in
+    let g = advance_named k a.t.count w (locations a.t)
+    (sym c.in-Advance.is ∙ c.rule_of.ensures w (locations a.t)) in
+    let p = a.p.now in
+    let e = c.instruction_of-i.ensures
+    ∙ fetched_same p a.t mode w k s (place_inside g) c.new-place.ensures c.fetch-d.ensures in
+    let o = found_none _ c.in_default.not-Some c.sight_of.ensures in
+    let sets = c.well_formed.1.1.1.0.1.1.1.1.1 in
+    foresees_nothing p a.t mode w trace a.c (search (rules, sets.0)) (search (rules, sets.1.0))
+    (sym (o.set _ k a.t.cells ∙ step-seen p a.t mode w k g e))
+
+pub returns-in-Some : goal.returns-in-Some
+returns-in-Some c mode trace s =
     let a = c.args in
     let k = a.c.control in
     let w = a.work.now in
@@ -90,6 +106,6 @@ returns-in-Advance c mode trace s =
     let i = place_inside g in
     let e = c.instruction_of-i.ensures
     ∙ fetched_same p a.t mode w k s (place_inside g) c.new-place.ensures c.fetch-d.ensures in
-    let o = c.sight_of-next.ensures in
-    foresees p a.t mode w trace a.c c.sight_of-next.result.seen (o.rule ∙ step-cause p a.t mode w k g e)
+    let o = found c.in-Some.is c.sight_of.ensures in
+    foresees p a.t mode w trace a.c c.in-Some.next.seen (o.rule ∙ step-cause p a.t mode w k g e)
     (o.set _ k a.t.cells ∙ step-seen p a.t mode w k g e) o.size (omega arith) c.«record».ensures c.gather_unmade.ensures

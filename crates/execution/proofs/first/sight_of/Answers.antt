@@ -27,12 +27,6 @@ load_set-requires c =
     let e = c.register.ensures in
     omega arith
 
-pub returns-in-Skip : goal.returns-in-Skip
-returns-in-Skip c = observes_nothing _ _ c.in-Skip.is tt c.no_sight.ensures.0 c.no_sight.ensures.1
-
-pub returns-in-Assign : goal.returns-in-Assign
-returns-in-Assign c = observes_nothing _ _ c.in-Assign.is tt c.no_sight-in-Assign.ensures.0 c.no_sight-in-Assign.ensures.1
-
 pub returns-in-Load : goal.returns-in-Load
 returns-in-Load c =
     observes_load _ _ _ c.in-Load.is c.set_of.ensures (rw c.in-Load.is at c.requires.0) (search rules)
@@ -50,8 +44,7 @@ returns-in-BranchZero c =
     observes_branch _ _ c.in-BranchZero.is (rw c.in-BranchZero.is at c.requires.1) c.register.ensures
     c.load_set.ensures (search rules)
 
-pub returns-in-AssignIf : goal.returns-in-AssignIf
-returns-in-AssignIf c = observes_nothing _ _ c.in-AssignIf.is tt c.no_sight-in-AssignIf.ensures.0 c.no_sight-in-AssignIf.ensures.1
-
-pub returns-in-Barrier : goal.returns-in-Barrier
-returns-in-Barrier c = observes_nothing _ _ c.in-Barrier.is tt c.no_sight-in-Barrier.ensures.0 c.no_sight-in-Barrier.ensures.1
+pub returns-in_default : goal.returns-in_default
+returns-in_default c =
+    let k = c.in_default in
+    observes_nothing _ _ _ k.not-Load k.not-Store k.not-Jump k.not-BranchZero
