@@ -8,6 +8,11 @@ use native.Mathlib.Omega.{arith}
 use lib.Dec.{eqb, leb}
 use lib.ListN.{length}
 use borrow.Author.Tests.{leb-false, le-leb, lt-leb, eq-eqb, ne_eqb}
+use Rattle.location.specs.declared.Label.{Label}
+use Rattle.token.specs.declared.Expression.{Expression}
+use Rattle.instruction.specs.declared.Instruction.{Instruction}
+use Rattle.instruction.specs.declared.Instruction.TheVariants.{Skip, Assign, Load, Store, Jump, BranchZero, AssignIf, Barrier}
+use Rattle.instruction.specs.Meaning.{meaning}
 use Rattle.rules.specs.Rules.Instructions.{Instr, skip, assign, load, store, jmp, beqz, cassign, spbarr, branching, other, branch_view}
 use Rattle.rules.specs.Rules.Plain.{Code, State, end_place, fetch, exec}
 use Rattle.rules.specs.Rules.Mispredicting.{Branch, Machine, Step, expired, rolling, opening, forward, ordinary, lower, step_on, step, plain_step}
@@ -277,6 +282,20 @@ pub observed-kind : (mode : Mode) (i : Instr) (code : Code) (M : Machine) → sh
 observed-kind mode i =
     branch-or_other (λ (j : Instr). (code : Code) (M : Machine) → shown_by mode j ≡ length (forward_by mode code M j).obs) (branch-kind mode)
     (other-kind mode) i
+
+-- an instruction of any kind but these four makes none
+pub observed_none : (mode : Mode) (i : Instruction) → ((r : ℕ) (e : Expression) → i ≡ Load r e → ⊥)
+    → ((r : ℕ) (e : Expression) → i ≡ Store r e → ⊥) → ((e : Expression) → i ≡ Jump e → ⊥)
+    → ((r : ℕ) (l : Label) → i ≡ BranchZero r l → ⊥) → (p : List ℕ) (code : Code) (M : Machine)
+    → 0 ≡ length (forward_by mode code M (meaning p i)).obs
+observed_none mode Skip a b c d p code M = observed-kind mode _ code M
+observed_none mode (Assign r e) a b c d p code M = observed-kind mode _ code M
+observed_none mode (Load r e) a b c d p code M = absurd (a r e refl)
+observed_none mode (Store r e) a b c d p code M = absurd (b r e refl)
+observed_none mode (Jump e) a b c d p code M = absurd (c e refl)
+observed_none mode (BranchZero r l) a b c d p code M = absurd (d r l refl)
+observed_none mode (AssignIf r k e) a b c d p code M = observed-kind mode _ code M
+observed_none mode Barrier a b c d p code M = observed-kind mode _ code M
 
 -- no step makes more than two
 shown-most : (i : Instr) → shown i ≤ 2

@@ -93,29 +93,17 @@ forward-cause modes.Mispredicting code M i =
     (λ j e. ap (λ (s : Step). s.cause) (forward-other code M j e)) i
 
 -- ---- any instruction but a store
-abbrev NoStore : Instruction → Type 0
-NoStore Skip = Unit
-NoStore (Assign r e) = Unit
-NoStore (Load r e) = Unit
-NoStore (Store r e) = ⊥
-NoStore (Jump e) = Unit
-NoStore (BranchZero r l) = Unit
-NoStore (AssignIf r b e) = Unit
-NoStore Barrier = Unit
-
-other_fits : (p : List ℕ) (code : Code) (M : Machine) (i : Instruction) → NoStore i → false ≡ (ordinary code M (meaning p i)).overfull
+pub other_needs : (i : Instruction) → ((r : ℕ) (e : Expression) → i ≡ Store r e → ⊥) → (p : List ℕ) (code : Code) (M : Machine)
+    → false ≡ (ordinary code M (meaning p i)).overfull
 unfolding ordinary exec
-other_fits p code M Skip n = refl
-other_fits p code M (Assign r e) n = refl
-other_fits p code M (Load r e) n = refl
-other_fits p code M (Store r e) n = absurd n
-other_fits p code M (Jump e) n = refl
-other_fits p code M (BranchZero r l) n = refl
-other_fits p code M (AssignIf r b e) n = refl
-other_fits p code M Barrier n = refl
-
-pub other_needs : {i j : Instruction} → i ≡ j → NoStore j → (p : List ℕ) (code : Code) (M : Machine) → false ≡ (ordinary code M (meaning p i)).overfull
-other_needs {i} {j} e n p code M = rw e (other_fits p code M j n)
+other_needs Skip n p code M = refl
+other_needs (Assign r e) n p code M = refl
+other_needs (Load r e) n p code M = refl
+other_needs (Store r e) n p code M = absurd (n r e refl)
+other_needs (Jump e) n p code M = refl
+other_needs (BranchZero r l) n p code M = refl
+other_needs (AssignIf r b e) n p code M = refl
+other_needs Barrier n p code M = refl
 
 -- ---- a store, whose address is a
 module _ (p w : List ℕ) (cells : ℕ) (code : Code) (c : Control) (ec : code.cells ≡ cells) {i : Instruction} {r : ℕ} {e : Expression}

@@ -59,8 +59,7 @@ pub fn record_next(p: &[u8], t: Trailer, work: &mut [u64], c: Progress) -> Progr
         → Foreseen p.now t mode (standing work.old trace c) (standing work.new trace result) }
 {
     match super::rule::rule_of(c.control, t.count) {
-        Rule::Over => c,
-        Rule::RollBack => c,
+        Rule::Over | Rule::RollBack => c,
         Rule::Advance => {
             let place = Label::new(c.control.place);
             let d = program::fetch(work, work::LABELS, place);

@@ -26,17 +26,12 @@ fn observations_of(mode: Mode, i: Instruction) -> usize
     ensures { (p : List ℕ) (code : Code) (M : Machine) → result ≡ length (forward_by mode code M (meaning p i)).obs }
 {
     match i {
-        Instruction::Skip => 0,
-        Instruction::Assign(_, _) => 0,
-        Instruction::Load(_, _) => 1,
-        Instruction::Store(_, _) => 1,
-        Instruction::Jump(_) => 1,
+        Instruction::Load(_, _) | Instruction::Store(_, _) | Instruction::Jump(_) => 1,
         Instruction::BranchZero(_, _) => match mode {
             Mode::Plain => 1,
             Mode::Mispredicting => 2,
         },
-        Instruction::AssignIf(_, _, _) => 0,
-        Instruction::Barrier => 0,
+        _ => 0,
     }
 }
 
@@ -64,22 +59,14 @@ fn store_needs(p: &[u8], work: &[u64], cells: usize, i: Instruction) -> bool
     ensures { (code : Code) (c : Control) → code.cells ≡ cells
         → result ≡ (ordinary code (machine_of work.now c (registers + cells)) (meaning p.now i)).overfull }
 {
-    match i {
-        Instruction::Skip => false,
-        Instruction::Assign(_, _) => false,
-        Instruction::Load(_, _) => false,
-        Instruction::Store(_, e) => {
-            let a = expression::evaluate(p, work, e);
-            if a.value < cells as u64 {
-                return false;
-            }
-            outside::is_overfull(work, Address::new(a.value))
-        }
-        Instruction::Jump(_) => false,
-        Instruction::BranchZero(_, _) => false,
-        Instruction::AssignIf(_, _, _) => false,
-        Instruction::Barrier => false,
+    let Instruction::Store(_, e) = i else {
+        return false;
+    };
+    let a = expression::evaluate(p, work, e);
+    if a.value < cells as u64 {
+        return false;
     }
+    outside::is_overfull(work, Address::new(a.value))
 }
 
 // Whether the next step is such a store. Nothing is evaluated for it unless the table is full.
@@ -92,8 +79,7 @@ fn next_needs(p: &[u8], t: Trailer, work: &[u64], c: Control) -> bool
         return false;
     }
     match super::rule::rule_of(c, t.count) {
-        Rule::Over => false,
-        Rule::RollBack => false,
+        Rule::Over | Rule::RollBack => false,
         Rule::Advance => {
             let place = Label::new(c.place);
             let d = program::fetch(work, work::LABELS, place);

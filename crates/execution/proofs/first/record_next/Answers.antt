@@ -2,6 +2,7 @@
 use mathlib.Core.Path.{sym, ◌∙◌}
 use mathlib.Core.Bool.{true≢false}
 use native.Mathlib.Omega.{arith}
+use Rattle.std.proofs.Common.{inl, inr}
 use Rattle.rules.specs.Rules.JobFile.{locations}
 use Rattle.execution.specs.declared.Mode.TheVariants as modes
 use Rattle.execution.proofs.Machine.{closed-window, over-named, back-named, advance_named, place_inside}
@@ -61,23 +62,18 @@ record-requires c =
     let m = c.requires.0.limits.count_most in
     (c.requires.1.room, c.requires.3, omega arith)
 
+-- the run is not over; and rule 1 observes no set
 pub returns-in-Over : goal.returns-in-Over
 returns-in-Over c mode trace s =
     let a = c.args in
     let k = a.c.control in
-    let o = over-named k a.t.count a.work.now (locations a.t)
-    (sym c.in-Over.is ∙ c.rule_of.ensures a.work.now (locations a.t)) in
-    absurd (true≢false (sym o ∙ c.requires.2))
-
-pub returns-in-RollBack : goal.returns-in-RollBack
-returns-in-RollBack c mode trace s =
-    let a = c.args in
-    let k = a.c.control in
-    let g = back-named k a.t.count a.work.now (locations a.t)
-    (sym c.in-RollBack.is ∙ c.rule_of.ensures a.work.now (locations a.t)) in
+    let r = c.rule_of.ensures a.work.now (locations a.t) in
     let sets = c.well_formed.1.1.1.0.1.1.1.1.1 in
-    foresees_nothing a.p.now a.t mode a.work.now trace a.c (search (rules, sets.0)) (search (rules, sets.1.0))
-    (rolls_quiet a.p.now a.t mode a.work.now k s g)
+    elim c.in-Over.is [
+      | inl h ↦ absurd (true≢false (sym (over-named k a.t.count a.work.now (locations a.t) (sym h ∙ r)) ∙ c.requires.2))
+      | inr h ↦ foresees_nothing a.p.now a.t mode a.work.now trace a.c (search (rules, sets.0)) (search (rules, sets.1.0))
+          (rolls_quiet a.p.now a.t mode a.work.now k s (back-named k a.t.count a.work.now (locations a.t) (sym h ∙ r)))
+    ]
 
 pub returns-in_default : goal.returns-in_default
 returns-in_default c mode trace s =

@@ -3,6 +3,7 @@ use mathlib.Core.Path.{sym, ◌∙◌}
 use mathlib.Core.Bool.{true≢false}
 use native.Mathlib.Omega.{arith}
 use lib.ListN.{drop}
+use Rattle.std.proofs.Common.{inl, inr}
 use Rattle.rules.specs.Rules.JobFile.{locations}
 use Rattle.work.specs.Layout.{labels}
 use Rattle.work.specs.Words.{count_in}
@@ -57,20 +58,6 @@ store_needs-requires c =
     let r = c.requires.1.room in
     (rw c.instruction_of-i.ensures v.sound, omega arith)
 
-pub returns-in-Over : goal.returns-in-Over
-returns-in-Over c mode s =
-    let a = c.args in
-    let o = over-named a.c a.t.count a.work.now (locations a.t)
-    (sym c.in-Over.is ∙ c.rule_of.ensures a.work.now (locations a.t)) in
-    absurd (true≢false (sym o ∙ c.requires.2))
-
-pub returns-in-RollBack : goal.returns-in-RollBack
-returns-in-RollBack c mode s =
-    let a = c.args in
-    let g = back-named a.c a.t.count a.work.now (locations a.t)
-    (sym c.in-RollBack.is ∙ c.rule_of.ensures a.work.now (locations a.t)) in
-    sym (rolls_fitting a.p.now a.t mode a.work.now a.c s g)
-
 pub returns-in-Advance : goal.returns-in-Advance
 returns-in-Advance c mode s =
     let a = c.args in
@@ -84,3 +71,13 @@ returns-in-Advance c mode s =
     let same = c.instruction_of-i.ensures
     ∙ fetched_same p a.t mode w k s (place_inside g) c.new-place.ensures c.fetch-d.ensures in
     c.store_needs.ensures code k ec ∙ step-overfull p a.t mode w k g same
+
+-- the run is not over; and rule 1 needs none
+pub returns-in-Over : goal.returns-in-Over
+returns-in-Over c mode s =
+    let a = c.args in
+    let r = c.rule_of.ensures a.work.now (locations a.t) in
+    elim c.in-Over.is [
+      | inl h ↦ absurd (true≢false (sym (over-named a.c a.t.count a.work.now (locations a.t) (sym h ∙ r)) ∙ c.requires.2))
+      | inr h ↦ sym (rolls_fitting a.p.now a.t mode a.work.now a.c s (back-named a.c a.t.count a.work.now (locations a.t) (sym h ∙ r)))
+    ]

@@ -1,27 +1,8 @@
 -- `observations_of` meets its contract, kind by kind. Assumes nothing.
 use Rattle.execution.specs.declared.Mode.TheVariants as modes
-use Rattle.execution.proofs.Machine.{observed-kind}
+use Rattle.std.proofs.Common.{inl, inr}
+use Rattle.execution.proofs.Machine.{observed-kind, observed_none}
 use Rattle.execution.proofs.halt.observations_of.Goals as goal
-
-pub returns-in-Skip : goal.returns-in-Skip
-returns-in-Skip c =
-    rw c.in-Skip.is (λ p code M. observed-kind c.args.mode _ code M)
-
-pub returns-in-Assign : goal.returns-in-Assign
-returns-in-Assign c =
-    rw c.in-Assign.is (λ p code M. observed-kind c.args.mode _ code M)
-
-pub returns-in-Load : goal.returns-in-Load
-returns-in-Load c =
-    rw c.in-Load.is (λ p code M. observed-kind c.args.mode _ code M)
-
-pub returns-in-Store : goal.returns-in-Store
-returns-in-Store c =
-    rw c.in-Store.is (λ p code M. observed-kind c.args.mode _ code M)
-
-pub returns-in-Jump : goal.returns-in-Jump
-returns-in-Jump c =
-    rw c.in-Jump.is (λ p code M. observed-kind c.args.mode _ code M)
 
 pub returns-in-Plain : goal.returns-in-Plain
 returns-in-Plain c =
@@ -31,10 +12,18 @@ pub returns-in-Mispredicting : goal.returns-in-Mispredicting
 returns-in-Mispredicting c =
     rw (c.in-BranchZero.is, c.in-Mispredicting.is) (λ p code M. observed-kind modes.Mispredicting _ code M)
 
-pub returns-in-AssignIf : goal.returns-in-AssignIf
-returns-in-AssignIf c =
-    rw c.in-AssignIf.is (λ p code M. observed-kind c.args.mode _ code M)
+-- a load, a store or a jump
+pub returns-in-Load : goal.returns-in-Load
+returns-in-Load c =
+    elim c.in-Load.is [
+      | inl h ↦ rw h.2 (λ p code M. observed-kind c.args.mode _ code M)
+      | inr other ↦ elim other [
+        | inl h ↦ rw h.2 (λ p code M. observed-kind c.args.mode _ code M)
+        | inr h ↦ rw h.1 (λ p code M. observed-kind c.args.mode _ code M)
+      ]
+    ]
 
-pub returns-in-Barrier : goal.returns-in-Barrier
-returns-in-Barrier c =
-    rw c.in-Barrier.is (λ p code M. observed-kind c.args.mode _ code M)
+pub returns-in_default : goal.returns-in_default
+returns-in_default c =
+    let k = c.in_default in
+    observed_none _ _ k.not-Load k.not-Store k.not-Jump k.not-BranchZero
