@@ -23,36 +23,48 @@ const PRINTED: [u8; 28] =
 const BARRIER: [u8; 29] =
     *b"\x01\x02\x03\x00\x01\x1c\x05\x02\x05\x00\x07\x02\x03\x01\x00\x02\x04\x03\x03\x10\x02\x00\x00\x00\x00\x00\x00\x00\x13";
 
-// A job in an area of zeros: a program of `count` instructions, r0, r1, cell 1 = 1, r0 and r1 public, a window and a budget.
-fn lay_out(
-    program: &[u8],
+// What stands in a job beside its program's bytes: how many instructions and cells it has, r0, r1, the window and the budget.
+#[derive(Clone, Copy)]
+struct Numbers {
     count: u8,
     cells: u8,
     r0: u8,
     r1: u8,
     window: u8,
     budget: u8,
-    job: &mut [u8],
-)
+}
+
+// Those of the printed job.
+const NUMBERS: Numbers = Numbers {
+    count: 4,
+    cells: 4,
+    r0: 1,
+    r1: 1,
+    window: 10,
+    budget: 100,
+};
+
+// A job in an area of zeros: a program, its numbers, cell 1 = 1, r0 and r1 public.
+fn lay_out(program: &[u8], n: Numbers, job: &mut [u8])
     requires program_len_bound { length program.now ≤ 200 }
-    requires le_cells { 2 ≤ cells }
-    requires cells_in_bounds { length program.now + 8 * cells + 176 ≤ length job.old }
-    ensures { job.new ≡ laid_out program.now count cells r0 r1 window budget job.old }
+    requires le_cells { 2 ≤ n.cells }
+    requires cells_in_bounds { length program.now + 8 * n.cells + 176 ≤ length job.old }
+    ensures { job.new ≡ laid_out program.now n.count n.cells n.r0 n.r1 n.window n.budget job.old }
 {
     let s = program.len();
     job[..s].copy_from_slice(program);
-    let q = s + 128 + 8 * (cells as usize);
-    job[s] = r0;
-    job[s + 8] = r1;
+    let q = s + 128 + 8 * (n.cells as usize);
+    job[s] = n.r0;
+    job[s + 8] = n.r1;
     job[s + 136] = 1;
     job[q] = 3;
     job[q + 32] = (s % 256) as u8;
     job[q + 34] = (q % 256) as u8;
     job[q + 35] = (q / 256 % 256) as u8;
-    job[q + 36] = count;
-    job[q + 38] = cells;
-    job[q + 40] = window;
-    job[q + 44] = budget;
+    job[q + 36] = n.count;
+    job[q + 38] = n.cells;
+    job[q + 40] = n.window;
+    job[q + 44] = n.budget;
 }
 
 // The printed job with another r0, window or budget.
@@ -60,7 +72,13 @@ fn printed(r0: u8, window: u8, budget: u8) -> [u8; 236]
     ensures { result ≡ printedJob r0 window budget }
 {
     let mut job = [0u8; 236];
-    lay_out(&PRINTED, 4, 4, r0, 1, window, budget, &mut job);
+    let numbers = Numbers {
+        r0,
+        window,
+        budget,
+        ..NUMBERS
+    };
+    lay_out(&PRINTED, numbers, &mut job);
     job
 }
 
@@ -68,7 +86,11 @@ fn barrier() -> [u8; 237]
     ensures { result ≡ file barrier_program 5 (state 1 1 1) public 10 100 }
 {
     let mut job = [0u8; 237];
-    lay_out(&BARRIER, 5, 4, 1, 1, 10, 100, &mut job);
+    let numbers = Numbers {
+        count: 5,
+        ..NUMBERS
+    };
+    lay_out(&BARRIER, numbers, &mut job);
     job
 }
 
@@ -78,7 +100,14 @@ fn nested(label: u8) -> [u8; 217]
 {
     let program = [5, 0, label, 0, 5, 1, 3, 0, 0];
     let mut job = [0u8; 217];
-    lay_out(&program, 3, 4, 0, 0, 2, 100, &mut job);
+    let numbers = Numbers {
+        count: 3,
+        r0: 0,
+        r1: 0,
+        window: 2,
+        ..NUMBERS
+    };
+    lay_out(&program, numbers, &mut job);
     job
 }
 
@@ -87,7 +116,11 @@ fn cells_240() -> [u8; 2124]
     ensures { result ≡ many_cells 236 }
 {
     let mut job = [0u8; 2124];
-    lay_out(&PRINTED, 4, 240, 1, 1, 10, 100, &mut job);
+    let numbers = Numbers {
+        cells: 240,
+        ..NUMBERS
+    };
+    lay_out(&PRINTED, numbers, &mut job);
     job
 }
 
@@ -95,7 +128,11 @@ fn cells_241() -> [u8; 2132]
     ensures { result ≡ many_cells 237 }
 {
     let mut job = [0u8; 2132];
-    lay_out(&PRINTED, 4, 241, 1, 1, 10, 100, &mut job);
+    let numbers = Numbers {
+        cells: 241,
+        ..NUMBERS
+    };
+    lay_out(&PRINTED, numbers, &mut job);
     job
 }
 

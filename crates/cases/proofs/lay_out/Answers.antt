@@ -47,5 +47,5 @@ pub returns : goal.returns
 unfolding stores
 returns c =
     let a = c.args in
-    laid_out_lem a.program.now a.job.now a.count a.cells a.r0 a.r1 a.window a.budget refl
+    laid_out_lem a.program.now a.job.now a.n.count a.n.cells a.n.r0 a.n.r1 a.n.window a.n.budget refl
     (ap (λ (p : List ℕ). p ++ drop (length a.program.now) a.job.now) (c.copy_from_slice.ensures.after ∙ sym (take-length a.program.now)))
