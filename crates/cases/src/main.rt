@@ -4,7 +4,7 @@
 // Where the output cannot be written, it says why on standard error and ends with status 1.
 #![tactic(auto)]
 
-ghost use Rattle.std.specs.Prelude.{◌≡◌, ◌+◌, ◌*◌, ◌≤◌, length};
+ghost use Rattle.std.specs.Prelude.{◌≡◌, ◌+◌, ◌-◌, ◌*◌, ◌≤◌, length};
 ghost use Rattle.rules.specs.Rules.Encoding.{word_bytes};
 ghost use Rattle.rules.specs.Cases.Files.{file};
 ghost use Rattle.rules.specs.Cases.Document01.{barrier_program, public, state};
@@ -111,27 +111,14 @@ fn nested(label: u8) -> [u8; 217]
     job
 }
 
-// The printed job with 240 cells, and with 241.
-fn cells_240() -> [u8; 2124]
-    ensures { result ≡ many_cells 236 }
+// The printed job with more cells, in the bytes that they take.
+fn with_cells<const N: usize>(cells: u8) -> [u8; N]
+    requires le_cells { 4 ≤ cells }
+    requires n_holds { N ≡ 204 + 8 * cells }
+    ensures { result ≡ many_cells (cells - 4) }
 {
-    let mut job = [0u8; 2124];
-    let numbers = Numbers {
-        cells: 240,
-        ..NUMBERS
-    };
-    lay_out(&PRINTED, numbers, &mut job);
-    job
-}
-
-fn cells_241() -> [u8; 2132]
-    ensures { result ≡ many_cells 237 }
-{
-    let mut job = [0u8; 2132];
-    let numbers = Numbers {
-        cells: 241,
-        ..NUMBERS
-    };
+    let mut job = [0u8; N];
+    let numbers = Numbers { cells, ..NUMBERS };
     lay_out(&PRINTED, numbers, &mut job);
     job
 }
@@ -206,8 +193,8 @@ fn show_all(rt: &impl Print) -> io::Result<()> {
         &second_state(),
     )?;
     show_case(rt, "nested", &nested(3), 512)?;
-    show_case(rt, "m 240", &cells_240(), 512)?;
-    show_case(rt, "m 241", &cells_241(), 512)?;
+    show_case(rt, "m 240", &with_cells::<2124>(240), 512)?;
+    show_case(rt, "m 241", &with_cells::<2132>(241), 512)?;
     show_case(rt, "nested, first label 1", &nested(1), 512)
 }
 
