@@ -69,8 +69,7 @@ pub fn part_at(text: &[u8], at: usize) -> Part
         return Part::Name(start, name_end(text, start));
     }
     match byte {
-        b'\n' => Part::End,
-        b'#' => Part::End,
+        b'\n' | b'#' => Part::End,
         b'(' => Part::Opening(start + 1),
         b')' => Part::Closing(start + 1),
         _ => Part::Other,

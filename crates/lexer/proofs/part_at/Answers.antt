@@ -1,5 +1,7 @@
 -- `lexer::part_at` meets its contract, by the byte after the spaces. Assumes nothing.
-use Rattle.std.proofs.Common.{arith}
+use Rattle.std.proofs.Common.{arith, ◌≡◌, inl, inr}
+use mathlib.Core.Logic.{◌⊎◌}
+use borrow.Author.Rules.{rules}
 use Rattle.lexer.proofs.Laws.{none_told, newline-told, remark-told, opening-told, closing_told, other-told, name-told}
 use Rattle.lexer.proofs.part_at.Goals as goal
 
@@ -11,13 +13,11 @@ pub returns-in-10 : goal.returns-in-10
 returns-in-10 c =
     let a = c.args in
     let found = c.in-Some.ensures.lookup.3 in
-    let b = found.1 0 in newline-told a.text.now a.at _ c.blanks_end-start.ensures found.0 (cc)
-
-pub returns-in-35 : goal.returns-in-35
-returns-in-35 c =
-    let a = c.args in
-    let found = c.in-Some.ensures.lookup.3 in
-    let b = found.1 0 in remark-told a.text.now a.at _ c.blanks_end-start.ensures found.0 (cc)
+    let b = found.1 0 in
+    elim c.in-10.is [
+      | inl e ↦ newline-told a.text.now a.at _ c.blanks_end-start.ensures found.0 (cc)
+      | inr e ↦ remark-told a.text.now a.at _ c.blanks_end-start.ensures found.0 (cc)
+    ]
 
 pub returns-in-40 : goal.returns-in-40
 returns-in-40 c =
@@ -42,5 +42,6 @@ returns-in_default-byte c =
     let a = c.args in
     let found = c.in-Some.ensures.lookup.3 in
     let b = found.1 0 in
+    let apart : c.in-Some.field-0.now ≡ 10 ⊎ c.in-Some.field-0.now ≡ 35 → ⊥ = search rules in
     other-told a.text.now a.at _ c.blanks_end-start.ensures found.0 (cc)
-    (λ h. omega arith) (λ h. omega arith) (λ h. omega arith) (λ h. omega arith)
+    (λ h. apart (inl (cc))) (λ h. apart (inr (cc))) (λ h. omega arith) (λ h. omega arith)
