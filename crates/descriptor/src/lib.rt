@@ -150,7 +150,8 @@ fn shape_of_jump(p: &[u8], at: usize) -> u8
     JUMP_CONSTANT
 }
 
-// The shape of the instruction at an offset, by its kind byte.
+// The shape of the instruction at an offset, by its kind byte: here and below the number that the job file has (C interface). By `rules::Kind` each
+// function would look at it twice, `instruction_at` in the midst of a step, and answer a refusal too, though the program was accepted.
 fn shape_at(p: &[u8], at: usize) -> u8
     requires { at + 13 < 2 ^ 64 }
     ensures { result ≡ shape_at p.now at }

@@ -55,7 +55,8 @@ pub fn check_program(p: &[u8], n: usize) -> Result<usize, Refusal>
     Ok(at)
 }
 
-// Writes the words of the n instructions of an accepted program to a table, from a base on.
+// Writes the words of the n instructions of an accepted program to a table, from a base on. Here and below the table is a part of the working words
+// that the caller lends (C interface). Other parts are written between these calls, so that a struct of slice and base would be made for each.
 pub fn write_words(p: &[u8], n: usize, table: &mut [u64], base: usize)
     requires { (readable (program n n 0 p.now 0) ≡ true) × (length p.now ≤ offsets) × (base + n ≤ length table.old) }
     ensures { table.new ≡ sets table.old base (words_from n p.now 0) }

@@ -34,7 +34,7 @@ pub struct Progress {
     pub plain: LocationSet,
 }
 
-// Observation number k, of a kind.
+// Observation number k, of a kind: a number, as the caller's trace area holds it (C interface).
 fn observe(trace: &mut [u64], k: usize, kind: u64, value: u64)
     requires { 2 * k + 2 ≤ length trace.old }
     ensures { trace.new ≡ sets trace.old (2 * k) (kind ∷ value ∷ []) }

@@ -37,6 +37,8 @@ pub fn word(s: &[u8], at: usize) -> u64
 }
 
 // A token: a register, a constant, or an operator of one or of two operands by its place in the rules' table of them.
+// An operator is that number and no enum: a step goes by it too (`expression::values`), where an enum would be one more look at the token, and an
+// enum for the printer of texts alone would be a second form of the same.
 #[derive(Drop)]
 pub enum Token {
     Register(u8),
@@ -52,7 +54,8 @@ pub struct TokenAt {
     pub next: usize,
 }
 
-// The token at an offset where one can be read: taken as it stands, with no test of the length.
+// The token at an offset where one can be read: taken as it stands, with no test of the length. The numbers, here and below, are the bytes of the
+// job file (C interface): up to 15 a register, 16 a constant, 17 and 18 an operator of one operand, 19 to 28 one of two.
 pub fn token_at(p: &[u8], at: usize) -> TokenAt
     requires { readable (token p.now at) ≡ true }
     ensures { got (token_meaning result.token) result.next ≡ token p.now at }
