@@ -23,6 +23,14 @@ struct Progress {
     to: usize,
 }
 
+// The instruction that a line holds: its label, below the limit of a program, and how many instructions the routine has.
+#[derive(Clone, Copy)]
+struct Numbered {
+    label: usize,
+    count: usize,
+    ghost is_label: { label < max_instructions },
+}
+
 // Whether no part stands in the line from an offset on.
 fn ends_at(text: &[u8], at: usize) -> bool
     ensures { result ≡ no_parts (parts (drop at text.now)) }
@@ -57,19 +65,19 @@ fn read_operand(text: &[u8], p: Progress, out: &mut [u8]) -> Option<Progress>
     })
 }
 
-// The label of a branch that has label i itself, in a program of n instructions.
-fn read_label(text: &[u8], p: Progress, n: usize, i: usize, out: &mut [u8]) -> Option<Progress>
-    requires { (p.to + 2 < 2 ^ 64) × (i + 1 < 2 ^ 64) }
-    ensures { LabelTold text.now p.at n i out.old p.to out.new result }
+// The label of a branch, which is an instruction itself.
+fn read_label(text: &[u8], p: Progress, own: Numbered, out: &mut [u8]) -> Option<Progress>
+    requires { p.to + 2 < 2 ^ 64 }
+    ensures { LabelTold text.now p.at own.count own.label out.old p.to out.new result }
 {
     let Part::Name(start, end) = lexer::part_at(text, p.at) else {
         return None;
     };
     let label = names::constant_named(&text[start..end])?;
-    if (n as u64) < label {
+    if (own.count as u64) < label {
         return None;
     }
-    if label == (i + 1) as u64 {
+    if label == (own.label + 1) as u64 {
         return None;
     }
     let next = byte_writer::put_number(out, p.to, label, 2);
@@ -86,12 +94,12 @@ fn read_assignment(text: &[u8], p: Progress, out: &mut [u8]) -> Option<Progress>
 }
 
 // A register, then a label.
-fn read_branch(text: &[u8], p: Progress, n: usize, i: usize, out: &mut [u8]) -> Option<Progress>
-    requires { (p.to + 3 < 2 ^ 64) × (i + 1 < 2 ^ 64) }
-    ensures { BranchTold text.now p.at n i out.old p.to out.new result }
+fn read_branch(text: &[u8], p: Progress, own: Numbered, out: &mut [u8]) -> Option<Progress>
+    requires { p.to + 3 < 2 ^ 64 }
+    ensures { BranchTold text.now p.at own.count own.label out.old p.to out.new result }
 {
     let p = read_register(text, p, out)?;
-    read_label(text, p, n, i, out)
+    read_label(text, p, own, out)
 }
 
 // A register, then two operands.
@@ -103,23 +111,22 @@ fn read_conditional(text: &[u8], p: Progress, out: &mut [u8]) -> Option<Progress
     read_operand(text, p, out)
 }
 
-// What follows an instruction word, by kind. The instruction has label i, of n.
+// What follows an instruction word, by kind.
 fn read_fields(
     text: &[u8],
     p: Progress,
     kind: Kind,
-    n: usize,
-    i: usize,
+    own: Numbered,
     out: &mut [u8],
 ) -> Option<Progress>
-    requires { (p.to + 291 < 2 ^ 64) × (i + 1 < 2 ^ 64) }
-    ensures { FieldsTold text.now p.at (kind_number kind) n i out.old p.to out.new result }
+    requires { p.to + 291 < 2 ^ 64 }
+    ensures { FieldsTold text.now p.at (kind_number kind) own.count own.label out.old p.to out.new result }
 {
     match kind {
         Kind::Skip | Kind::Barrier => Some(p),
         Kind::Assign | Kind::Load | Kind::Store => read_assignment(text, p, out),
         Kind::Jump => read_operand(text, p, out),
-        Kind::BranchZero => read_branch(text, p, n, i, out),
+        Kind::BranchZero => read_branch(text, p, own, out),
         Kind::AssignIf => read_conditional(text, p, out),
     }
 }
@@ -136,21 +143,20 @@ fn read_instruction(
     text: &[u8],
     p: Progress,
     kind: Kind,
-    n: usize,
-    i: usize,
+    own: Numbered,
     out: &mut [u8],
 ) -> Option<LineRead>
-    requires { (p.to + largest < 2 ^ 64) × (i < max_instructions) }
-    ensures { LineTold (instruction_line text.now p.at (kind_number kind)) n i out.old p.to out.new result }
+    requires { p.to + largest < 2 ^ 64 }
+    ensures { LineTold (instruction_line text.now p.at (kind_number kind)) own.count own.label out.old p.to out.new result }
 {
     let to = byte_writer::put_byte(out, p.to, u8::from(kind));
-    let p = read_fields(text, Progress { to, ..p }, kind, n, i, out)?;
+    let p = read_fields(text, Progress { to, ..p }, kind, own, out)?;
     if !ends_at(text, p.at) {
         return None;
     }
     Some(LineRead {
         to: p.to,
-        count: i + 1,
+        count: own.label + 1,
     })
 }
 
@@ -166,7 +172,8 @@ fn read_line(text: &[u8], p: Progress, n: usize, i: usize, out: &mut [u8]) -> Op
                 return None;
             }
             let kind = names::kind_named(&text[start..end])?;
-            read_instruction(text, Progress { at: end, ..p }, kind, n, i, out)
+            let own = Numbered { label: i, count: n };
+            read_instruction(text, Progress { at: end, ..p }, kind, own, out)
         }
         _ => None,
     }

@@ -7,17 +7,17 @@ use Rattle.text_reader.proofs.Fields.{told-by, first-unread, both_told}
 use Rattle.text_reader.proofs.read_branch.Goals as goal
 
 pub read_label-requires : goal.read_label-requires
-read_label-requires c = (omega (arith, c.in_ok-p.ensures.size), c.requires.1)
+read_label-requires c = omega (arith, c.in_ok-p.ensures.size)
 
 pub returns-in_err-p : goal.returns-in_err-p
 returns-in_err-p c =
     let a = c.args in
     let ps = parts (drop a.p.at a.text.now) in
-    told-by (both register (label a.n a.i)) a.text.now (and_then (by_name register_named) (by_name constant_named) ps) a.out.now a.p.to c.read_register.new.out (sym c.from_residual.ensures)
-    (first-unread register (label a.n a.i) (by_name register_named) (by_name constant_named) a.text.now ps c.in_err-p.ensures)
+    told-by (both register (label a.own.count a.own.label)) a.text.now (and_then (by_name register_named) (by_name constant_named) ps) a.out.now a.p.to c.read_register.new.out (sym c.from_residual.ensures)
+    (first-unread register (label a.own.count a.own.label) (by_name register_named) (by_name constant_named) a.text.now ps c.in_err-p.ensures)
 
 pub returns : goal.returns
 returns c =
     let a = c.args in
     let s = c.read_label in
-    both_told register (label a.n a.i) (by_name register_named) (by_name constant_named) a.text.now (parts (drop a.p.at a.text.now)) c.in_ok-p.ensures s.new.out s.result s.ensures
+    both_told register (label a.own.count a.own.label) (by_name register_named) (by_name constant_named) a.text.now (parts (drop a.p.at a.text.now)) c.in_ok-p.ensures s.new.out s.result s.ensures
