@@ -1,9 +1,8 @@
 -- The words of an answer, as the code writes them one by one.
 -- Assumes nothing.
 use mathlib.Core.Path.{◌≡◌, refl, sym, ap, ◌∙◌}
-use mathlib.Core.Logic.{◌≢◌}
 use mathlib.Core.List.{List, [], ◌∷◌, ◌++◌}
-use Prim.Native.Nat.{ℕ, zero, suc, ◌+◌, ◌-◌, ◌*◌, ◌%◌, ◌<◌, ◌≤◌}
+use Prim.Native.Nat.{ℕ, zero, suc, ◌+◌, ◌*◌, ◌<◌, ◌≤◌}
 use native.Mathlib.Nat.{add-zero}
 use native.Mathlib.Omega.{arith}
 use borrow.Rule.Slice.PartMut.{put_mid}
@@ -12,9 +11,10 @@ use Rattle.std.proofs.Common.{append_assoc}
 use Rattle.std.proofs.lemmas.List.{length-take-le}
 use lib.Seq.{drop-drop, sets, sets-eq, length-sets, set-set, set_comm, ext_get_or}
 use Rattle.location.specs.declared.LocationSet.{LocationSet}
-use Rattle.location.specs.Sets.{limit, rest}
+use Rattle.location.specs.Sets.{limit}
+use Rattle.location.specs.Members.{NoneFrom, IsFirst}
 use Rattle.location.proofs.Laws.{four}
-use Rattle.location.proofs.Filling.{Filled, filled_none, filled-word, filled-other, filled_next}
+use Rattle.location.proofs.Filling.{Filled, filled_none, filled_all, filled_next}
 use Rattle.rules.specs.declared.Verdict.{Verdict}
 use Rattle.rules.specs.declared.Counts.{Counts}
 use Rattle.rules.specs.declared.PlainCounts.{PlainCounts}
@@ -69,46 +69,43 @@ report-set l at (y ∷ ys) (suc n) x h =
     let e : at + 3 * suc n ≡ suc (suc (suc at)) + 3 * n = omega arith in
     rw e (report-set (sets l at (report_words y)) (suc (suc (suc at))) ys n x (omega arith))
 
--- A walk over set s writes the reports xs, and location n is next. The area was l₀ when the walk began and is l₁ now: as if the reports so far
+-- A walk over the members of s writes the reports xs, and the next member is n or later. The area was l₀ when the walk began and is l₁ now: as if the reports so far
 -- were written over any area l of which l₀ has the words, but for those of the reports, which are 0.
 pub record Reported (l₀ : List ℕ) (at : ℕ) (s : LocationSet) (xs : List First) (l₁ : List ℕ) (n : ℕ) : Type 0 where
   pub written : List First
   pub filled : Filled s no_report (λ k. get_or xs k no_report) written n
   pub area : (l : List ℕ) → l₀ ≡ sets l at (replicate 768 0) → l₁ ≡ sets l at (reports_words written)
 
-pub none-reported : (l₀ : List ℕ) (at : ℕ) {s : LocationSet} {xs : List First} → MembersOnly s xs → Reported l₀ at s xs l₀ 0
-none-reported l₀ at {s} {xs} h = record {
+pub none-reported : (l₀ : List ℕ) (at : ℕ) {s t : LocationSet} {xs : List First} {n : ℕ} → t ≡ s → n ≡ 0 → MembersOnly s xs → Reported l₀ at t xs l₀ n
+none-reported l₀ at {s} {t} {xs} e z h = rw (e, z) (record {
   written = replicate limit no_report;
   filled = filled_none s no_report (λ k. get_or xs k no_report) h.nothing;
-  area = λ l e. e ∙ ap (sets l at) (none-words limit);
-}
+  area = λ l f. f ∙ ap (sets l at) (none-words limit);
+})
 
 module _ {l₀ : List ℕ} {at : ℕ} {s : LocationSet} {xs : List First} {l₁ : List ℕ} {n : ℕ} (h : Reported l₀ at s xs l₁ n) where
   pub reported-length : (l : List ℕ) → l₀ ≡ sets l at (replicate 768 0) → length l₁ ≡ length l
   reported-length l cleared = ap length (h.area l cleared) ∙ length-sets l at (reports_words h.written)
 
-  pub all-reported : (l : List ℕ) → l₀ ≡ sets l at (replicate 768 0) → length xs ≡ limit → limit ≤ n → l₁ ≡ sets l at (reports_words xs)
+  pub all-reported : (l : List ℕ) → l₀ ≡ sets l at (replicate 768 0) → length xs ≡ limit → NoneFrom s n limit → l₁ ≡ sets l at (reports_words xs)
   all-reported l cleared size last = h.area l cleared ∙ ap (λ (ys : List First). sets l at (reports_words ys)) same
     where
+      all : Filled s no_report (λ k. get_or xs k no_report) h.written limit
+      all = filled_all h.filled last
+
       same : h.written ≡ xs
-      same = ext_get_or no_report h.written xs (h.filled.size ∙ sym size) (λ k i. h.filled.passed k (omega (arith, h.filled.size)))
+      same = ext_get_or no_report h.written xs (all.size ∙ sym size) (λ k i. all.passed k (omega (arith, all.size)))
 
-  -- j is the number of location n, and r what is left of its word of the set
-  module _ {j r : ℕ} (next : n < limit) (same : j ≡ n) (left : r ≡ rest s j) where
-    pub reported-word : r ≡ 0 → Reported l₀ at s xs l₁ (n + (64 - n % 64))
-    reported-word e = record { written = h.written; filled = filled-word h.filled next same left e; area = h.area }
-
-    pub reported-other : r % 2 ≢ 1 → Reported l₀ at s xs l₁ (n + 1)
-    reported-other e = record { written = h.written; filled = filled-other h.filled next same left e; area = h.area }
-
-    pub reported-next : r % 2 ≡ 1 → {l₂ : List ℕ} → l₂ ≡ sets l₁ (at + 3 * n) (report_words (get_or xs n no_report)) → Reported l₀ at s xs l₂ (n + 1)
-    reported-next e e₂ = record {
-      written = set h.written n (get_or xs n no_report);
-      filled = filled_next h.filled next same left e (λ m. refl);
-      area = λ l cleared.
-          e₂ ∙ ap (λ (m : List ℕ). sets m (at + 3 * n) (report_words (get_or xs n no_report))) (h.area l cleared)
-          ∙ report-set l at h.written n (get_or xs n no_report) (omega (arith, h.filled.size));
-    }
+  -- the next member is m: j is its number, k the place after it, and t the set that is left to walk over
+  pub reported-next : {m j k : ℕ} {t : LocationSet} → IsFirst s n m → t ≡ s → k ≡ m + 1 → j ≡ m
+      → {l₂ : List ℕ} → l₂ ≡ sets l₁ (at + 3 * j) (report_words (get_or xs j no_report)) → Reported l₀ at t xs l₂ k
+  reported-next {m} next e f g e₂ = rw (e, f) (record {
+    written = set h.written m (get_or xs m no_report);
+    filled = filled_next h.filled next (λ i. refl);
+    area = λ l cleared.
+        (rw g at e₂) ∙ ap (λ (k : List ℕ). sets k (at + 3 * m) (report_words (get_or xs m no_report))) (h.area l cleared)
+        ∙ report-set l at h.written m (get_or xs m no_report) (omega (arith, h.filled.size, next.below));
+  })
 
 -- ---- the answers
 -- the words are l, then l₁ after the counts, then l₂ after the sets and l₃ after the reports

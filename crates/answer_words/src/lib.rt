@@ -7,7 +7,7 @@ ghost use Rattle.rules.specs.Rules.Answers.{refusal_number};
 ghost use Rattle.answer_words.specs.Words.{count_words, report_words, reports_words, MembersOnly, run_words, plain_words, pair_words};
 ghost use Rattle.answer_words.specs.Words.{unfinished_words, test_load_words, read_words, print_words};
 
-use location::{Location, LocationSet};
+use location::LocationSet;
 use rules::{Counts, First, PairWord, PlainCounts, Refusal, Verdict};
 
 // How many words the reports of all locations have.
@@ -60,18 +60,9 @@ fn write_reports(
     ensures { answer.new ≡ sets answer.old at (reports_words firsts) }
 {
     clear_reports(answer, at);
-    // Words of D that are empty are passed at once, for the speed (docs/PERFORMANCE.md): a `for` would ask of each location.
-    let mut l = 0;
-    while l < LocationSet::LIMIT {
-        let left = full.rest(Location::new(l));
-        if left == 0 {
-            l += LocationSet::BITS - l % LocationSet::BITS;
-        } else if left % 2 == 1 {
-            write_report(firsts[l], answer, at + 3 * l);
-            l += 1;
-        } else {
-            l += 1;
-        }
+    for l in full.members() {
+        let i = l.index();
+        write_report(firsts[i], answer, at + 3 * i);
     }
 }
 

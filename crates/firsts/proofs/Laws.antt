@@ -13,7 +13,7 @@ use lib.ListN.{length, get_or, drop, set, length-set}
 use lib.Seq.{ext_get_or, get_or-set_same, get_or-set_other, drop-set-lt, drop-cons}
 use Rattle.std.proofs.lemmas.List.{drop_all}
 use Rattle.location.specs.declared.LocationSet.{LocationSet}
-use Rattle.location.specs.Sets.{limit, bit, has, subset, member, rest}
+use Rattle.location.specs.Sets.{limit, bit, has, subset, member}
 use Rattle.location.specs.SetLaws.{bit_0, bit_half, bit-zero, has_head, has_tail, has-nil, subset-within}
 use Rattle.rules.specs.declared.Cause.{Cause}
 use Rattle.rules.specs.declared.Cause.TheVariants.{Branch, Jump, Load, Store}
@@ -24,7 +24,8 @@ use Rattle.rules.specs.Rules.Limits.{max_instructions}
 use Rattle.work.specs.Layout.{reports, report_base, labels}
 use Rattle.rules.specs.Rules.Firsts.{no_report, firsts_of}
 use Rattle.rules.proofs.Theorems.Firsts.{firsts-none}
-use Rattle.location.proofs.Filling.{Filled, filled_none, filled_next}
+use Rattle.location.proofs.Filling.{Filled, filled_none, filled_all, filled_next}
+use Rattle.location.specs.Members.{NoneFrom, IsFirst}
 use Rattle.work.proofs.Past.{SameMachine, machine-refl, machine_trans, past_same}
 use Rattle.firsts.specs.Reports.{report, packed, cause_at, unpacked, report_in, report_on, reports_in}
 use Rattle.firsts.specs.Recording.{recorded_bit, recorded_bits, recorded_from, recorded}
@@ -281,19 +282,24 @@ reports-at w full l (suc n) (suc k) h =
     reports-at w full (l + 1) n k (omega arith) ∙ ap (report_on w full) e
 
 -- ---- the list of all reports, filled by a walk over D
-pub reports-none : (w : List ℕ) (full : LocationSet) {xs : List First} → xs ≡ firsts_of [] → Filled full no_report (report_on w full) xs 0
-reports-none w full e =
-    rw (e, firsts-none) (filled_none full no_report (report_on w full) (λ k h m. ap (λ (b : Bool). cond b (report_in w k) no_report) m))
+-- the walk over set t begins at the first location
+pub reports-none : (w : List ℕ) (full : LocationSet) {t : LocationSet} {n : ℕ} {xs : List First} → t ≡ full → n ≡ 0 → xs ≡ firsts_of []
+    → Filled t no_report (report_on w full) xs n
+reports-none w full e z f =
+    rw (e, z, f, firsts-none) (filled_none full no_report (report_on w full) (λ k h m. ap (λ (b : Bool). cond b (report_in w k) no_report) m))
 
--- location l of D has its report; j is its number, and r what is left of its word
-pub reports-next : (w : List ℕ) (full : LocationSet) {xs : List First} {l j r : ℕ} → Filled full no_report (report_on w full) xs l → l < limit
-    → j ≡ l → r ≡ rest full j → r % 2 ≡ 1 → {x : First} → x ≡ report_in w l → Filled full no_report (report_on w full) (set xs l x) (l + 1)
-reports-next w full {l = l} h next same left odd e =
-    filled_next h next same left odd (λ m. e ∙ ap (λ (b : Bool). cond b (report_in w l) no_report) (sym m))
+-- location m of D has its report: j is its number, and k the place after it
+pub reports-next : (w : List ℕ) (full : LocationSet) {s t : LocationSet} {xs : List First} {n m j k : ℕ} → Filled s no_report (report_on w full) xs n
+    → s ≡ full → IsFirst s n m → t ≡ s → k ≡ m + 1 → j ≡ m → {x : First} → x ≡ report_in w j → Filled t no_report (report_on w full) (set xs j x) k
+reports-next w full {m = m} h same next e f g {x} stored =
+    rw (e, f, g) (filled_next h next (λ i. (rw g at stored) ∙ ap (λ (b : Bool). cond b (report_in w m) no_report) (sym ((rw same at i)))))
 
-pub reports-all : (w : List ℕ) (full : LocationSet) {xs : List First} {l : ℕ} → Filled full no_report (report_on w full) xs l → limit ≤ l
-    → xs ≡ reports_in w full 0 limit
-reports-all w full {xs} h e =
+pub reports-all : (w : List ℕ) (full : LocationSet) {s : LocationSet} {xs : List First} {n : ℕ} → Filled s no_report (report_on w full) xs n
+    → NoneFrom s n limit → xs ≡ reports_in w full 0 limit
+reports-all w full {s} {xs} h last =
     ext_get_or no_report xs (reports_in w full 0 limit) (h.size ∙ sym (reports-length w full 0 limit))
     (λ k i. let b : k < limit = omega (arith, h.size) in
-    h.passed k (omega arith) ∙ sym (reports-at w full 0 limit k b ∙ ap (report_on w full) (zero-add k)))
+    all.passed k b ∙ sym (reports-at w full 0 limit k b ∙ ap (report_on w full) (zero-add k)))
+  where
+    all : Filled s no_report (report_on w full) xs limit
+    all = filled_all h last

@@ -10,7 +10,7 @@ ghost use Rattle.rules.specs.Rules.Firsts.{no_report, firsts_of};
 ghost use Rattle.firsts.specs.Reports.{report, packed, cause_at, unpacked, reports_in};
 ghost use Rattle.firsts.specs.Recording.{recorded_bit, recorded_bits, recorded};
 
-use location::{Location, LocationSet};
+use location::LocationSet;
 use rules::{Cause, First};
 
 // What an index counts in a packed word, and what a cause does; a label is less than CAUSE.
@@ -137,24 +137,15 @@ pub fn nothing() -> [First; LocationSet::LIMIT]
     [first; LocationSet::LIMIT]
 }
 
-// What is reported of every location. Where nothing is left of a word of D, the next word follows: nothing is reported of what is passed.
-// So the place moves by more than 1, and there is no `for`: one over all locations took more than a short run.
+// What is reported of every location: of those that are not in D nothing.
 pub fn reports(work: &[u64], full: LocationSet) -> [First; LocationSet::LIMIT]
     requires { working_words ≤ length work.now }
     ensures { result ≡ reports_in work.now full 0 limit }
 {
     let mut firsts = nothing();
-    let mut l = 0;
-    while l < LocationSet::LIMIT {
-        let left = full.rest(Location::new(l));
-        if left == 0 {
-            l += BITS - l % BITS;
-        } else if left % 2 == 1 {
-            firsts[l] = unpack(work[work::REPORTS + l]);
-            l += 1;
-        } else {
-            l += 1;
-        }
+    for l in full.members() {
+        let i = l.index();
+        firsts[i] = unpack(work[work::REPORTS + i]);
     }
     firsts
 }

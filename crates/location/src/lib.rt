@@ -3,8 +3,10 @@
 // there is no `From` between them and numbers.
 #![tactic(auto)]
 
-ghost use Rattle.std.specs.Prelude.{◌≡◌, ◌+◌, ◌<◌, ◌^◌};
+ghost use Rattle.std.specs.Prelude.{◌≡◌, ◌+◌, ◌-◌, ◌<◌, ◌^◌};
+ghost use Rattle.std.specs.Iterator.{at_most};
 ghost use Rattle.location.specs.Sets.{registers, limit, empty, single, union, subset, member, rest};
+ghost use Rattle.location.specs.Members.{IsFirstFrom, GivesMember};
 
 // An instruction's number in the program; the number of instructions is the place END.
 #[derive(Clone, Copy)]
@@ -143,5 +145,62 @@ impl LocationSet {
         ensures { result ≡ rest self l.0 }
     {
         self.words[l.0 / Self::BITS] >> (l.0 % Self::BITS)
+    }
+
+    // The first location of the set from l on. Where nothing is left of a word, the next word follows, so that no range gives the places.
+    fn first_from(self, l: usize) -> Option<Location>
+        ensures { IsFirstFrom self l result }
+    {
+        let mut at = l;
+        while at < Self::LIMIT {
+            let left = self.rest(Location(at));
+            if left == 0 {
+                at += Self::BITS - at % Self::BITS;
+            } else if left % 2 == 1 {
+                return Some(Location(at));
+            } else {
+                at += 1;
+            }
+        }
+        None
+    }
+
+    // The locations of the set from l on, in their order.
+    pub fn members_from(self, l: Location) -> Members
+        ensures { (result.set ≡ self) × (result.next ≡ l.0) }
+    {
+        Members {
+            set: self,
+            next: l.0,
+        }
+    }
+
+    // The locations of the set, in their order.
+    pub fn members(self) -> Members
+        ensures { (result.set ≡ self) × (result.next ≡ 0) }
+    {
+        self.members_from(Location(0))
+    }
+}
+
+// The locations of a set from one number on. From `LocationSet::members`.
+#[derive(Clone, Drop)]
+pub struct Members {
+    set: LocationSet,
+    // What was given, and all that was passed, is below.
+    next: usize,
+}
+
+impl Iterator for Members {
+    type Item = Location;
+
+    ghost next_gives = { GivesMember };
+
+    ghost remaining = { λ s. at_most (limit - s.next) };
+
+    fn next(&mut self) -> Option<Location> {
+        let l = self.set.first_from(self.next)?;
+        self.next = l.0 + 1;
+        Some(l)
     }
 }
