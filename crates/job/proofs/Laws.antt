@@ -1,16 +1,19 @@
 -- How the code's tests of the parts of a file meet the rules' parse.
 -- Assumes nothing.
 use mathlib.Core.Path.{◌≡◌, refl, sym, ap, ◌∙◌}
-use mathlib.Core.Bool.{Bool, true, false, cond}
+use mathlib.Core.Bool.{Bool, true, false, not, cond, true≢false}
 use mathlib.Core.List.{List}
-use Prim.Native.Nat.{ℕ, zero, suc, ◌+◌, ◌-◌, ◌%◌, ◌<◌, ◌≤◌}
+use Prim.Native.Nat.{ℕ, zero, suc, ◌+◌, ◌-◌, ◌<◌, ◌≤◌}
 use native.Mathlib.Omega.{arith}
-use Rattle.std.specs.Prelude.{◌⊎◌, Ok, Err}
+use Rattle.std.specs.Prelude.{◌⊎◌, Ok, Err, Option, Some, None}
+use Rattle.std.specs.Option.{is_some}
 use Rattle.std.proofs.lemmas.Bool.Decides.{nat_tests}
-use borrow.Author.Tests.{le-leb, ne_eqb}
+use borrow.Author.Tests.{le-leb}
 use Rattle.location.specs.declared.LocationSet.{LocationSet}
-use Rattle.location.specs.Sets.{limit, member, rest}
-use Rattle.location.specs.SetLaws.{member_low, member-rest}
+use Rattle.location.specs.Sets.{limit, member}
+use Rattle.location.specs.declared.Location.{Location}
+use Rattle.location.specs.declared.Members.{Members}
+use Rattle.location.specs.Members.{NoneFrom, IsFirst, GivesMember}
 use Rattle.rules.specs.declared.Trailer.{Trailer}
 use Rattle.rules.specs.declared.Refusal.{Refusal}
 use Rattle.rules.specs.declared.Refusal.TheVariants as refusals
@@ -47,29 +50,25 @@ passed s (suc k) l m n l' e f h =
     rw (e₁, o)
     (passed s k (l + 1) m (k + m) l' refl (omega arith) (λ j w. let q : l + 1 + j ≡ l + suc j = omega arith in rw q (h (suc j) (omega arith))))
 
--- r is what is left of the word of l, from the bit of l on
-module _ (s : LocationSet) (l r : ℕ) (below : l < limit) (left : r ≡ rest s l) where
-  pub word-passed : r ≡ 0 → none_on s (l + (64 - l % 64)) ≡ none_on s l
-  word-passed e =
-      let n : limit - l ≡ 64 - l % 64 + (limit - (l + (64 - l % 64))) = omega arith in
-      sym (passed s (64 - l % 64) l _ _ _ n refl (λ j h. member-rest s l (l + j) (sym left ∙ e) (omega arith) (omega arith)))
-
-  pub location_in : r % 2 ≡ 1 → false ≡ none_on s l
-  unfolding none_from
-  location_in e =
-      let n : limit - l ≡ suc (limit - (l + 1)) = omega arith in
-      let m : member s l ≡ true = member_low s l ∙ rw (← left, e) in
-      rw (n, m)
-
-  pub location_out : (r % 2 ≡ 1 → ⊥) → none_on s (l + 1) ≡ none_on s l
-  location_out e =
-      let n : limit - l ≡ 1 + (limit - (l + 1)) = omega arith in
-      let m : member s l ≡ false = member_low s l ∙ rw (← left) (ne_eqb (r % 2) 1 e) in
-      sym (passed s 1 l _ _ _ n refl (λ j h. let z : l + j ≡ l = omega arith in rw z m))
-
-pub none_left : (s : LocationSet) (l : ℕ) → limit ≤ l → true ≡ none_on s l
+pub none_left : (s : LocationSet) (l : ℕ) → NoneFrom s l limit → none_on s l ≡ true
 unfolding none_from
-none_left s l h = let e : limit - l ≡ 0 = omega arith in rw e
+none_left s l h =
+    let n : limit - l ≡ limit - l + 0 = omega arith in
+    passed s (limit - l) l 0 _ _ n refl (λ j w. h.out (l + j) (omega arith) (omega arith))
+
+pub one_left : (s : LocationSet) (l m : ℕ) → IsFirst s l m → none_on s l ≡ false
+unfolding none_from
+one_left s l m h =
+    let n : limit - l ≡ m - l + (limit - m) = omega (arith, h.from, h.below) in
+    let k : limit - m ≡ suc (limit - (m + 1)) = omega (arith, h.below) in
+    passed s (m - l) l _ _ m n (omega (arith, h.from)) (λ j w. h.passed.out (l + j) (omega arith) (omega arith)) ∙ rw (k, h.is_member)
+
+-- what a call of `next` gives tells whether one is left
+pub next_none : (a b : Members) (r : Option Location) (e : Bool) → GivesMember a r b → is_some r ≡ not e → e ≡ none_on a.set a.next
+next_none a b None true g k = sym (none_left a.set a.next g.1.0)
+next_none a b None false g k = absurd (true≢false (sym k))
+next_none a b (Some m) true g k = absurd (true≢false k)
+next_none a b (Some m) false g k = sym (one_left a.set a.next m.0 g.1.0)
 
 -- ---- the rest of the parse, where the program's tests are passed or not
 choice : (b : Bool) (j : Job) (t : Trailer)

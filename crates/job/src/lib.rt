@@ -32,25 +32,14 @@ fn public_list(job: &[u8], t: Trailer) -> LocationSet
     }
 }
 
-// Whether no cell from a first one on is in the set. What is left of a word that is 0 is passed at once, so that the steps are of no one length
-// and no range gives them.
+// Whether no cell from a first one on is in the set.
 fn no_cell_from(set: LocationSet, first: usize) -> bool
     requires { first ≤ max_cells }
     ensures { result ≡ none_from set (registers + first) (limit - (registers + first)) }
 {
-    let mut l = REGISTERS + first;
-    while l < LocationSet::LIMIT {
-        let rest = set.rest(Location::new(l));
-        if rest == 0 {
-            l += 64 - l % 64;
-        } else {
-            if rest % 2 == 1 {
-                return false;
-            }
-            l += 1;
-        }
-    }
-    true
+    set.members_from(Location::new(REGISTERS + first))
+        .next()
+        .is_none()
 }
 
 // What reading a job file gives: its trailer and its public list.
