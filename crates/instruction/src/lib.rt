@@ -114,8 +114,7 @@ fn read_conditional(p: &[u8], at: usize) -> Result<Decoded, Refusal>
     })
 }
 
-// The instruction at an offset, by the kind byte as the job file has it (C interface): one match gives the fields and the refusal, where
-// `rules::Kind` between them would take a match of its own before that on the kind.
+// The instruction at an offset.
 pub fn decode(p: &[u8], at: usize) -> Result<Decoded, Refusal>
     ensures { (instruction_read_meaning p.now result ≡ instr p.now at) × InstructionTested p.now result }
 {
