@@ -118,6 +118,7 @@ fn put_members(writer: &mut Writer<'_>, s: LocationSet)
     }
 }
 
+// Beside a number line it has another part in the middle: one function for both would take that part as a closure, and be no plainer.
 #[tactic(auto, using(crate::proofs::Lengths::lengths))]
 fn put_set(writer: &mut Writer<'_>, name: &[u8], s: LocationSet)
     requires { HasRoom writer.old (set_line name.now s) }

@@ -15,6 +15,7 @@ fn show(rt: &(impl Print + Eprint), job: &[u8]) -> ExitCode {
     }
 }
 
+// Each program has its `main`: what they share is the reading of the job.
 fn main(rt: HostRuntime) -> ExitCode {
     let mut buffer = [0u8; file_reader::JOB_BUFFER];
     match file_reader::read_job(&rt, b"job.mua", &mut buffer) {
