@@ -112,6 +112,8 @@ pub fn run(
     }
 }
 
+// Beside `run_accepted` it takes no table, and its answer has fewer counts and no reports: one function for both would take all that differs as
+// parameters, and be no plainer.
 fn plain_accepted(
     job: &AcceptedJob,
     trace: &mut [u64],
