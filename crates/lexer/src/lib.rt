@@ -18,11 +18,10 @@ fn span_end<F: Fn(u8) -> bool>(text: &[u8], at: usize, goes_on: F) -> usize
     requires { F.IsAlwaysCallable goes_on }
     ensures { SpanEnd (F.post goes_on) text.now at result }
 {
-    at + text
-        .iter()
-        .skip(at)
-        .take_while(|byte| goes_on(**byte))
-        .count()
+    if text.len() <= at {
+        return at;
+    }
+    at + text[at..].iter().take_while(|byte| goes_on(**byte)).count()
 }
 
 // The offset after the spaces that stand at an offset.
