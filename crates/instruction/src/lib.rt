@@ -160,12 +160,15 @@ pub fn kind(i: Instruction) -> usize
 }
 
 // The window that an instruction leaves: lowered by `cost`, which is its kind's entry in a table of window costs, 0 at least; a barrier
-// leaves 0.
+// leaves 0. By returns: as `saturating_sub` or a match by value the step of a skip and of a jump to a constant takes three instructions more.
 pub fn lowered(cost: u64, window: u64, i: Instruction) -> u64
     ensures { (p : List ℕ) (code : Code) → cost ≡ get_or code.costs (kind (meaning p i)) 0 → result ≡ remaining code (meaning p i) window }
 {
-    match i {
-        Instruction::Barrier => 0,
-        _ => window.saturating_sub(cost),
+    if matches!(i, Instruction::Barrier) {
+        return 0;
     }
+    if cost < window {
+        return window - cost;
+    }
+    0
 }
