@@ -21,7 +21,12 @@ fn span_end<F: Fn(u8) -> bool>(text: &[u8], at: usize, goes_on: F) -> usize
     if text.len() <= at {
         return at;
     }
-    at + text[at..].iter().take_while(|byte| goes_on(**byte)).count()
+    for i in at..text.len() {
+        if !goes_on(text[i]) {
+            return i;
+        }
+    }
+    text.len()
 }
 
 // The offset after the spaces that stand at an offset.
