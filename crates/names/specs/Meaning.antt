@@ -1,8 +1,6 @@
 -- What the answers of this crate's code mean in the rules: a number, and the bytes of registers, signs and operators.
 -- Assumes nothing.
 use Rattle.std.specs.Prelude.{◌&&◌, cond, List, [], ◌∷◌, ℕ, ◌^◌, ltb}
-use Rattle.std.proofs.Common.{Bor}
-use Rattle.rules.specs.Rules.Pairs.{same_words}
 use Rattle.std.specs.Prelude as code
 use Rattle.std.proofs.Math.Option.{Option, none, some}
 use Rattle.rules.specs.Rules.Operators.{Op1, Op2}
@@ -36,8 +34,3 @@ operator_byte = given op2_byte
 abbrev pub kind_place : code.Option Kind → ℕ
 kind_place (code.Some k) = kind_number k
 kind_place code.None = 8
-
--- what the first word of a table that this name is stands for
-abbrev pub first_named : {A : Type 0} → List (Bor (List ℕ) × A) → List ℕ → code.Option A
-first_named [] w = code.None
-first_named (e ∷ es) w = cond (same_words w e.0.now) (code.Some e.1) (first_named es w)

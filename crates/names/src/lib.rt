@@ -2,8 +2,9 @@
 #![tactic(auto)]
 
 ghost use Rattle.std.specs.Prelude.{◌≡◌};
+ghost use Rattle.rules.specs.Rules.Pairs.{same_words};
 ghost use Rattle.rules.specs.Rules.TextReading.{constant_named, register_named, sign_named, operator_named, instruction_words, place_among};
-ghost use Rattle.names.specs.Meaning.{digits_number, number_of, register_byte, sign_byte, operator_byte, kind_place, first_named};
+ghost use Rattle.names.specs.Meaning.{digits_number, number_of, register_byte, sign_byte, operator_byte, kind_place};
 
 use location::Location;
 use rules::Kind;
@@ -47,58 +48,91 @@ pub fn register_named(name: &[u8]) -> Option<u8>
     Some(register as u8)
 }
 
-// What the first word of a table that a name is stands for.
-fn word_named<T: Copy>(name: &[u8], words: &[(&[u8], T)]) -> Option<T>
-    ensures { result ≡ first_named words.now name.now }
+// Whether a name is this word. The words below are compared one by one: a table of them would be data of the library's own, with addresses
+// that a loader fills in.
+fn same_word(name: &[u8], word: &[u8]) -> bool
+    ensures { result ≡ same_words name.now word.now }
 {
-    words.iter().find(|word| name == word.0).map(|word| word.1)
+    name == word
 }
-
-// The signs and the operators, with the bytes of their tokens as a program has them.
-const SIGNS: [(&[u8], u8); 2] = [(b"neg", 17), (b"not", 18)];
-
-const OPERATORS: [(&[u8], u8); 10] = [
-    (b"add", 19),
-    (b"sub", 20),
-    (b"mul", 21),
-    (b"and", 22),
-    (b"or", 23),
-    (b"xor", 24),
-    (b"shl", 25),
-    (b"shr", 26),
-    (b"eq", 27),
-    (b"ult", 28),
-];
-
-// The fixed words of the eight instructions.
-const INSTRUCTIONS: [(&[u8], Kind); 8] = [
-    (b"skip", Kind::Skip),
-    (b"set", Kind::Assign),
-    (b"load", Kind::Load),
-    (b"store", Kind::Store),
-    (b"jmp", Kind::Jump),
-    (b"beqz", Kind::BranchZero),
-    (b"cset", Kind::AssignIf),
-    (b"spbarr", Kind::Barrier),
-];
 
 // The token of a sign, by its name.
 pub fn sign_named(name: &[u8]) -> Option<u8>
     ensures { result ≡ sign_byte (sign_named name.now) }
 {
-    word_named(name, &SIGNS)
+    if same_word(name, b"neg") {
+        return Some(17);
+    }
+    if same_word(name, b"not") {
+        return Some(18);
+    }
+    None
 }
 
 // The token of an operator, by its name.
 pub fn operator_named(name: &[u8]) -> Option<u8>
     ensures { result ≡ operator_byte (operator_named name.now) }
 {
-    word_named(name, &OPERATORS)
+    if same_word(name, b"add") {
+        return Some(19);
+    }
+    if same_word(name, b"sub") {
+        return Some(20);
+    }
+    if same_word(name, b"mul") {
+        return Some(21);
+    }
+    if same_word(name, b"and") {
+        return Some(22);
+    }
+    if same_word(name, b"or") {
+        return Some(23);
+    }
+    if same_word(name, b"xor") {
+        return Some(24);
+    }
+    if same_word(name, b"shl") {
+        return Some(25);
+    }
+    if same_word(name, b"shr") {
+        return Some(26);
+    }
+    if same_word(name, b"eq") {
+        return Some(27);
+    }
+    if same_word(name, b"ult") {
+        return Some(28);
+    }
+    None
 }
 
-// The kind of an instruction, by its word.
+// The kind of an instruction, by its fixed word.
 pub fn kind_named(name: &[u8]) -> Option<Kind>
     ensures { kind_place result ≡ place_among instruction_words name.now }
 {
-    word_named(name, &INSTRUCTIONS)
+    if same_word(name, b"skip") {
+        return Some(Kind::Skip);
+    }
+    if same_word(name, b"set") {
+        return Some(Kind::Assign);
+    }
+    if same_word(name, b"load") {
+        return Some(Kind::Load);
+    }
+    if same_word(name, b"store") {
+        return Some(Kind::Store);
+    }
+    if same_word(name, b"jmp") {
+        return Some(Kind::Jump);
+    }
+    if same_word(name, b"beqz") {
+        return Some(Kind::BranchZero);
+    }
+    if same_word(name, b"cset") {
+        return Some(Kind::AssignIf);
+    }
+    if same_word(name, b"spbarr") {
+        return Some(Kind::Barrier);
+    }
+    None // of no instruction
 }

@@ -206,8 +206,10 @@ fn put_fields(writer: &mut Writer<'_>, p: &[u8], i: Instruction)
     }
 }
 
-// The word of an instruction, whatever the bytes are that its expressions stand in.
+// The word of an instruction, whatever the bytes are that its expressions stand in. Not inlined: in its own function the compiler makes
+// offsets of the words, and in the caller's a table of addresses, which would be data of the library's own.
 #[tactic(auto, unfolding(crate::specs::Programs::word_text, rules::specs::Rules::TextReading::instruction_words, rules::specs::Rules::Answers::text))]
+#[inline(never)]
 fn instruction_word(i: Instruction) -> &'static [u8]
     ensures { (p : List ℕ) → result.now ≡ word_text (meaning p i) }
 {

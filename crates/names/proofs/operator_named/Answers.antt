@@ -1,12 +1,143 @@
--- `operator_named` meets its contract: the words of its table are the rules'. Assumes nothing.
-use Rattle.std.proofs.Common.{◌∙◌}
+-- `operator_named` meets its contract, word by word. Assumes nothing.
+use mathlib.Core.Path.{sym, ◌∙◌}
 use Rattle.rules.specs.Rules.Answers.{text}
-use Rattle.rules.specs.Rules.Encoding.{op2_byte}
 use Rattle.rules.specs.Rules.JobFile.{binary}
-use Rattle.rules.specs.Rules.TextReading.{operator_name, operator_named}
-use Rattle.names.proofs.Words.{entries-called}
+use Rattle.rules.specs.Rules.TextReading.{called, operator_named}
 use Rattle.names.proofs.operator_named.Goals as goal
 
+pub returns-then-same_word : goal.returns-then-same_word
+unfolding operator_named called binary text
+returns-then-same_word c =
+    rw (sym c.same_word.ensures ∙ c.if-same_word.true)
+
+pub returns-then-same_word-2 : goal.returns-then-same_word-2
+unfolding operator_named called binary text
+returns-then-same_word-2 c =
+    rw (
+      sym c.same_word.ensures ∙ c.if-same_word.false,
+      sym c.same_word-2.ensures ∙ c.if-same_word-2.true,
+    )
+
+pub returns-then-same_word-3 : goal.returns-then-same_word-3
+unfolding operator_named called binary text
+returns-then-same_word-3 c =
+    rw (
+      sym c.same_word.ensures ∙ c.if-same_word.false,
+      sym c.same_word-2.ensures ∙ c.if-same_word-2.false,
+      sym c.same_word-3.ensures ∙ c.if-same_word-3.true,
+    )
+
+pub returns-then-same_word-4 : goal.returns-then-same_word-4
+unfolding operator_named called binary text
+returns-then-same_word-4 c =
+    rw (
+      sym c.same_word.ensures ∙ c.if-same_word.false,
+      sym c.same_word-2.ensures ∙ c.if-same_word-2.false,
+      sym c.same_word-3.ensures ∙ c.if-same_word-3.false,
+      sym c.same_word-4.ensures ∙ c.if-same_word-4.true,
+    )
+
+pub returns-then-same_word-5 : goal.returns-then-same_word-5
+unfolding operator_named called binary text
+returns-then-same_word-5 c =
+    rw (
+      sym c.same_word.ensures ∙ c.if-same_word.false,
+      sym c.same_word-2.ensures ∙ c.if-same_word-2.false,
+      sym c.same_word-3.ensures ∙ c.if-same_word-3.false,
+      sym c.same_word-4.ensures ∙ c.if-same_word-4.false,
+      sym c.same_word-5.ensures ∙ c.if-same_word-5.true,
+    )
+
+pub returns-then-same_word-6 : goal.returns-then-same_word-6
+unfolding operator_named called binary text
+returns-then-same_word-6 c =
+    rw (
+      sym c.same_word.ensures ∙ c.if-same_word.false,
+      sym c.same_word-2.ensures ∙ c.if-same_word-2.false,
+      sym c.same_word-3.ensures ∙ c.if-same_word-3.false,
+      sym c.same_word-4.ensures ∙ c.if-same_word-4.false,
+      sym c.same_word-5.ensures ∙ c.if-same_word-5.false,
+      sym c.same_word-6.ensures ∙ c.if-same_word-6.true,
+    )
+
+pub returns-then-same_word-7 : goal.returns-then-same_word-7
+unfolding operator_named called binary text
+returns-then-same_word-7 c =
+    rw (
+      sym c.same_word.ensures ∙ c.if-same_word.false,
+      sym c.same_word-2.ensures ∙ c.if-same_word-2.false,
+      sym c.same_word-3.ensures ∙ c.if-same_word-3.false,
+      sym c.same_word-4.ensures ∙ c.if-same_word-4.false,
+      sym c.same_word-5.ensures ∙ c.if-same_word-5.false,
+      sym c.same_word-6.ensures ∙ c.if-same_word-6.false,
+      sym c.same_word-7.ensures ∙ c.if-same_word-7.true,
+    )
+
+pub returns-then-same_word-8 : goal.returns-then-same_word-8
+unfolding operator_named called binary text
+returns-then-same_word-8 c =
+    rw (
+      sym c.same_word.ensures ∙ c.if-same_word.false,
+      sym c.same_word-2.ensures ∙ c.if-same_word-2.false,
+      sym c.same_word-3.ensures ∙ c.if-same_word-3.false,
+      sym c.same_word-4.ensures ∙ c.if-same_word-4.false,
+      sym c.same_word-5.ensures ∙ c.if-same_word-5.false,
+      sym c.same_word-6.ensures ∙ c.if-same_word-6.false,
+      sym c.same_word-7.ensures ∙ c.if-same_word-7.false,
+      sym c.same_word-8.ensures ∙ c.if-same_word-8.true,
+    )
+
+pub same_word-requires-9 : goal.same_word-requires-9
+same_word-requires-9 c =
+    c.requires
+
+pub returns-then-same_word-9 : goal.returns-then-same_word-9
+unfolding operator_named called binary text
+returns-then-same_word-9 c =
+    rw (
+      sym c.same_word.ensures ∙ c.if-same_word.false,
+      sym c.same_word-2.ensures ∙ c.if-same_word-2.false,
+      sym c.same_word-3.ensures ∙ c.if-same_word-3.false,
+      sym c.same_word-4.ensures ∙ c.if-same_word-4.false,
+      sym c.same_word-5.ensures ∙ c.if-same_word-5.false,
+      sym c.same_word-6.ensures ∙ c.if-same_word-6.false,
+      sym c.same_word-7.ensures ∙ c.if-same_word-7.false,
+      sym c.same_word-8.ensures ∙ c.if-same_word-8.false,
+      sym c.same_word-9.ensures ∙ c.if-same_word-9.true,
+    )
+
+pub same_word-requires-10 : goal.same_word-requires-10
+same_word-requires-10 c =
+    c.requires
+
+pub returns-then-same_word-10 : goal.returns-then-same_word-10
+unfolding operator_named called binary text
+returns-then-same_word-10 c =
+    rw (
+      sym c.same_word.ensures ∙ c.if-same_word.false,
+      sym c.same_word-2.ensures ∙ c.if-same_word-2.false,
+      sym c.same_word-3.ensures ∙ c.if-same_word-3.false,
+      sym c.same_word-4.ensures ∙ c.if-same_word-4.false,
+      sym c.same_word-5.ensures ∙ c.if-same_word-5.false,
+      sym c.same_word-6.ensures ∙ c.if-same_word-6.false,
+      sym c.same_word-7.ensures ∙ c.if-same_word-7.false,
+      sym c.same_word-8.ensures ∙ c.if-same_word-8.false,
+      sym c.same_word-9.ensures ∙ c.if-same_word-9.false,
+      sym c.same_word-10.ensures ∙ c.if-same_word-10.true,
+    )
+
 pub returns : goal.returns
-unfolding operator_named binary text
-returns c = c.word_named.ensures ∙ entries-called op2_byte operator_name binary c.args.name.now
+unfolding operator_named called binary text
+returns c =
+    rw (
+      sym c.same_word.ensures ∙ c.if-same_word.false,
+      sym c.same_word-2.ensures ∙ c.if-same_word-2.false,
+      sym c.same_word-3.ensures ∙ c.if-same_word-3.false,
+      sym c.same_word-4.ensures ∙ c.if-same_word-4.false,
+      sym c.same_word-5.ensures ∙ c.if-same_word-5.false,
+      sym c.same_word-6.ensures ∙ c.if-same_word-6.false,
+      sym c.same_word-7.ensures ∙ c.if-same_word-7.false,
+      sym c.same_word-8.ensures ∙ c.if-same_word-8.false,
+      sym c.same_word-9.ensures ∙ c.if-same_word-9.false,
+      sym c.same_word-10.ensures ∙ c.if-same_word-10.false,
+    )
