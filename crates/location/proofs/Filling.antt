@@ -1,15 +1,16 @@
 -- A list with an entry for each location, filled by a walk over the members of a set.
 -- Assumes nothing.
-use mathlib.Core.Path.{◌≡◌, sym, ◌∙◌}
+use mathlib.Core.Path.{◌≡◌, sym, ap, ◌∙◌}
 use mathlib.Core.Bool.{true, false}
 use mathlib.Core.List.{List}
-use Prim.Native.Nat.{ℕ, ◌+◌, ◌<◌, ◌≤◌}
+use Prim.Native.Nat.{ℕ, ◌+◌, ◌-◌, ◌%◌, ◌<◌, ◌≤◌}
 use native.Mathlib.Decide.{dec_lt}
 use native.Mathlib.Omega.{arith}
 use lib.ListN.{length, get_or, set, replicate, length-set, length-replicate, get_or-replicate}
 use lib.Seq.{get_or-set_same, get_or-set_other}
 use Rattle.location.specs.declared.LocationSet.{LocationSet}
-use Rattle.location.specs.Sets.{limit, member}
+use Rattle.location.specs.Sets.{limit, member, rest}
+use Rattle.location.specs.SetLaws.{member-rest}
 use Rattle.location.specs.Members.{NoneFrom, IsFirst}
 
 -- Location l is next: the entries below l are f's, the others d. Of a location that is not in set s f is d too, so that its entry need not be stored.
@@ -68,3 +69,12 @@ module _ {A : Type 0} {s : LocationSet} {d : A} {f : ℕ → A} {xs : List A} {l
           let z : k ≡ m = omega arith in
           let b : m < length xs = omega (arith, h.size, next.below) in
           rw z (get_or-set_same xs m x d b ∙ told next.is_member)
+
+-- j is the number of location l, and r what is left of its word
+module _ {A : Type 0} {s : LocationSet} {d : A} {f : ℕ → A} {xs : List A} {l j r : ℕ} (h : Filled s d f xs l) (next : l < limit) (same : j ≡ l)
+    (left : r ≡ rest s j) where
+  -- nothing is left of the word: the first location of the next word is next
+  pub filled-word : r ≡ 0 → Filled s d f xs (l + (64 - l % 64))
+  filled-word e =
+      past h (l + (64 - l % 64)) (omega arith) (omega arith)
+      (record { out = λ k b c. member-rest s l k (sym (left ∙ ap (rest s) same) ∙ e) b c })
