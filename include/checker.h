@@ -62,8 +62,8 @@
  * The library has no data of its own, takes no memory, opens no file, and calls
  * nothing but memcpy and memset of the C library. Any number of threads may
  * call it at a time, each with areas and an answer of its own. A call needs
- * less than 16384 bytes of stack (measured: checker_read_text 7,584 bytes,
- * checker_run 5,520, each other one less than 2,000) and has no deep recursion,
+ * less than 16384 bytes of stack (measured: checker_read_text 6,512 bytes,
+ * checker_run 5,632, each other one less than 2,000) and has no deep recursion,
  * whatever the job or the text is.
  *
  * C++: the data() of an empty std::vector may be null, which no call takes. For
